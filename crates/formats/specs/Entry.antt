@@ -1,0 +1,134 @@
+-- What a line says, how it is spelled, and what may be said.
+use Rattle.std.specs.Prelude.{◌≡◌, ℕ, ◌+◌, ◌^◌, ◌<◌, ◌≤◌, ◌==◌, List, [], ◌∷◌, ◌++◌, map, length, codes, decimal, nat_lt, if◌then◌else◌}
+use Rattle.std.specs.List.{AllByRecursion}
+use Rattle.matroid_theory.specs.Field.{IsOrder, IsFactors}
+use Rattle.formats.specs.declared.refusal.PrintMode.{PrintMode}
+use Rattle.formats.specs.declared.refusal.PrintMode.TheVariants.{Forms, Counts}
+use Rattle.formats.specs.Lines.{parted}
+
+-- a matroid as a line names it
+pub data Minor : Type 0 where
+  Uniform : ℕ → ℕ → Minor
+  Fano : Minor
+  FanoDual : Minor
+  NonFano : Minor
+  KFour : Minor
+  KFive : Minor
+  Matrix : ℕ → List (List ℕ) → Minor
+
+-- the letter of an entry of a column
+abbrev pub entry_letter : ℕ → ℕ
+entry_letter code = if nat_lt code 10 then 48 + code else 87 + code
+
+abbrev pub column_word : List ℕ → List ℕ
+column_word column = map entry_letter column
+
+abbrev pub minor_words : Minor → List (List ℕ)
+minor_words (Uniform rank size) = (codes "U" ++ (decimal rank ++ (codes "," ++ decimal size))) ∷ []
+minor_words Fano = codes "F7" ∷ []
+minor_words FanoDual = codes "F7*" ∷ []
+minor_words NonFano = codes "F7-" ∷ []
+minor_words KFour = codes "K4" ∷ []
+minor_words KFive = codes "K5" ∷ []
+minor_words (Matrix order columns) = codes "matrix" ∷ decimal order ∷ map column_word columns
+
+-- a number of at most nine digits
+abbrev pub IsNumber : ℕ → Type 0
+IsNumber n = n < 10 ^ 9
+
+pub record IsUniform (rank size : ℕ) : Type 0 where
+  pub low : rank ≤ size
+  pub some : 1 ≤ size
+  pub short : IsNumber size
+
+-- at least one column, all of one length from 1 to 6, with entries below the order
+pub record IsMatrix (order : ℕ) (columns : List (List ℕ)) : Type 0 where
+  pub is_order : IsOrder order
+  pub some : 0 < length columns
+  pub height : (rows : ℕ) × (1 ≤ rows) × (rows ≤ 6) × AllByRecursion (λ column. length column ≡ rows) columns
+  pub entries : AllByRecursion (λ column. AllByRecursion (λ code. code < order) column) columns
+
+abbrev pub IsMinor : Minor → Type 0
+IsMinor (Uniform rank size) = IsUniform rank size
+IsMinor (Matrix order columns) = IsMatrix order columns
+IsMinor _ = Unit {0}
+
+abbrev pub elements_of : Minor → ℕ
+elements_of (Uniform rank size) = size
+elements_of (Matrix order columns) = length columns
+elements_of KFour = 6
+elements_of KFive = 10
+elements_of _ = 7
+
+-- what a line says
+pub data Entry : Type 0 where
+  Version : Entry
+  RankIs : ℕ → Entry
+  FieldIs : List ℕ → Entry
+  SizeIs : ℕ → Entry
+  Forbids : Minor → Entry
+  ListsConnected : Entry
+  ListsThreeConnected : Entry
+  ListsCosimple : Entry
+  ListsDistinct : Entry
+  ListsWith : Minor → Entry
+  Prints : PrintMode → Entry
+
+abbrev pub mode_word : PrintMode → List ℕ
+mode_word Forms = codes "forms"
+mode_word Counts = codes "counts"
+
+-- the words of the line that says it
+abbrev pub spelling : Entry → List (List ℕ)
+spelling Version = codes "version" ∷ codes "1" ∷ []
+spelling (RankIs n) = codes "rank" ∷ decimal n ∷ []
+spelling (FieldIs factors) = codes "field" ∷ parted (codes "x") (map (λ order. decimal order ∷ []) factors)
+spelling (SizeIs n) = codes "size" ∷ decimal n ∷ []
+spelling (Forbids minor) = codes "forbid" ∷ minor_words minor
+spelling ListsConnected = codes "filter" ∷ codes "connected" ∷ []
+spelling ListsThreeConnected = codes "filter" ∷ codes "3conn" ∷ []
+spelling ListsCosimple = codes "filter" ∷ codes "cosimple" ∷ []
+spelling ListsDistinct = codes "filter" ∷ codes "distinct" ∷ []
+spelling (ListsWith minor) = codes "filter" ∷ codes "has" ∷ minor_words minor
+spelling (Prints mode) = codes "print" ∷ mode_word mode ∷ []
+
+-- what a line may say; a value that is out of its limits is refused later
+abbrev pub IsEntry : Entry → Type 0
+IsEntry (RankIs n) = IsNumber n
+IsEntry (SizeIs n) = IsNumber n
+IsEntry (FieldIs factors) = IsFactors factors
+IsEntry (Forbids minor) = IsMinor minor
+IsEntry (ListsWith minor) = IsMinor minor
+IsEntry _ = Unit {0}
+
+-- the words say it
+pub record Says (words : List (List ℕ)) (entry : Entry) : Type 0 where
+  pub may : IsEntry entry
+  pub spelled : words ≡ spelling entry
+
+-- its kind, as its place in the table of the forms
+abbrev pub kind_number : Entry → ℕ
+kind_number Version = 0
+kind_number (RankIs n) = 1
+kind_number (FieldIs factors) = 2
+kind_number (SizeIs n) = 3
+kind_number (Forbids minor) = 4
+kind_number ListsConnected = 5
+kind_number ListsThreeConnected = 6
+kind_number ListsCosimple = 7
+kind_number ListsDistinct = 8
+kind_number (ListsWith minor) = 9
+kind_number (Prints mode) = 10
+
+abbrev pub forbid_kind : ℕ
+forbid_kind = 4
+
+-- A line of one kind may stand once, a `forbid` line eight times.
+abbrev pub most_of_kind : ℕ → ℕ
+most_of_kind kind = if kind == forbid_kind then 8 else 1
+
+-- the elements of the matroid that it names, if it names one
+abbrev pub named_elements : Entry → ℕ
+named_elements (Forbids minor) = elements_of minor
+named_elements (ListsWith minor) = elements_of minor
+named_elements _ = 0

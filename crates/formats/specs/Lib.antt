@@ -1,0 +1,10 @@
+pub mod Lines
+pub mod Entry
+pub mod Request
+pub mod Refusal
+pub mod Minors
+pub mod Listing
+pub mod Levels
+pub mod Words
+pub mod Run
+pub mod Status

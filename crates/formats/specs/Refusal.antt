@@ -1,0 +1,74 @@
+-- Which texts are refused, and how.
+use Rattle.std.specs.Prelude.{◌≡◌, ◌≢◌, ℕ, ◌+◌, ◌<◌, ◌≤◌, List, [], ◌∷◌, ◌++◌, length, filter_map, false}
+use Rattle.formats.specs.declared.refusal.Word.{Word}
+use Rattle.formats.specs.declared.refusal.Word.TheVariants.{Rank, Field, Size}
+use Rattle.formats.specs.declared.refusal.Refusal.{Refusal}
+use Rattle.formats.specs.declared.refusal.Refusal.TheVariants as refusal
+use Rattle.formats.specs.Lines.{lines_of, words_of, is_skipped}
+use Rattle.formats.specs.Entry.{Entry, Says, kind_number, forbid_kind, most_of_kind, named_elements}
+use Rattle.formats.specs.Request.{SayInTurn, AreInOrder, count_of_kind, rank_in, field_in, size_in, column_count, most_bytes, most_columns, IsRank, IsSize}
+
+-- what may be wrong with a line
+pub data Fault : Type 0 where
+  NoForm : Fault
+  Again : Fault
+  NinthForbid : Fault
+  TooBig : Fault
+
+-- What is wrong with a line of these words, after lines that said those entries.
+abbrev pub HasFault : List Entry → List (List ℕ) → Fault → Type 0
+HasFault said words NoForm = (entry : Entry) → Says words entry → ⊥
+HasFault said words Again = (entry : Entry) × Says words entry × (kind_number entry ≢ forbid_kind) × (most_of_kind (kind_number entry) ≤ count_of_kind (kind_number entry) said)
+HasFault said words NinthForbid = (entry : Entry) × Says words entry × (kind_number entry ≡ forbid_kind) × (most_of_kind forbid_kind ≤ count_of_kind forbid_kind said)
+HasFault said words TooBig = (entry : Entry) × Says words entry × (count_of_kind (kind_number entry) said < most_of_kind (kind_number entry)) × (10 < named_elements entry)
+
+-- The line of this number is the first at fault: those before it are in order.
+pub record FirstFault (text : List ℕ) (number : ℕ) (fault : Fault) : Type 0 where
+  pub short : length text ≤ most_bytes
+  pub before : List (List ℕ)
+  pub line : List ℕ
+  pub after : List (List ℕ)
+  pub split : lines_of text ≡ before ++ line ∷ after
+  pub place : number ≡ length before + 1
+  pub said : List Entry
+  pub says : SayInTurn before said
+  pub in_order : AreInOrder said
+  pub counts : is_skipped (words_of line) ≡ false
+  pub wrong : HasFault said (words_of line) fault
+
+-- No line is at fault, and these entries are said.
+pub record NoFault (text : List ℕ) (entries : List Entry) : Type 0 where
+  pub short : length text ≤ most_bytes
+  pub said : SayInTurn (lines_of text) entries
+  pub in_order : AreInOrder entries
+
+-- the first of the three words that no line has
+abbrev pub IsMissing : List Entry → Word → Type 0
+IsMissing entries Rank = filter_map rank_in entries ≡ []
+IsMissing entries Field = (filter_map rank_in entries ≢ []) × (filter_map field_in entries ≡ [])
+IsMissing entries Size = (filter_map rank_in entries ≢ []) × (filter_map field_in entries ≢ []) × (filter_map size_in entries ≡ [])
+
+-- the three values that are said
+pub record AreValues (entries : List Entry) (rank : ℕ) (factors : List ℕ) (size : ℕ) : Type 0 where
+  pub rank_said : filter_map rank_in entries ≡ rank ∷ []
+  pub field_said : filter_map field_in entries ≡ factors ∷ []
+  pub size_said : filter_map size_in entries ≡ size ∷ []
+
+-- all lines are there, and these are their values
+pub record HasValues (text : List ℕ) (rank : ℕ) (factors : List ℕ) (size : ℕ) : Type 0 where
+  pub entries : List Entry
+  pub none : NoFault text entries
+  pub values : AreValues entries rank factors size
+
+-- The text is refused so.
+abbrev pub HasRefusal : List ℕ → Refusal → Type 0
+HasRefusal text refusal.TooLong = most_bytes < length text
+HasRefusal text (refusal.BadLine n) = FirstFault text n NoForm
+HasRefusal text (refusal.Twice n) = FirstFault text n Again
+HasRefusal text (refusal.TooManyForbidden n) = FirstFault text n NinthForbid
+HasRefusal text (refusal.ForbidTooBig n) = FirstFault text n TooBig
+HasRefusal text (refusal.Missing word) = (entries : List Entry) × NoFault text entries × IsMissing entries word
+HasRefusal text (refusal.Rank v) = (factors : List ℕ) × (size : ℕ) × HasValues text v factors size × (IsRank v → ⊥)
+HasRefusal text (refusal.Size v) = (rank : ℕ) × (factors : List ℕ) × HasValues text rank factors v × IsRank rank × (IsSize rank v → ⊥)
+HasRefusal text (refusal.TooWide c) = (rank : ℕ) × (factors : List ℕ) × (size : ℕ) × HasValues text rank factors size × IsRank rank × IsSize rank size × (c ≡ column_count rank factors) × (most_columns < c)
+HasRefusal text refusal.NotBuilt = ⊥

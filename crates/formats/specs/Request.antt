@@ -1,0 +1,112 @@
+-- Which texts stand for which request.
+use Rattle.std.specs.Prelude.{◌≡◌, ℕ, zero, suc, ◌+◌, ◌-◌, ◌*◌, ◌^◌, ◌≤◌, ◌==◌, List, [], ◌∷◌, map, sum, length, count_by, Bool, false, true, Option, Some, None, option_to_list, filter_map, if◌then◌else◌}
+use Rattle.std.specs.List.{AllByRecursion, list_any, range_with_len}
+use Rattle.formats.specs.declared.refusal.PrintMode.{PrintMode}
+use Rattle.formats.specs.declared.refusal.PrintMode.TheVariants.{Forms, Counts}
+use Rattle.formats.specs.Lines.{lines_of, statements_of}
+use Rattle.formats.specs.Entry.{Minor, Entry, RankIs, FieldIs, SizeIs, Forbids, ListsConnected, ListsThreeConnected, ListsCosimple, ListsDistinct, ListsWith, Prints, IsEntry, spelling, kind_number, most_of_kind, named_elements}
+
+pub record Request : Type 0 where
+  pub factors : List ℕ
+  pub rank : ℕ
+  pub size : ℕ
+  pub forbid : List Minor
+  pub connected : Bool
+  pub three_connected : Bool
+  pub cosimple : Bool
+  pub distinct : Bool
+  pub has : Option Minor
+  pub print : PrintMode
+
+-- The lines that aren't skipped say these entries, in their order.
+pub record SayInTurn (lines : List (List ℕ)) (entries : List Entry) : Type 0 where
+  pub may : AllByRecursion IsEntry entries
+  pub spelled : statements_of lines ≡ map spelling entries
+
+abbrev pub count_of_kind : ℕ → List Entry → ℕ
+count_of_kind kind entries = count_by (λ entry. kind_number entry == kind) entries
+
+-- No kind stands too often, and no matroid that is named has more than ten elements.
+pub record AreInOrder (entries : List Entry) : Type 0 where
+  pub not_often : (kind : ℕ) → count_of_kind kind entries ≤ most_of_kind kind
+  pub not_big : AllByRecursion (λ entry. named_elements entry ≤ 10) entries
+
+abbrev pub rank_in : Entry → Option ℕ
+rank_in (RankIs n) = Some n
+rank_in _ = None
+
+abbrev pub field_in : Entry → Option (List ℕ)
+field_in (FieldIs factors) = Some factors
+field_in _ = None
+
+abbrev pub size_in : Entry → Option ℕ
+size_in (SizeIs n) = Some n
+size_in _ = None
+
+abbrev pub forbidden_in : Entry → Option Minor
+forbidden_in (Forbids minor) = Some minor
+forbidden_in _ = None
+
+abbrev pub wanted_in : Entry → Option Minor
+wanted_in (ListsWith minor) = Some minor
+wanted_in _ = None
+
+abbrev pub has_kind : Entry → List Entry → Bool
+has_kind entry entries = list_any (λ other. kind_number other == kind_number entry) entries
+
+abbrev pub prints_counts : Entry → Bool
+prints_counts (Prints Counts) = true
+prints_counts _ = false
+
+-- What is asked for in these entries, whatever their order.
+pub record AskFor (entries : List Entry) (request : Request) : Type 0 where
+  pub rank : filter_map rank_in entries ≡ request.rank ∷ []
+  pub field : filter_map field_in entries ≡ request.factors ∷ []
+  pub size : filter_map size_in entries ≡ request.size ∷ []
+  pub forbid : filter_map forbidden_in entries ≡ request.forbid
+  pub connected : has_kind ListsConnected entries ≡ request.connected
+  pub three_connected : has_kind ListsThreeConnected entries ≡ request.three_connected
+  pub cosimple : has_kind ListsCosimple entries ≡ request.cosimple
+  pub distinct : has_kind ListsDistinct entries ≡ request.distinct
+  pub has : filter_map wanted_in entries ≡ option_to_list request.has
+  pub print : (if list_any prints_counts entries then Counts else Forms) ≡ request.print
+
+-- how many sets of k things n things have
+abbrev pub subsets : ℕ → ℕ → ℕ
+subsets n zero = 1
+subsets zero (suc k) = 0
+subsets (suc n) (suc k) = subsets n k + subsets n (suc k)
+
+abbrev pub product : List ℕ → ℕ
+product [] = 1
+product (n ∷ ns) = n * product ns
+
+-- how many normalised columns there are: for each support, the entries below its first
+abbrev pub column_count : ℕ → List ℕ → ℕ
+column_count rank factors = sum (map (λ s. subsets rank s * product (map (λ q. (q - 1) ^ (s - 1)) factors)) (range_with_len 1 rank))
+
+abbrev pub most_bytes : ℕ
+most_bytes = 65536
+
+abbrev pub most_columns : ℕ
+most_columns = 1000000
+
+abbrev pub IsRank : ℕ → Type 0
+IsRank rank = (1 ≤ rank) × (rank ≤ 6)
+
+abbrev pub IsSize : ℕ → ℕ → Type 0
+IsSize rank size = (rank ≤ size) × (size ≤ 16)
+
+pub record IsWithinLimits (request : Request) : Type 0 where
+  pub rank : IsRank request.rank
+  pub size : IsSize request.rank request.size
+  pub columns : column_count request.rank request.factors ≤ most_columns
+
+-- The text is a request, and this is what it asks for.
+pub record StandsFor (text : List ℕ) (request : Request) : Type 0 where
+  pub short : length text ≤ most_bytes
+  pub entries : List Entry
+  pub said : SayInTurn (lines_of text) entries
+  pub in_order : AreInOrder entries
+  pub asked : AskFor entries request
+  pub limits : IsWithinLimits request

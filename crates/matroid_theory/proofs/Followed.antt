@@ -1,0 +1,32 @@
+-- A representation followed by one more column.
+use Rattle.std.proofs.Common.{◌≡◌, ℕ, suc, ◌+◌, ◌*◌, ◌<◌, sym, ◌∙◌, ap, subst, arith, List, [], ◌∷◌, ◌++◌, length, length-append, inl, inr}
+use Rattle.std.specs.List.{slice_index, slice_index_or}
+use Rattle.std.proofs.lemmas.Bool.{cases_lt}
+use Rattle.std.proofs.Math.Seq.{get_or-append_seam}
+use Rattle.std.proofs.Math.ListN.{get_or-append}
+use Rattle.matroid_theory.specs.Rep.{Rep, count, size, order, matrix, IsShaped, IsProductColumn}
+use Rattle.matroid_theory.specs.Level.{followed_by}
+
+-- the columns before a new one, and the new one
+pub matrix_before : (P : Rep) (v : List ℕ) (f i j : ℕ) → j < size P → matrix (followed_by P v) f i j ≡ matrix P f i j
+matrix_before P v f i j l = ap (λ (c : List ℕ). slice_index c (i * count P + f)) (get_or-append P.columns (v ∷ []) [] j l)
+
+pub matrix_last : (P : Rep) (v : List ℕ) (f i : ℕ) → matrix (followed_by P v) f i (size P) ≡ slice_index v (i * count P + f)
+matrix_last P v f i = ap (λ (c : List ℕ). slice_index c (i * count P + f)) (get_or-append_seam P.columns v [] [])
+
+pub size_followed : (P : Rep) (v : List ℕ) → size (followed_by P v) ≡ suc (size P)
+size_followed P v = omega (arith, length-append P.columns (v ∷ []))
+
+-- any column of the right kind may follow
+pub shaped_pushed : (P : Rep) (v : List ℕ) → IsShaped P → IsProductColumn P.factors P.rank v → IsShaped (followed_by P v)
+shaped_pushed P v s c = record {
+  orders = s.orders;
+  lengths = λ j l. elim (cases_lt j (size P)) [
+      inl b ↦ ap (λ (c : List ℕ). length c) (get_or-append P.columns (v ∷ []) [] j b) ∙ s.lengths j b
+    | inr g ↦ (let n : size (followed_by P v) ≡ suc (size P) = size_followed P v in let e : j ≡ size P = omega arith in
+        ap (λ j. length (slice_index_or (P.columns ++ v ∷ []) j [])) e ∙ ap (λ (c : List ℕ). length c) (get_or-append_seam P.columns v [] []) ∙ c.rows) ];
+  codes = λ f i j l m o. elim (cases_lt j (size P)) [
+      inl b ↦ subst (λ (x : ℕ). x < order P f) (sym (matrix_before P v f i j b)) (s.codes f i j l m b)
+    | inr g ↦ (let n : size (followed_by P v) ≡ suc (size P) = size_followed P v in let e : j ≡ size P = omega arith in
+        subst (λ (x : ℕ). x < order P f) (sym (ap (matrix (followed_by P v) f i) e ∙ matrix_last P v f i)) (c.codes i f m l)) ];
+}

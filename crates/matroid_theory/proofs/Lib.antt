@@ -1,0 +1,12 @@
+pub mod FieldLaws
+pub mod Sums
+pub mod Masks
+pub mod Units
+pub mod Followed
+pub mod Lists
+pub mod Levels
+pub mod Products
+pub mod Tries
+pub mod Examples
+pub mod First
+pub mod GivenLemmas

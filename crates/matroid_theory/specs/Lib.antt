@@ -1,0 +1,10 @@
+pub mod Field
+pub mod Matrix
+pub mod Rep
+pub mod Matroid
+pub mod Move
+pub mod Order
+pub mod Minor
+pub mod Given
+pub mod Connection
+pub mod Level

@@ -1,0 +1,73 @@
+ghost use Rattle.std.specs.Prelude.{◌≡◌, ◌<◌, ◌↔◌, length, IsSome, IfSome, slice_index};
+ghost use Rattle.matroid_theory.specs.Field.{IsFactors};
+
+use arrayvec::ArrayVec;
+use field_tables::Field;
+use std::marker::Model;
+
+/// One to three fields, the factors of a product. Contracts see the list of their orders.
+#[derive(Drop)]
+pub struct Factors {
+    orders: ArrayVec<u8, 3>,
+}
+
+impl Model for Factors {
+    ghost use Rattle.std.specs.Prelude.{ℕ, List};
+    ghost use Rattle.matroid_theory.specs.Field.{IsFactors};
+
+    ghost Value = { List ℕ };
+
+    ghost view = { λ factors. factors.orders.items };
+
+    ghost invariant = { λ factors. IsFactors factors.orders.items };
+}
+
+impl Factors {
+    /// The fields of these orders; none where there are not one to three, or one is the order of no field.
+    pub fn of(orders: &[u8]) -> Option<Factors>
+        ensures found { IsSome result ↔ IsFactors orders.now }
+        ensures orders { IfSome result (λ factors. factors ≡ orders.now) }
+    {
+        if orders.is_empty() || orders.len() > 3 {
+            return None;
+        }
+        let mut list = ArrayVec::new();
+        for order in orders {
+            if Field::of(*order).is_none() {
+                return None;
+            }
+            list.push(*order);
+        }
+        Some(Factors { orders: list })
+    }
+
+    /// How many factors there are, from 1 to 3.
+    pub fn count(&self) -> usize
+        ensures count { result ≡ length self.now }
+        ensures are_factors { IsFactors self.now }
+    {
+        self.orders.len()
+    }
+
+    /// The field of factor `i`, numbered from 0.
+    pub fn field(&self, i: usize) -> Field
+        requires { i < length self.now }
+        ensures { result ≡ slice_index self.now i }
+    {
+        match Field::of(self.orders[i]) {
+            Some(field) => field,
+            None => unreachable!(),
+        }
+    }
+
+    /// The same factors.
+    pub fn copy(&self) -> Factors
+        ensures { result ≡ self.now }
+    {
+        let mut orders = ArrayVec::new();
+        for order in self.orders.as_slice() {
+            orders.push(*order);
+        }
+        Factors { orders }
+    }
+}

@@ -1,0 +1,11 @@
+//! Representations over a product of finite fields.
+#![tactic(auto)]
+
+mod factors;
+mod rep;
+
+pub use factors::Factors;
+pub use rep::{ProductColumn, Rep};
+
+#[cfg(test)]
+mod tests;

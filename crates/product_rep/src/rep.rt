@@ -1,0 +1,135 @@
+ghost use Rattle.std.specs.Prelude.{◌≡◌, ◌<◌, ◌≤◌, [], Some, slice_get};
+ghost use Rattle.matroid_theory.specs.Rep.{Rep as Matrices, size, count, shape, column_of, IsRep, IsStandard, IsProductColumn};
+ghost use Rattle.matroid_theory.specs.Level.{followed_by};
+
+use crate::Factors;
+use arrayvec::ArrayVec;
+use field_tables::Column;
+use std::marker::Model;
+
+/// One column of all factors: its codes row by row, and factor by factor within a row; at most 18.
+pub type ProductColumn = ArrayVec<u8, 18>;
+
+/// A matrix over each factor, all of one rank and size: the rank is 1 to 6, the size at most 16, and each code below its
+/// field's order. Contracts see its factors, its rank and the list of its columns.
+#[derive(Drop)]
+pub struct Rep {
+    factors: Factors,
+    rank: u8,
+    size: u8,
+    codes: ArrayVec<u8, 288>,
+}
+
+impl Model for Rep {
+    ghost use Rattle.matroid_theory.specs.Rep.{Rep as Matrices};
+    ghost use Rattle.product_rep.specs.Pieces.{matrices, KeepsRep};
+
+    ghost Value = { Matrices };
+
+    ghost view = { matrices };
+
+    ghost invariant = { KeepsRep };
+}
+
+impl Rep {
+    /// The representation with no column.
+    pub fn empty(factors: Factors, rank: u8) -> Rep
+        requires low { 1 ≤ rank }
+        requires high { rank ≤ 6 }
+        ensures { result ≡ record { factors = factors; rank = rank; columns = [] } }
+    {
+        Rep {
+            factors,
+            rank,
+            size: 0,
+            codes: ArrayVec::new(),
+        }
+    }
+
+    /// The representation whose columns are the unit columns in order, in every factor.
+    pub fn unit(factors: Factors, rank: u8) -> Rep
+        requires low { 1 ≤ rank }
+        requires high { rank ≤ 6 }
+        ensures shape { shape result ≡ record { factors = factors; rank = rank; size = rank } }
+        ensures standard { IsStandard result }
+    {
+        let count = factors.count();
+        let mut rep = Rep::empty(factors, rank);
+        for j in 0..rank {
+            rep.push_column(&unit_column(count, rank, j));
+        }
+        rep
+    }
+
+    /// The number of columns, at most 16.
+    pub fn size(&self) -> usize
+        ensures value { result ≡ size self.now }
+        ensures is_rep { IsRep self.now }
+    {
+        usize::from(self.size)
+    }
+
+    /// The number of rows of each matrix, from 1 to 6.
+    pub fn rank(&self) -> usize
+        ensures { result ≡ self.now.rank }
+    {
+        usize::from(self.rank)
+    }
+
+    /// The factors.
+    pub fn factors(&self) -> Factors
+        ensures { result ≡ self.now.factors }
+    {
+        self.factors.copy()
+    }
+
+    /// Column `j` of all factors.
+    pub fn column(&self, j: usize) -> ProductColumn
+        requires { j < size self.now }
+        ensures { slice_get self.now.columns j ≡ Some result.items }
+    {
+        let width = usize::from(self.rank) * self.factors.count();
+        let mut column = ArrayVec::new();
+        for k in 0..width {
+            column.push(self.codes[j * width + k]);
+        }
+        column
+    }
+
+    /// Column `j` of one factor.
+    pub fn factor_column(&self, factor: usize, j: usize) -> Column
+        requires factor { factor < count self.now }
+        requires column { j < size self.now }
+        ensures { result.items ≡ column_of self.now factor j }
+    {
+        let count = self.factors.count();
+        let rank = usize::from(self.rank);
+        let mut column = ArrayVec::new();
+        for i in 0..rank {
+            column.push(self.codes[(j * rank + i) * count + factor]);
+        }
+        column
+    }
+
+    /// Adds a column at the end.
+    pub fn push_column(&mut self, column: &ProductColumn)
+        requires room { size self.old < 16 }
+        requires column { IsProductColumn self.old.factors self.old.rank column.now.items }
+        ensures { self.new ≡ followed_by self.old column.now.items }
+    {
+        for code in column.as_slice() {
+            self.codes.push(*code);
+        }
+        self.size += 1;
+    }
+}
+
+fn unit_column(count: usize, rank: u8, j: u8) -> ProductColumn {
+    let mut column = ArrayVec::new();
+    for i in 0..rank {
+        for _ in 0..count {
+            column.push(u8::from(i == j));
+        }
+    }
+    column
+}
