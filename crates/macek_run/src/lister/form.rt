@@ -1,0 +1,69 @@
+ghost use Rattle.std.specs.Prelude.{◌≡◌, ◌+◌, ◌*◌, ◌≤◌, ◌<◌, ◌++◌, length, map};
+ghost use Rattle.std.specs.List.{AllByRecursion, range_with_len, join_with_byte};
+ghost use Rattle.matroid_theory.specs.Rep.{count, size, column_of};
+ghost use Rattle.formats.specs.Entry.{column_word as word_of_codes};
+ghost use Rattle.formats.specs.Levels.{columns_of};
+ghost use Rattle.formats.specs.Listing as listing;
+
+use crate::lister::line::{Line, push_bytes};
+use arrayvec::ArrayVec;
+use field_tables::Column;
+use product_rep::Rep;
+
+/// The word that spells a column: a digit for each code.
+fn column_word(column: &Column) -> Column
+    requires { AllByRecursion (λ code. code < 10) column.now.items }
+    ensures { result.items ≡ word_of_codes column.now.items }
+{
+    let mut word = ArrayVec::new();
+    for code in column.as_slice() {
+        word.push(b'0' + *code);
+    }
+    word
+}
+
+/// The words that spell the columns of one factor.
+fn factor_words(rep: &Rep, factor: usize) -> ArrayVec<Column, 16>
+    requires { factor < count rep.now }
+    ensures { map (λ word. word.items) result.items
+        ≡ map (λ j. word_of_codes (column_of rep.now factor j)) (range_with_len 0 (size rep.now)) }
+{
+    let size = rep.size();
+    let mut words = ArrayVec::new();
+    for j in 0..size {
+        words.push(column_word(&rep.factor_column(factor, j)));
+    }
+    words
+}
+
+/// Appends words, with one space between two.
+fn push_words(line: &mut Line, words: &[Column])
+    requires { length line.old.items + 7 * length words.now ≤ 384 }
+    ensures { line.new.items ≡ line.old.items ++ join_with_byte 32 (map (λ word. word.items) words.now) }
+{
+    let mut rest = words;
+    while let [word, next @ ..] = rest {
+        push_bytes(line, word.as_slice());
+        if !next.is_empty() {
+            line.push(b' ');
+        }
+        rest = next;
+    }
+}
+
+/// The line of a form: the columns of each factor as words, with ` | ` between two factors.
+#[tactic(auto, unfolding(formats::specs::Listing::form_text))]
+pub fn form_text(rep: &Rep) -> Line
+    ensures { result.items ≡ listing.form_text (columns_of rep.now) }
+{
+    let count = rep.factors().count();
+    let mut line = ArrayVec::new();
+    for factor in 0..count {
+        if factor > 0 {
+            push_bytes(&mut line, b" | ");
+        }
+        push_words(&mut line, factor_words(rep, factor).as_slice());
+    }
+    line.push(b'\n');
+    line
+}
