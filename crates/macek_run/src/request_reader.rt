@@ -1,4 +1,4 @@
-ghost use Rattle.std.specs.Prelude.{◌≡◌, ◌+◌, ◌<◌, ℕ, length, slice_index, IfOk, IfErr, IfSome, IsSome, IsTrue, ◌↔◌, Contains};
+ghost use Rattle.std.specs.Prelude.{◌≡◌, ◌+◌, ◌<◌, ℕ, length, slice_index, IfOk, IfErr, IsTrue, ◌↔◌, Contains};
 ghost use Rattle.formats.specs.Request.{IsWithinLimits};
 ghost use Rattle.macek_run.specs.Built.{IsBuilt, IsNotBuilt, primes, built_text, plain_request};
 
@@ -68,15 +68,20 @@ impl Request {
 
 const PRIMES: [u8; 4] = [2, 3, 5, 7];
 
-/// The field of a prime order.
-fn prime_field(order: u8) -> Option<Field>
-    ensures found { IsSome result ↔ Contains primes order }
-    ensures order { IfSome result (λ field. field ≡ order) }
+fn is_prime(order: u8) -> bool
+    ensures { IsTrue result ↔ Contains primes order }
 {
-    if PRIMES.contains(&order) {
-        Field::of(order)
-    } else {
-        None
+    PRIMES.contains(&order)
+}
+
+/// The field of a prime order.
+fn prime_field(order: u8) -> Field
+    requires { Contains primes order }
+    ensures { result ≡ order }
+{
+    match Field::of(order) {
+        Some(field) => field,
+        None => unreachable!(),
     }
 }
 
@@ -126,13 +131,9 @@ pub fn read_request(text: &[u8]) -> Result<Request, Refusal>
     if text.len() == BUILT_BYTES {
         let order = digit_at(text, ORDER_AT);
         let rank = digit_at(text, RANK_AT);
-        if 1 <= rank
-            && rank <= MOST_RANK
-            && is_built(text, order, rank)
-            && let Some(field) = prime_field(order)
-        {
+        if is_prime(order) && 1 <= rank && rank <= MOST_RANK && is_built(text, order, rank) {
             return Ok(Request {
-                field,
+                field: prime_field(order),
                 rank,
                 size: rank,
             });
