@@ -22,7 +22,7 @@ step : (a : Inside) (M : Rep) (j k w : ℕ) (codes column : List ℕ) → matric
 step a M j k w codes column v h e d l m i =
     (λ t. i t ++ slice_index (d t) (j * e t + k) ∷ [])
     ∙ subst (λ (cs : List (List ℕ)). take k (slice_index_or cs j []) ++ slice_index a.codes.items (j * (a.rank * length a.factors) + k) ∷ [] ≡ take (k + 1) (slice_index_or cs j []))
-        (ap (λ P. P.columns) v) (sym (column-step a j k h (column_below a M j v l) (subst (λ (n : ℕ). k < n) e m)))
+    (ap (λ P. P.columns) v) (sym (column-step a j k h (column_below a M j v l) (subst (λ (n : ℕ). k < n) e m)))
 
 pub loop-k-preserved : goal.loop-k-preserved
 loop-k-preserved c = c.push.ensures.items ∙ step c.self.inside c.args.self.now c.args.j c.loop-k.k _ c.deref.result.now c.loop-k.column.items c.self.view_is c.self.invariant (λ i. c.from.ensures i * c.count.ensures.count i) c.deref.ensures.0 c.requires c.loop-k-test.true c.loop-k.invariant

@@ -30,7 +30,7 @@ step : (a : Inside) (M : Rep) (i j f r c : ℕ) (codes column : List ℕ) → ma
 step a M i j f r c codes column v e g d l m o k =
     (λ t. k t ++ slice_index (d t) ((j * e t + i) * g t + f) ∷ [])
     ∙ subst (λ P. map (λ i. matrix P f i j) (range_with_len 0 i) ++ slice_index a.codes.items ((j * a.rank + i) * length a.factors + f) ∷ [] ≡ map (λ i. matrix P f i j) (range_with_len 0 (i + 1)))
-        v (sym (factor_column-step a f i j (subst (λ (n : ℕ). f < n) (sym (ap count v)) o) (subst (λ (n : ℕ). i < n) e m) (column_below a M j v l)))
+    v (sym (factor_column-step a f i j (subst (λ (n : ℕ). f < n) (sym (ap count v)) o) (subst (λ (n : ℕ). i < n) e m) (column_below a M j v l)))
 
 pub loop-i-preserved : goal.loop-i-preserved
 loop-i-preserved c = c.push.ensures.items ∙ step c.self.inside c.args.self.now c.loop-i.i c.args.j c.args.factor _ _ c.deref.result.now c.loop-i.column.items c.self.view_is c.from-rank.ensures c.count-count.ensures.count c.deref.ensures.0 c.requires.column c.loop-i-test.true c.requires.factor c.loop-i.invariant
