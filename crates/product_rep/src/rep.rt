@@ -1,6 +1,7 @@
-ghost use Rattle.std.specs.Prelude.{◌≡◌, ◌<◌, ◌≤◌, [], Some, slice_get};
+ghost use Rattle.std.specs.Prelude.{◌≡◌, ◌<◌, ◌≤◌, ◌+◌, ◌*◌, ℕ, [], ◌++◌, Some, length, replicate, slice_get, slice_index};
 ghost use Rattle.matroid_theory.specs.Rep.{Rep as Matrices, size, count, shape, column_of, IsRep, IsStandard, IsProductColumn};
 ghost use Rattle.matroid_theory.specs.Level.{followed_by};
+ghost use Rattle.matroid_theory.specs.Matrix.{unit};
 
 use crate::Factors;
 use arrayvec::ArrayVec;
@@ -38,6 +39,8 @@ impl Rep {
         requires high { rank ≤ 6 }
         ensures { result ≡ record { factors = factors; rank = rank; columns = [] } }
     {
+        // The proof learns here that these are one to three fields.
+        factors.count();
         Rep {
             factors,
             rank,
@@ -124,12 +127,26 @@ impl Rep {
     }
 }
 
-fn unit_column(count: usize, rank: u8, j: u8) -> ProductColumn {
+/// Column `j` of the identity matrix, in every factor.
+fn unit_column(count: usize, rank: u8, j: u8) -> ProductColumn
+    requires count { count ≤ 3 }
+    requires rank { rank ≤ 6 }
+    ensures rows { length result.items ≡ rank * count }
+    ensures codes { (i f : ℕ) → i < rank → f < count → slice_index result.items (i * count + f) ≡ unit i j }
+{
     let mut column = ArrayVec::new();
     for i in 0..rank {
-        for _ in 0..count {
-            column.push(u8::from(i == j));
-        }
+        push_copies(&mut column, u8::from(i == j), count);
     }
     column
+}
+
+/// Adds the code `count` times.
+fn push_copies(column: &mut ProductColumn, code: u8, count: usize)
+    requires { length column.old.items + count ≤ 18 }
+    ensures { column.new.items ≡ column.old.items ++ replicate count code }
+{
+    for _ in 0..count {
+        column.push(code);
+    }
 }
