@@ -53,7 +53,7 @@ split_comma (x ∷ a) b (y ∷ c) d p q e =
 pub order_small : (order : ℕ) → IsOrder order → order < 10
 order_small = by_order (λ order. order < 10) (lit< tt) (lit< tt) (lit< tt) (lit< tt) (lit< tt) (lit< tt) (lit< tt)
 
-letter_small : (code : ℕ) → code < 10 → entry_letter code ≡ 48 + code
+pub letter_small : (code : ℕ) → code < 10 → entry_letter code ≡ 48 + code
 letter_small code lt = grind (arith, nat_tests)
 
 column_same : (m n : ℕ) (xs ys : List ℕ) → m < 10 → n < 10 → AllByRecursion (λ code. code < m) xs → AllByRecursion (λ code. code < n) ys → column_word xs ≡ column_word ys → xs ≡ ys
@@ -231,7 +231,7 @@ cond_append : (b : Bool) (w : List (List ℕ)) (xs ys : List (List (List ℕ))) 
 cond_append true w xs ys = refl
 cond_append false w xs ys = refl
 
-statements_split : (before : List (List ℕ)) (line : List ℕ) (after : List (List ℕ)) → is_skipped (words_of line) ≡ false → statements_of (before ++ line ∷ after) ≡ statements_of before ++ words_of line ∷ statements_of after
+pub statements_split : (before : List (List ℕ)) (line : List ℕ) (after : List (List ℕ)) → is_skipped (words_of line) ≡ false → statements_of (before ++ line ∷ after) ≡ statements_of before ++ words_of line ∷ statements_of after
 statements_split [] line after counts = ap (λ (b : Bool). cond (not b) (words_of line ∷ statements_of after) (statements_of after)) counts
 statements_split (x ∷ before) line after counts =
     ap (λ (l : List (List (List ℕ))). cond (not (is_skipped (words_of x))) (words_of x ∷ l) l) (statements_split before line after counts)
