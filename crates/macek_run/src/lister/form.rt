@@ -25,8 +25,9 @@ fn column_word(column: &Column) -> Column
 /// The words that spell the columns of one factor.
 fn factor_words(rep: &Rep, factor: usize) -> ArrayVec<Column, 16>
     requires { factor < count rep.now }
-    ensures { map (λ word. word.items) result.items
+    ensures words { map (λ word. word.items) result.items
         ≡ map (λ j. word_of_codes (column_of rep.now factor j)) (range_with_len 0 (size rep.now)) }
+    ensures count { length result.items ≡ size rep.now }
 {
     let size = rep.size();
     let mut words = ArrayVec::new();
@@ -39,7 +40,8 @@ fn factor_words(rep: &Rep, factor: usize) -> ArrayVec<Column, 16>
 /// Appends words, with one space between two.
 fn push_words(line: &mut Line, words: &[Column])
     requires { length line.old.items + 7 * length words.now ≤ 384 }
-    ensures { line.new.items ≡ line.old.items ++ join_with_byte 32 (map (λ word. word.items) words.now) }
+    ensures bytes { line.new.items ≡ line.old.items ++ join_with_byte 32 (map (λ word. word.items) words.now) }
+    ensures short { length line.new.items ≤ length line.old.items + 7 * length words.now }
 {
     let mut rest = words;
     while let [word, next @ ..] = rest {
