@@ -19,6 +19,7 @@ use Rattle.formats.proofs.Lengths.{IsSmall, text_length}
 pub text_stands : (entries : List Entry) (q : Request) → AllByRecursion IsEntry entries → AreInOrder entries → AskFor entries q → IsWithinLimits q → length (text_of_entries entries) ≤ most_bytes → StandsFor (text_of_entries entries) q
 text_stands entries q may in_order asked limits short = record { short = short; entries = entries; said = text_says entries may; in_order = in_order; asked = asked; limits = limits }
 
+-- the two parts of what is small
 all_may : (entries : List Entry) → AllByRecursion IsSmall entries → AllByRecursion IsEntry entries
 all_may [] all = tt
 all_may (e ∷ entries) all = (all.0.may, all_may entries all.1)
@@ -58,10 +59,13 @@ one_factor order o = record { some = omega arith; few = omega arith; fields = on
     one (suc f) l = absurd (omega arith)
 
 built_small : (order rank : ℕ) → IsOrder order → IsRank rank → AllByRecursion IsSmall (built_entries order rank)
-built_small order rank o r =
-    (record { may = one_factor order o; not_big = omega arith },
-    (record { may = omega (arith, r.1); not_big = omega arith },
-    (record { may = omega (arith, r.1); not_big = omega arith }, tt)))
+built_small order rank o r = (
+  record { may = one_factor order o; not_big = omega arith },
+  (
+    record { may = omega (arith, r.1); not_big = omega arith },
+    (record { may = omega (arith, r.1); not_big = omega arith }, tt),
+  ),
+)
 
 built_not_often : (order rank kind : ℕ) → count_of_kind kind (built_entries order rank) ≤ most_of_kind kind
 built_not_often order rank kind = grind (arith, nat_tests)
@@ -82,6 +86,7 @@ values_kept {Y = Y} P value made inverse (e ∷ entries) all = at (value e) refl
     at None is ys rest = rest
     at (Some y) is ys rest = (subst P (inverse e y is) all.0, rest)
 
+-- the entry that has a value is made of it
 rank_made : (e : Entry) (n : ℕ) → rank_in e ≡ Some n → e ≡ RankIs n
 rank_made (RankIs m) n is = cc (is)
 rank_made _ n is = cc (is)
@@ -143,6 +148,7 @@ forbid_part q = map Forbids q.forbid ++ connected_part q
 abbrev head_parts : Request → List Entry
 head_parts q = Version ∷ FieldIs q.factors ∷ RankIs q.rank ∷ SizeIs q.size ∷ forbid_part q
 
+-- the same list, with its parts taken together from the end on
 parts_are : (q : Request) → head_parts q ≡ head_entries q
 parts_are q = simp append_assoc
 
@@ -310,6 +316,7 @@ kind_differs m n kind lt = grind (arith, nat_tests)
 some_of_kind : (kind : ℕ) → 1 ≤ most_of_kind kind
 some_of_kind kind = grind (arith, nat_tests)
 
+-- there is none beyond the last kind
 no_kind : (kind : ℕ) → 10 < kind → kinds_bound kind ≤ most_of_kind kind
 no_kind kind lt =
     omega (arith, some_of_kind kind, kind_differs 0 1 kind (omega arith), kind_differs 1 1 kind (omega arith), kind_differs 2 1 kind (omega arith), kind_differs 3 1 kind (omega arith), kind_differs 4 8 kind (omega arith), kind_differs 5 1 kind (omega arith), kind_differs 6 1 kind (omega arith), kind_differs 7 1 kind (omega arith), kind_differs 8 1 kind (omega arith), kind_differs 9 1 kind (omega arith), kind_differs 10 1 kind (omega arith))
@@ -328,6 +335,7 @@ kinds_bound_small (suc (suc (suc (suc (suc (suc (suc (suc (suc zero))))))))) = l
 kinds_bound_small (suc (suc (suc (suc (suc (suc (suc (suc (suc (suc zero)))))))))) = lit≤ tt
 kinds_bound_small (suc (suc (suc (suc (suc (suc (suc (suc (suc (suc (suc kind))))))))))) = no_kind (suc (suc (suc (suc (suc (suc (suc (suc (suc (suc (suc kind))))))))))) (omega arith)
 
+-- how many of a kind stand in a part
 where_count : (kind : ℕ) (b : Bool) (e : Entry) → count_of_kind kind (where_set b e) ≤ cond (kind_number e == kind) 1 0
 where_count kind true e = omega arith
 where_count kind false e = omega arith
@@ -347,6 +355,7 @@ head_count : (q : Request) (kind : ℕ) → length q.forbid ≤ 8 → count_of_k
 head_count q kind few =
     omega (arith, count_cons kind Version (FieldIs q.factors ∷ RankIs q.rank ∷ SizeIs q.size ∷ forbid_part q), count_cons kind (FieldIs q.factors) (RankIs q.rank ∷ SizeIs q.size ∷ forbid_part q), count_cons kind (RankIs q.rank) (SizeIs q.size ∷ forbid_part q), count_cons kind (SizeIs q.size) (forbid_part q), count_append kind (map Forbids q.forbid) (connected_part q), count_append kind (where_set q.connected ListsConnected) (three_part q), count_append kind (where_set q.three_connected ListsThreeConnected) (cosimple_part q), count_append kind (where_set q.cosimple ListsCosimple) (distinct_part q), count_append kind (where_set q.distinct ListsDistinct) (has_part q), count_append kind (map ListsWith (option_to_list q.has)) (print_part q), count_cons kind (Prints q.print) [], forbids_count kind (4 == kind) refl q.forbid few, where_count kind q.connected ListsConnected, where_count kind q.three_connected ListsThreeConnected, where_count kind q.cosimple ListsCosimple, where_count kind q.distinct ListsDistinct, has_count kind q.has)
 
+-- how many entries the head has
 where_length : (b : Bool) (e : Entry) → length (where_set b e) ≤ 1
 where_length true e = omega arith
 where_length false e = omega arith
@@ -366,11 +375,23 @@ head_small entries q all asked =
     let fields = subst (λ (l : List (List ℕ)). AllByRecursion IsSmall (map FieldIs l)) asked.field (values_kept IsSmall field_in FieldIs field_made entries all) in
     let sizes = subst (λ (l : List ℕ). AllByRecursion IsSmall (map SizeIs l)) asked.size (values_kept IsSmall size_in SizeIs size_made entries all) in
     let forbids = subst (λ (l : List Minor). AllByRecursion IsSmall (map Forbids l)) asked.forbid (values_kept IsSmall forbidden_in Forbids forbidden_made entries all) in
-    let has = subst (λ (l : List Minor). AllByRecursion IsSmall (map ListsWith l)) asked.has (values_kept IsSmall wanted_in ListsWith wanted_made entries all) in
-    (record { may = tt; not_big = omega arith }, (fields.0, (ranks.0, (sizes.0, all_append IsSmall (map Forbids q.forbid) (connected_part q) forbids
-      (all_filters IsSmall q (record { may = tt; not_big = omega arith }) (record { may = tt; not_big = omega arith }) (record { may = tt; not_big = omega arith }) (record { may = tt; not_big = omega arith })
-      (all_has IsSmall q has (record { may = tt; not_big = omega arith })))))))
+    let has = subst (λ (l : List Minor). AllByRecursion IsSmall (map ListsWith l)) asked.has (values_kept IsSmall wanted_in ListsWith wanted_made entries all) in (
+      record { may = tt; not_big = omega arith },
+      (
+        fields.0,
+        (
+          ranks.0,
+          (
+            sizes.0,
+            all_append IsSmall (map Forbids q.forbid) (connected_part q) forbids
+                (all_filters IsSmall q (record { may = tt; not_big = omega arith }) (record { may = tt; not_big = omega arith }) (record { may = tt; not_big = omega arith }) (record { may = tt; not_big = omega arith })
+                (all_has IsSmall q has (record { may = tt; not_big = omega arith }))),
+          ),
+        ),
+      ),
+    )
 
+-- at most eight minors are forbidden
 few_forbidden : (entries : List Entry) (q : Request) → AreInOrder entries → AskFor entries q → length q.forbid ≤ 8
 few_forbidden entries q in_order asked = omega (arith, forbidden_count entries, in_order.not_often forbid_kind, ap length asked.forbid)
 
