@@ -1,14 +1,17 @@
 -- Which texts of entries stand for a request.
-use Rattle.std.proofs.Common.{ℕ, zero, suc, ◌<◌, ◌≤◌, List, [], ◌∷◌, length, None, false, refl, arith, lit≤}
-use Rattle.std.specs.List.{AllByRecursion}
-use Rattle.std.specs.Prelude.{slice_index}
+use Rattle.std.proofs.Common.{◌≡◌, ◌∙◌, ℕ, zero, suc, ◌+◌, ◌<◌, ◌≤◌, ◌==◌, ◌||◌, Bool, true, cond, List, [], ◌∷◌, ◌++◌, map, length, Option, None, Some, false, refl, ap, subst, arith, append_assoc, lit≤, length-append}
+use Rattle.std.specs.List.{AllByRecursion, list_any, cons_option}
+use Rattle.std.specs.Prelude.{slice_index, filter_map, option_to_list, if◌then◌else◌}
 use Rattle.std.proofs.lemmas.Bool.Decides.{nat_tests}
+use Rattle.std.proofs.lemmas.List.Sums.{count_by-le-length, sum_by-append, sum_by-cons}
+use Rattle.std.proofs.lemmas.List.{length-map}
 use Rattle.matroid_theory.specs.Field.{IsOrder, IsFactors}
 use Rattle.matroid_theory.proofs.FieldLaws.{by_order}
-use Rattle.formats.specs.declared.refusal.PrintMode.TheVariants.{Forms}
-use Rattle.formats.specs.Entry.{Entry, RankIs, FieldIs, SizeIs, IsEntry, most_of_kind, named_elements}
-use Rattle.formats.specs.Request.{Request, AreInOrder, count_of_kind, AskFor, column_count, most_bytes, most_columns, IsRank, IsWithinLimits, StandsFor}
-use Rattle.formats.specs.Listing.{text_of_entries}
+use Rattle.formats.specs.declared.refusal.PrintMode.{PrintMode}
+use Rattle.formats.specs.declared.refusal.PrintMode.TheVariants.{Forms, Counts}
+use Rattle.formats.specs.Entry.{Minor, Entry, Version, RankIs, FieldIs, SizeIs, Forbids, ListsConnected, ListsThreeConnected, ListsCosimple, ListsDistinct, ListsWith, Prints, IsEntry, kind_number, forbid_kind, most_of_kind, named_elements}
+use Rattle.formats.specs.Request.{Request, AreInOrder, count_of_kind, rank_in, field_in, size_in, forbidden_in, wanted_in, has_kind, prints_counts, AskFor, column_count, most_bytes, most_columns, IsRank, IsWithinLimits, StandsFor}
+use Rattle.formats.specs.Listing.{where_set, head_entries, text_of_entries}
 use Rattle.formats.proofs.Spelled.{text_says}
 use Rattle.formats.proofs.Lengths.{IsSmall, text_length}
 
@@ -16,6 +19,7 @@ use Rattle.formats.proofs.Lengths.{IsSmall, text_length}
 pub text_stands : (entries : List Entry) (q : Request) → AllByRecursion IsEntry entries → AreInOrder entries → AskFor entries q → IsWithinLimits q → length (text_of_entries entries) ≤ most_bytes → StandsFor (text_of_entries entries) q
 text_stands entries q may in_order asked limits short = record { short = short; entries = entries; said = text_says entries may; in_order = in_order; asked = asked; limits = limits }
 
+-- the two parts of what is small
 all_may : (entries : List Entry) → AllByRecursion IsSmall entries → AllByRecursion IsEntry entries
 all_may [] all = tt
 all_may (e ∷ entries) all = (all.0.may, all_may entries all.1)
@@ -55,10 +59,13 @@ one_factor order o = record { some = omega arith; few = omega arith; fields = on
     one (suc f) l = absurd (omega arith)
 
 built_small : (order rank : ℕ) → IsOrder order → IsRank rank → AllByRecursion IsSmall (built_entries order rank)
-built_small order rank o r =
-    (record { may = one_factor order o; not_big = omega arith },
-    (record { may = omega (arith, r.1); not_big = omega arith },
-    (record { may = omega (arith, r.1); not_big = omega arith }, tt)))
+built_small order rank o r = (
+  record { may = one_factor order o; not_big = omega arith },
+  (
+    record { may = omega (arith, r.1); not_big = omega arith },
+    (record { may = omega (arith, r.1); not_big = omega arith }, tt),
+  ),
+)
 
 built_not_often : (order rank kind : ℕ) → count_of_kind kind (built_entries order rank) ≤ most_of_kind kind
 built_not_often order rank kind = grind (arith, nat_tests)
@@ -69,3 +76,333 @@ built_stands order rank o r =
     small_stands (built_entries order rank) (built_request order rank) (built_small order rank o r) (omega arith) (built_not_often order rank)
     (record { rank = refl; field = refl; size = refl; forbid = refl; connected = refl; three_connected = refl; cosimple = refl; distinct = refl; has = refl; print = refl })
     (record { rank = r; size = (omega arith, omega (arith, r.1)); columns = built_columns order rank o r })
+
+-- what holds of the entries of a list holds of those of one kind, made anew of their values
+values_kept : {Y : Type 0} (P : Entry → Type 0) (value : Entry → Option Y) (made : Y → Entry) → ((e : Entry) (y : Y) → value e ≡ Some y → e ≡ made y) → (entries : List Entry) → AllByRecursion P entries → AllByRecursion P (map made (filter_map value entries))
+values_kept P value made inverse [] all = tt
+values_kept {Y = Y} P value made inverse (e ∷ entries) all = at (value e) refl (filter_map value entries) (values_kept P value made inverse entries all.1)
+  where
+    at : (o : Option Y) → value e ≡ o → (ys : List Y) → AllByRecursion P (map made ys) → AllByRecursion P (map made (cons_option o ys))
+    at None is ys rest = rest
+    at (Some y) is ys rest = (subst P (inverse e y is) all.0, rest)
+
+-- the entry that has a value is made of it
+rank_made : (e : Entry) (n : ℕ) → rank_in e ≡ Some n → e ≡ RankIs n
+rank_made (RankIs m) n is = cc (is)
+rank_made _ n is = cc (is)
+
+field_made : (e : Entry) (fs : List ℕ) → field_in e ≡ Some fs → e ≡ FieldIs fs
+field_made (FieldIs gs) fs is = cc (is)
+field_made _ fs is = cc (is)
+
+size_made : (e : Entry) (n : ℕ) → size_in e ≡ Some n → e ≡ SizeIs n
+size_made (SizeIs m) n is = cc (is)
+size_made _ n is = cc (is)
+
+forbidden_made : (e : Entry) (m : Minor) → forbidden_in e ≡ Some m → e ≡ Forbids m
+forbidden_made (Forbids n) m is = cc (is)
+forbidden_made _ m is = cc (is)
+
+wanted_made : (e : Entry) (m : Minor) → wanted_in e ≡ Some m → e ≡ ListsWith m
+wanted_made (ListsWith n) m is = cc (is)
+wanted_made _ m is = cc (is)
+
+-- an entry is one of a kind, or not
+abbrev of_kind : ℕ → Entry → ℕ
+of_kind kind e = cond (kind_number e == kind) 1 0
+
+count_cons : (kind : ℕ) (e : Entry) (entries : List Entry) → count_of_kind kind (e ∷ entries) ≡ of_kind kind e + count_of_kind kind entries
+count_cons kind e entries = sum_by-cons (of_kind kind) e entries
+
+count_append : (kind : ℕ) (xs ys : List Entry) → count_of_kind kind (xs ++ ys) ≡ count_of_kind kind xs + count_of_kind kind ys
+count_append kind xs ys = sum_by-append (of_kind kind) xs ys
+
+-- as many are forbidden as there are entries that forbid
+forbidden_count : (entries : List Entry) → length (filter_map forbidden_in entries) ≤ count_of_kind forbid_kind entries
+forbidden_count [] = omega arith
+forbidden_count (Forbids m ∷ entries) = omega (arith, count_cons forbid_kind (Forbids m) entries, forbidden_count entries)
+forbidden_count (e ∷ entries) = omega (arith, count_cons forbid_kind e entries, forbidden_count entries)
+
+-- the head after its first four entries, from its end on
+abbrev print_part : Request → List Entry
+print_part q = Prints q.print ∷ []
+
+abbrev has_part : Request → List Entry
+has_part q = map ListsWith (option_to_list q.has) ++ print_part q
+
+abbrev distinct_part : Request → List Entry
+distinct_part q = where_set q.distinct ListsDistinct ++ has_part q
+
+abbrev cosimple_part : Request → List Entry
+cosimple_part q = where_set q.cosimple ListsCosimple ++ distinct_part q
+
+abbrev three_part : Request → List Entry
+three_part q = where_set q.three_connected ListsThreeConnected ++ cosimple_part q
+
+abbrev connected_part : Request → List Entry
+connected_part q = where_set q.connected ListsConnected ++ three_part q
+
+abbrev forbid_part : Request → List Entry
+forbid_part q = map Forbids q.forbid ++ connected_part q
+
+abbrev head_parts : Request → List Entry
+head_parts q = Version ∷ FieldIs q.factors ∷ RankIs q.rank ∷ SizeIs q.size ∷ forbid_part q
+
+-- the same list, with its parts taken together from the end on
+parts_are : (q : Request) → head_parts q ≡ head_entries q
+parts_are q = simp append_assoc
+
+-- what holds of all entries of the parts
+all_append : {X : Type 0} (P : X → Type 0) (xs ys : List X) → AllByRecursion P xs → AllByRecursion P ys → AllByRecursion P (xs ++ ys)
+all_append P [] ys p q = q
+all_append P (x ∷ xs) ys p q = (p.0, all_append P xs ys p.1 q)
+
+all_map : {X Y : Type 0} (P : Y → Type 0) (f : X → Y) → ((x : X) → P (f x)) → (xs : List X) → AllByRecursion P (map f xs)
+all_map P f each [] = tt
+all_map P f each (x ∷ xs) = (each x, all_map P f each xs)
+
+all_where : (P : Entry → Type 0) (b : Bool) (e : Entry) → P e → AllByRecursion P (where_set b e)
+all_where P true e p = (p, tt)
+all_where P false e p = tt
+
+all_has : (P : Entry → Type 0) (q : Request) → AllByRecursion P (map ListsWith (option_to_list q.has)) → P (Prints q.print) → AllByRecursion P (has_part q)
+all_has P q has print = all_append P (map ListsWith (option_to_list q.has)) (print_part q) has (print, tt)
+
+all_distinct : (P : Entry → Type 0) (q : Request) → P ListsDistinct → AllByRecursion P (has_part q) → AllByRecursion P (distinct_part q)
+all_distinct P q d rest = all_append P (where_set q.distinct ListsDistinct) (has_part q) (all_where P q.distinct ListsDistinct d) rest
+
+all_cosimple : (P : Entry → Type 0) (q : Request) → P ListsCosimple → AllByRecursion P (distinct_part q) → AllByRecursion P (cosimple_part q)
+all_cosimple P q c rest = all_append P (where_set q.cosimple ListsCosimple) (distinct_part q) (all_where P q.cosimple ListsCosimple c) rest
+
+all_three : (P : Entry → Type 0) (q : Request) → P ListsThreeConnected → AllByRecursion P (cosimple_part q) → AllByRecursion P (three_part q)
+all_three P q t rest = all_append P (where_set q.three_connected ListsThreeConnected) (cosimple_part q) (all_where P q.three_connected ListsThreeConnected t) rest
+
+all_connected : (P : Entry → Type 0) (q : Request) → P ListsConnected → AllByRecursion P (three_part q) → AllByRecursion P (connected_part q)
+all_connected P q k rest = all_append P (where_set q.connected ListsConnected) (three_part q) (all_where P q.connected ListsConnected k) rest
+
+all_filters : (P : Entry → Type 0) (q : Request) → P ListsConnected → P ListsThreeConnected → P ListsCosimple → P ListsDistinct → AllByRecursion P (has_part q) → AllByRecursion P (connected_part q)
+all_filters P q k t c d rest = all_connected P q k (all_three P q t (all_cosimple P q c (all_distinct P q d rest)))
+
+-- the same of what holds of an entry of each kind
+record OfEach (P : Entry → Type 0) : Type 0 where
+  forbids : (m : Minor) → P (Forbids m)
+  connected : P ListsConnected
+  three : P ListsThreeConnected
+  cosimple : P ListsCosimple
+  distinct : P ListsDistinct
+  has : (m : Minor) → P (ListsWith m)
+  prints : (mode : PrintMode) → P (Prints mode)
+
+each_part : (P : Entry → Type 0) (q : Request) → OfEach P → AllByRecursion P (forbid_part q)
+each_part P q e = all_append P (map Forbids q.forbid) (connected_part q) (all_map P Forbids e.forbids q.forbid) (all_filters P q e.connected e.three e.cosimple e.distinct (all_has P q (all_map P ListsWith e.has (option_to_list q.has)) (e.prints q.print)))
+
+-- entries that tell nothing of what is asked for
+no_values : {Y : Type 0} (value : Entry → Option Y) (xs : List Entry) → AllByRecursion (λ e. value e ≡ None) xs → filter_map value xs ≡ []
+no_values value [] all = refl
+no_values {Y = Y} value (x ∷ xs) all = ap (λ (o : Option Y). cons_option o (filter_map value xs)) all.0 ∙ no_values value xs all.1
+
+skip_values : {Y : Type 0} (value : Entry → Option Y) (xs ys : List Entry) → AllByRecursion (λ e. value e ≡ None) xs → filter_map value (xs ++ ys) ≡ filter_map value ys
+skip_values value [] ys all = refl
+skip_values {Y = Y} value (x ∷ xs) ys all = ap (λ (o : Option Y). cons_option o (filter_map value (xs ++ ys))) all.0 ∙ skip_values value xs ys all.1
+
+made_values : {Y : Type 0} (value : Entry → Option Y) (made : Y → Entry) → ((y : Y) → value (made y) ≡ Some y) → (ys : List Y) (rest : List Entry) → filter_map value rest ≡ [] → filter_map value (map made ys ++ rest) ≡ ys
+made_values value made is [] rest none = none
+made_values {Y = Y} value made is (y ∷ ys) rest none = ap (λ (o : Option Y). cons_option o (filter_map value (map made ys ++ rest))) (is y) ∙ ap (λ (l : List Y). y ∷ l) (made_values value made is ys rest none)
+
+none_pass : (test : Entry → Bool) (xs : List Entry) → AllByRecursion (λ e. test e ≡ false) xs → list_any test xs ≡ false
+none_pass test [] all = refl
+none_pass test (x ∷ xs) all = ap (λ (b : Bool). b || list_any test xs) all.0 ∙ none_pass test xs all.1
+
+skip_test : (test : Entry → Bool) (xs ys : List Entry) → AllByRecursion (λ e. test e ≡ false) xs → list_any test (xs ++ ys) ≡ list_any test ys
+skip_test test [] ys all = refl
+skip_test test (x ∷ xs) ys all = ap (λ (b : Bool). b || list_any test (xs ++ ys)) all.0 ∙ skip_test test xs ys all.1
+
+flag_test : (test : Entry → Bool) (b : Bool) (e : Entry) (ys : List Entry) → test e ≡ true → list_any test ys ≡ false → list_any test (where_set b e ++ ys) ≡ b
+flag_test test true e ys is none = ap (λ (b : Bool). b || list_any test ys) is
+flag_test test false e ys is none = none
+
+-- the head asks for what it is made of
+head_rank : (q : Request) → filter_map rank_in (head_parts q) ≡ q.rank ∷ []
+head_rank q = ap (λ (l : List ℕ). q.rank ∷ l) (no_values rank_in (forbid_part q) (each_part (λ e. rank_in e ≡ None) q (record { forbids = λ m. refl; connected = refl; three = refl; cosimple = refl; distinct = refl; has = λ m. refl; prints = λ mode. refl })))
+
+head_field : (q : Request) → filter_map field_in (head_parts q) ≡ q.factors ∷ []
+head_field q = ap (λ (l : List (List ℕ)). q.factors ∷ l) (no_values field_in (forbid_part q) (each_part (λ e. field_in e ≡ None) q (record { forbids = λ m. refl; connected = refl; three = refl; cosimple = refl; distinct = refl; has = λ m. refl; prints = λ mode. refl })))
+
+head_size : (q : Request) → filter_map size_in (head_parts q) ≡ q.size ∷ []
+head_size q = ap (λ (l : List ℕ). q.size ∷ l) (no_values size_in (forbid_part q) (each_part (λ e. size_in e ≡ None) q (record { forbids = λ m. refl; connected = refl; three = refl; cosimple = refl; distinct = refl; has = λ m. refl; prints = λ mode. refl })))
+
+head_forbid : (q : Request) → filter_map forbidden_in (head_parts q) ≡ q.forbid
+head_forbid q =
+    let silent : Entry → Type 0 = λ e. forbidden_in e ≡ None in
+    made_values forbidden_in Forbids (λ m. refl) q.forbid (connected_part q) (no_values forbidden_in (connected_part q) (all_filters silent q refl refl refl refl (all_has silent q (all_map silent ListsWith (λ m. refl) (option_to_list q.has)) refl)))
+
+head_has : (q : Request) → filter_map wanted_in (head_parts q) ≡ option_to_list q.has
+head_has q =
+    let silent : Entry → Type 0 = λ e. wanted_in e ≡ None in
+    skip_values wanted_in (map Forbids q.forbid) (connected_part q) (all_map silent Forbids (λ m. refl) q.forbid)
+    ∙ skip_values wanted_in (where_set q.connected ListsConnected) (three_part q) (all_where silent q.connected ListsConnected refl)
+    ∙ skip_values wanted_in (where_set q.three_connected ListsThreeConnected) (cosimple_part q) (all_where silent q.three_connected ListsThreeConnected refl)
+    ∙ skip_values wanted_in (where_set q.cosimple ListsCosimple) (distinct_part q) (all_where silent q.cosimple ListsCosimple refl)
+    ∙ skip_values wanted_in (where_set q.distinct ListsDistinct) (has_part q) (all_where silent q.distinct ListsDistinct refl)
+    ∙ made_values wanted_in ListsWith (λ m. refl) (option_to_list q.has) (print_part q) refl
+
+-- an entry of one kind is looked for, of which there is none after the filters
+abbrev is_kind : ℕ → Entry → Bool
+is_kind kind e = kind_number e == kind
+
+skip_forbids : (test : Entry → Bool) (q : Request) → ((m : Minor) → test (Forbids m) ≡ false) → list_any test (forbid_part q) ≡ list_any test (connected_part q)
+skip_forbids test q fails = skip_test test (map Forbids q.forbid) (connected_part q) (all_map (λ e. test e ≡ false) Forbids fails q.forbid)
+
+skip_flag : (test : Entry → Bool) (b : Bool) (e : Entry) (ys : List Entry) → test e ≡ false → list_any test (where_set b e ++ ys) ≡ list_any test ys
+skip_flag test b e ys fails = skip_test test (where_set b e) ys (all_where (λ e. test e ≡ false) b e fails)
+
+has_fails : (test : Entry → Bool) (q : Request) → ((m : Minor) → test (ListsWith m) ≡ false) → test (Prints q.print) ≡ false → AllByRecursion (λ e. test e ≡ false) (has_part q)
+has_fails test q fails print = all_has (λ e. test e ≡ false) q (all_map (λ e. test e ≡ false) ListsWith fails (option_to_list q.has)) print
+
+head_connected : (q : Request) → has_kind ListsConnected (head_parts q) ≡ q.connected
+head_connected q =
+    let fails : Entry → Type 0 = λ e. is_kind 5 e ≡ false in
+    skip_forbids (is_kind 5) q (λ m. refl)
+    ∙ flag_test (is_kind 5) q.connected ListsConnected (three_part q) refl (none_pass (is_kind 5) (three_part q) (all_three fails q refl (all_cosimple fails q refl (all_distinct fails q refl (has_fails (is_kind 5) q (λ m. refl) refl)))))
+
+head_three : (q : Request) → has_kind ListsThreeConnected (head_parts q) ≡ q.three_connected
+head_three q =
+    let fails : Entry → Type 0 = λ e. is_kind 6 e ≡ false in
+    skip_forbids (is_kind 6) q (λ m. refl)
+    ∙ skip_flag (is_kind 6) q.connected ListsConnected (three_part q) refl
+    ∙ flag_test (is_kind 6) q.three_connected ListsThreeConnected (cosimple_part q) refl (none_pass (is_kind 6) (cosimple_part q) (all_cosimple fails q refl (all_distinct fails q refl (has_fails (is_kind 6) q (λ m. refl) refl))))
+
+head_cosimple : (q : Request) → has_kind ListsCosimple (head_parts q) ≡ q.cosimple
+head_cosimple q =
+    let fails : Entry → Type 0 = λ e. is_kind 7 e ≡ false in
+    skip_forbids (is_kind 7) q (λ m. refl)
+    ∙ skip_flag (is_kind 7) q.connected ListsConnected (three_part q) refl
+    ∙ skip_flag (is_kind 7) q.three_connected ListsThreeConnected (cosimple_part q) refl
+    ∙ flag_test (is_kind 7) q.cosimple ListsCosimple (distinct_part q) refl (none_pass (is_kind 7) (distinct_part q) (all_distinct fails q refl (has_fails (is_kind 7) q (λ m. refl) refl)))
+
+head_distinct : (q : Request) → has_kind ListsDistinct (head_parts q) ≡ q.distinct
+head_distinct q =
+    skip_forbids (is_kind 8) q (λ m. refl)
+    ∙ skip_flag (is_kind 8) q.connected ListsConnected (three_part q) refl
+    ∙ skip_flag (is_kind 8) q.three_connected ListsThreeConnected (cosimple_part q) refl
+    ∙ skip_flag (is_kind 8) q.cosimple ListsCosimple (distinct_part q) refl
+    ∙ flag_test (is_kind 8) q.distinct ListsDistinct (has_part q) refl (none_pass (is_kind 8) (has_part q) (has_fails (is_kind 8) q (λ m. refl) refl))
+
+mode_kept : (mode : PrintMode) → (if list_any prints_counts (Prints mode ∷ []) then Counts else Forms) ≡ mode
+mode_kept Forms = refl
+mode_kept Counts = refl
+
+head_print : (q : Request) → (if list_any prints_counts (head_parts q) then Counts else Forms) ≡ q.print
+head_print q =
+    ap (λ (b : Bool). cond b Counts Forms)
+    (skip_forbids prints_counts q (λ m. refl)
+    ∙ skip_flag prints_counts q.connected ListsConnected (three_part q) refl
+    ∙ skip_flag prints_counts q.three_connected ListsThreeConnected (cosimple_part q) refl
+    ∙ skip_flag prints_counts q.cosimple ListsCosimple (distinct_part q) refl
+    ∙ skip_flag prints_counts q.distinct ListsDistinct (has_part q) refl
+    ∙ skip_test prints_counts (map ListsWith (option_to_list q.has)) (print_part q) (all_map (λ e. prints_counts e ≡ false) ListsWith (λ m. refl) (option_to_list q.has)))
+    ∙ mode_kept q.print
+
+head_asks : (q : Request) → AskFor (head_parts q) q
+head_asks q = record { rank = head_rank q; field = head_field q; size = head_size q; forbid = head_forbid q; connected = head_connected q; three_connected = head_three q; cosimple = head_cosimple q; distinct = head_distinct q; has = head_has q; print = head_print q }
+
+-- each kind stands in the head as often as it may
+abbrev kinds_bound : ℕ → ℕ
+kinds_bound kind = cond (0 == kind) 1 0 + (cond (2 == kind) 1 0 + (cond (1 == kind) 1 0 + (cond (3 == kind) 1 0 + (cond (4 == kind) 8 0 + (cond (5 == kind) 1 0 + (cond (6 == kind) 1 0 + (cond (7 == kind) 1 0 + (cond (8 == kind) 1 0 + (cond (9 == kind) 1 0 + cond (10 == kind) 1 0)))))))))
+
+kind_differs : (m n kind : ℕ) → m < kind → cond (m == kind) n 0 ≡ 0
+kind_differs m n kind lt = grind (arith, nat_tests)
+
+some_of_kind : (kind : ℕ) → 1 ≤ most_of_kind kind
+some_of_kind kind = grind (arith, nat_tests)
+
+-- there is none beyond the last kind
+no_kind : (kind : ℕ) → 10 < kind → kinds_bound kind ≤ most_of_kind kind
+no_kind kind lt =
+    omega (arith, some_of_kind kind, kind_differs 0 1 kind (omega arith), kind_differs 1 1 kind (omega arith), kind_differs 2 1 kind (omega arith), kind_differs 3 1 kind (omega arith), kind_differs 4 8 kind (omega arith), kind_differs 5 1 kind (omega arith), kind_differs 6 1 kind (omega arith), kind_differs 7 1 kind (omega arith), kind_differs 8 1 kind (omega arith), kind_differs 9 1 kind (omega arith), kind_differs 10 1 kind (omega arith))
+
+kinds_bound_small : (kind : ℕ) → kinds_bound kind ≤ most_of_kind kind
+kinds_bound_small zero = lit≤ tt
+kinds_bound_small (suc zero) = lit≤ tt
+kinds_bound_small (suc (suc zero)) = lit≤ tt
+kinds_bound_small (suc (suc (suc zero))) = lit≤ tt
+kinds_bound_small (suc (suc (suc (suc zero)))) = lit≤ tt
+kinds_bound_small (suc (suc (suc (suc (suc zero))))) = lit≤ tt
+kinds_bound_small (suc (suc (suc (suc (suc (suc zero)))))) = lit≤ tt
+kinds_bound_small (suc (suc (suc (suc (suc (suc (suc zero))))))) = lit≤ tt
+kinds_bound_small (suc (suc (suc (suc (suc (suc (suc (suc zero)))))))) = lit≤ tt
+kinds_bound_small (suc (suc (suc (suc (suc (suc (suc (suc (suc zero))))))))) = lit≤ tt
+kinds_bound_small (suc (suc (suc (suc (suc (suc (suc (suc (suc (suc zero)))))))))) = lit≤ tt
+kinds_bound_small (suc (suc (suc (suc (suc (suc (suc (suc (suc (suc (suc kind))))))))))) = no_kind (suc (suc (suc (suc (suc (suc (suc (suc (suc (suc (suc kind))))))))))) (omega arith)
+
+-- how many of a kind stand in a part
+where_count : (kind : ℕ) (b : Bool) (e : Entry) → count_of_kind kind (where_set b e) ≤ cond (kind_number e == kind) 1 0
+where_count kind true e = omega arith
+where_count kind false e = omega arith
+
+forbids_count : (kind : ℕ) (b : Bool) → (4 == kind) ≡ b → (ms : List Minor) → length ms ≤ 8 → count_of_kind kind (map Forbids ms) ≤ cond b 8 0
+forbids_count kind true is ms few = omega (arith, count_by-le-length (is_kind kind) (map Forbids ms), length-map ms Forbids)
+forbids_count kind false is [] few = omega arith
+forbids_count kind false is (m ∷ ms) few =
+    let one : of_kind kind (Forbids m) ≡ 0 = ap (λ (b : Bool). cond b 1 0) is in
+    omega (arith, one, count_cons kind (Forbids m) (map Forbids ms), forbids_count kind false is ms (omega arith))
+
+has_count : (kind : ℕ) (o : Option Minor) → count_of_kind kind (map ListsWith (option_to_list o)) ≤ cond (9 == kind) 1 0
+has_count kind None = omega arith
+has_count kind (Some m) = omega arith
+
+head_count : (q : Request) (kind : ℕ) → length q.forbid ≤ 8 → count_of_kind kind (head_parts q) ≤ kinds_bound kind
+head_count q kind few =
+    omega (arith, count_cons kind Version (FieldIs q.factors ∷ RankIs q.rank ∷ SizeIs q.size ∷ forbid_part q), count_cons kind (FieldIs q.factors) (RankIs q.rank ∷ SizeIs q.size ∷ forbid_part q), count_cons kind (RankIs q.rank) (SizeIs q.size ∷ forbid_part q), count_cons kind (SizeIs q.size) (forbid_part q), count_append kind (map Forbids q.forbid) (connected_part q), count_append kind (where_set q.connected ListsConnected) (three_part q), count_append kind (where_set q.three_connected ListsThreeConnected) (cosimple_part q), count_append kind (where_set q.cosimple ListsCosimple) (distinct_part q), count_append kind (where_set q.distinct ListsDistinct) (has_part q), count_append kind (map ListsWith (option_to_list q.has)) (print_part q), count_cons kind (Prints q.print) [], forbids_count kind (4 == kind) refl q.forbid few, where_count kind q.connected ListsConnected, where_count kind q.three_connected ListsThreeConnected, where_count kind q.cosimple ListsCosimple, where_count kind q.distinct ListsDistinct, has_count kind q.has)
+
+-- how many entries the head has
+where_length : (b : Bool) (e : Entry) → length (where_set b e) ≤ 1
+where_length true e = omega arith
+where_length false e = omega arith
+
+option_length : (o : Option Minor) → length (option_to_list o) ≤ 1
+option_length None = omega arith
+option_length (Some m) = omega arith
+
+head_length : (q : Request) → length q.forbid ≤ 8 → length (head_parts q) ≤ 64
+head_length q few =
+    omega (arith, length-map q.forbid Forbids, length-map (option_to_list q.has) ListsWith, option_length q.has, where_length q.connected ListsConnected, where_length q.three_connected ListsThreeConnected, where_length q.cosimple ListsCosimple, where_length q.distinct ListsDistinct, length-append (map Forbids q.forbid) (connected_part q), length-append (where_set q.connected ListsConnected) (three_part q), length-append (where_set q.three_connected ListsThreeConnected) (cosimple_part q), length-append (where_set q.cosimple ListsCosimple) (distinct_part q), length-append (where_set q.distinct ListsDistinct) (has_part q), length-append (map ListsWith (option_to_list q.has)) (print_part q))
+
+-- what a line of the head says is small, as it is in the lines of the text
+head_small : (entries : List Entry) (q : Request) → AllByRecursion IsSmall entries → AskFor entries q → AllByRecursion IsSmall (head_parts q)
+head_small entries q all asked =
+    let ranks = subst (λ (l : List ℕ). AllByRecursion IsSmall (map RankIs l)) asked.rank (values_kept IsSmall rank_in RankIs rank_made entries all) in
+    let fields = subst (λ (l : List (List ℕ)). AllByRecursion IsSmall (map FieldIs l)) asked.field (values_kept IsSmall field_in FieldIs field_made entries all) in
+    let sizes = subst (λ (l : List ℕ). AllByRecursion IsSmall (map SizeIs l)) asked.size (values_kept IsSmall size_in SizeIs size_made entries all) in
+    let forbids = subst (λ (l : List Minor). AllByRecursion IsSmall (map Forbids l)) asked.forbid (values_kept IsSmall forbidden_in Forbids forbidden_made entries all) in
+    let has = subst (λ (l : List Minor). AllByRecursion IsSmall (map ListsWith l)) asked.has (values_kept IsSmall wanted_in ListsWith wanted_made entries all) in (
+      record { may = tt; not_big = omega arith },
+      (
+        fields.0,
+        (
+          ranks.0,
+          (
+            sizes.0,
+            all_append IsSmall (map Forbids q.forbid) (connected_part q) forbids
+                (all_filters IsSmall q (record { may = tt; not_big = omega arith }) (record { may = tt; not_big = omega arith }) (record { may = tt; not_big = omega arith }) (record { may = tt; not_big = omega arith })
+                (all_has IsSmall q has (record { may = tt; not_big = omega arith }))),
+          ),
+        ),
+      ),
+    )
+
+-- at most eight minors are forbidden
+few_forbidden : (entries : List Entry) (q : Request) → AreInOrder entries → AskFor entries q → length q.forbid ≤ 8
+few_forbidden entries q in_order asked = omega (arith, forbidden_count entries, in_order.not_often forbid_kind, ap length asked.forbid)
+
+all_small : (entries : List Entry) → AllByRecursion IsEntry entries → AllByRecursion (λ entry. named_elements entry ≤ 10) entries → AllByRecursion IsSmall entries
+all_small [] may not_big = tt
+all_small (e ∷ entries) may not_big = (record { may = may.0; not_big = not_big.0 }, all_small entries may.1 not_big.1)
+
+-- The head of a request's listing, without its first line, stands for the request.
+pub head_stands : (text : List ℕ) (q : Request) → StandsFor text q → StandsFor (text_of_entries (head_entries q)) q
+head_stands text q s =
+    let few = few_forbidden s.entries q s.in_order s.asked in
+    let small = head_small s.entries q (all_small s.entries s.said.may s.in_order.not_big) s.asked in
+    subst (λ (es : List Entry). StandsFor (text_of_entries es) q) (parts_are q)
+    (small_stands (head_parts q) q small (head_length q few) (λ kind. omega (arith, head_count q kind few, kinds_bound_small kind)) (head_asks q) s.limits)

@@ -188,6 +188,7 @@ no_end (b ∷ bytes) all = (let h : 32 ≤ b = all.0 in grind (arith, nat_tests)
 text_at : (bytes : List ℕ) (i : ℕ) → AreText bytes → i < length bytes → 32 ≤ slice_index bytes i
 text_at bytes i all lt = All-from_recursion (λ b. 32 ≤ b) bytes all i 0 lt
 
+-- a line doesn't end with a byte 13
 not_return : (bytes : List ℕ) → AreText bytes → (slice_index bytes (length bytes - 1) == 13) ≡ false
 not_return [] all = refl
 not_return (b ∷ bytes) all = let h : 32 ≤ slice_index (b ∷ bytes) (length (b ∷ bytes) - 1) = text_at (b ∷ bytes) (length (b ∷ bytes) - 1) all (omega arith) in grind (arith, nat_tests)
