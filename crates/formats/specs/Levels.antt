@@ -10,9 +10,12 @@ use Rattle.formats.specs.Request.{Request}
 use Rattle.formats.specs.Minors.{given_as}
 use Rattle.formats.specs.Listing.{Form, LevelEntry, listing_blocks, text_of_blocks}
 
--- the columns of each factor
+-- the columns of one factor, and of each
+abbrev pub columns_of_factor : Rep → ℕ → List (List ℕ)
+columns_of_factor M f = map (column_of M f) (range_with_len 0 (size M))
+
 abbrev pub columns_of : Rep → Form
-columns_of M = map (λ f. map (column_of M f) (range_with_len 0 (size M))) (range_with_len 0 (count M))
+columns_of M = map (columns_of_factor M) (range_with_len 0 (count M))
 
 -- the matroids are those that are given so, one after another
 abbrev pub AreGivenBy : List Given → List Matroid → Type 0

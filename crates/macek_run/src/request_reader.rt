@@ -35,8 +35,7 @@ impl Model for Request {
 impl Request {
     /// The order of its one field.
     pub fn order(&self) -> u8
-        ensures order { self.now ≡ plain_request result self.now.rank self.now.size }
-        ensures limits { IsWithinLimits self.now }
+        ensures { self.now ≡ plain_request result self.now.rank self.now.size }
     {
         self.field.order()
     }
@@ -53,7 +52,8 @@ impl Request {
 
     /// The rank, from 1 to 6.
     pub fn rank(&self) -> u8
-        ensures { result ≡ self.now.rank }
+        ensures rank { result ≡ self.now.rank }
+        ensures limits { IsWithinLimits self.now }
     {
         self.rank
     }

@@ -1,8 +1,9 @@
-ghost use Rattle.std.specs.Prelude.{◌≡◌, ◌+◌, ◌*◌, ◌≤◌, ◌<◌, ◌++◌, length, map};
+ghost use Rattle.std.specs.Prelude.{◌≡◌, ◌+◌, ◌*◌, ◌≤◌, ◌<◌, ◌++◌, length, map, codes};
 ghost use Rattle.std.specs.List.{AllByRecursion, range_with_len, join_with_byte};
 ghost use Rattle.matroid_theory.specs.Rep.{count, size, column_of};
 ghost use Rattle.formats.specs.Entry.{column_word as word_of_codes};
-ghost use Rattle.formats.specs.Levels.{columns_of};
+ghost use Rattle.formats.specs.Levels.{columns_of, columns_of_factor};
+ghost use Rattle.formats.specs.Listing.{factor_text};
 ghost use Rattle.formats.specs.Listing as listing;
 
 use crate::lister::line::{Line, push_bytes};
@@ -53,18 +54,31 @@ fn push_words(line: &mut Line, words: &[Column])
     }
 }
 
+/// Appends the columns of one factor as words, after ` | ` where it isn't the first.
+fn push_factor(line: &mut Line, rep: &Rep, factor: usize)
+    requires factor { factor < count rep.now }
+    requires room { length line.old.items ≤ 115 * factor }
+    ensures first { factor ≡ 0 → line.new.items ≡ line.old.items ++ factor_text (columns_of_factor rep.now factor) }
+    ensures later { 0 < factor → line.new.items ≡ line.old.items ++ codes " | " ++ factor_text (columns_of_factor rep.now factor) }
+    ensures room { length line.new.items ≤ 115 * (factor + 1) }
+{
+    let _size = rep.size();
+    let words = factor_words(rep, factor);
+    if factor > 0 {
+        push_bytes(line, b" | ");
+    }
+    push_words(line, words.as_slice());
+}
+
 /// The line of a form: the columns of each factor as words, with ` | ` between two factors.
 #[tactic(auto, unfolding(formats::specs::Listing::form_text))]
 pub fn form_text(rep: &Rep) -> Line
     ensures { result.items ≡ listing.form_text (columns_of rep.now) }
 {
-    let count = rep.factors().count();
+    let factors = rep.factors();
     let mut line = ArrayVec::new();
-    for factor in 0..count {
-        if factor > 0 {
-            push_bytes(&mut line, b" | ");
-        }
-        push_words(&mut line, factor_words(rep, factor).as_slice());
+    for factor in 0..factors.count() {
+        push_factor(&mut line, rep, factor);
     }
     line.push(b'\n');
     line
