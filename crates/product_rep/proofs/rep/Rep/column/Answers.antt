@@ -4,18 +4,18 @@ use Rattle.std.proofs.lemmas.Option.{slice_get-get_or}
 use Rattle.matroid_theory.specs.Rep.{Rep, size}
 use Rattle.product_rep.specs.declared.rep.Rep.TheInside.{Inside}
 use Rattle.product_rep.specs.Pieces.{matrices, KeepsRep}
-use Rattle.product_rep.proofs.PiecesLemmas.{size-matrices, column_below, place_below, column-step, take-all}
+use Rattle.product_rep.proofs.PiecesLemmas.{size-matrices, column_below, place_within, column-step, take-all}
 use Rattle.product_rep.proofs.rep.Rep.column.Goals as goal
 
--- the place of a code, by the width that the function reads
-bound : (a : Inside) (j k w : ℕ) (codes : List ℕ) → KeepsRep a → w ≡ a.rank * length a.factors → codes ≡ a.codes.items → j < a.size → k < w → j * w + k < length codes
-bound a j k w codes h e d l m =
-    let p : j * w + k < a.size * w = place_below a.size w j k l m in
-    subst (λ (n : ℕ). j * w + k < n) (sym (ap (λ (xs : List ℕ). length xs) d ∙ h.full ∙ ap (λ (w : ℕ). a.size * w) (sym e))) p
+-- the codes of a column are among the codes, by the width that the function reads
+within : (a : Inside) (j w : ℕ) (codes : List ℕ) → KeepsRep a → w ≡ a.rank * length a.factors → codes ≡ a.codes.items → j < a.size → j * w + w ≤ length codes
+within a j w codes h e d l = subst (λ (n : ℕ). j * w + w ≤ n) (sym (ap (λ (xs : List ℕ). length xs) d ∙ h.full ∙ ap (λ (w : ℕ). a.size * w) (sym e))) (place_within a.size w j l)
 
 pub bounds-deref-j : goal.bounds-deref-j
 bounds-deref-j c =
-    bound c.self.inside c.args.j _ _ _ c.self.invariant (λ i. c.from.ensures i * c.count.ensures.count i) c.deref.ensures.0 (column_below _ _ _ c.self.view_is c.requires) c.loop-k-test.true
+    let b : c.args.j * (c.from.result * c.count.result) + c.from.result * c.count.result ≤ length c.deref.result.now
+    = within c.self.inside c.args.j _ _ c.self.invariant (λ i. c.from.ensures i * c.count.ensures.count i) c.deref.ensures.0 (column_below _ _ _ c.self.view_is c.requires) in
+    omega arith
 
 -- one more code, as the function reads it
 step : (a : Inside) (M : Rep) (j k w : ℕ) (codes column : List ℕ) → matrices a ≡ M → KeepsRep a → w ≡ a.rank * length a.factors → codes ≡ a.codes.items → j < size M → k < w → column ≡ take k (slice_index_or M.columns j []) → column ++ slice_index codes (j * w + k) ∷ [] ≡ take (k + 1) (slice_index_or M.columns j [])

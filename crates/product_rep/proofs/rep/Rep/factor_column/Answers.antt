@@ -4,19 +4,26 @@ use Rattle.std.proofs.lemmas.List.FromFn.{length-map-range_with_len}
 use Rattle.matroid_theory.specs.Rep.{Rep, size, count, matrix}
 use Rattle.product_rep.specs.declared.rep.Rep.TheInside.{Inside}
 use Rattle.product_rep.specs.Pieces.{matrices, KeepsRep}
-use Rattle.product_rep.proofs.PiecesLemmas.{column_below, place_below, factor_column-step}
+use Rattle.product_rep.proofs.PiecesLemmas.{column_below, place_within, place_below, factor_column-step}
 use Rattle.product_rep.proofs.rep.Rep.factor_column.Goals as goal
 
--- the place of a code, by the rank and the number of factors that the function reads
-bound : (a : Inside) (M : Rep) (i j f r c : ℕ) (codes : List ℕ) → matrices a ≡ M → KeepsRep a → r ≡ a.rank → c ≡ length a.factors → codes ≡ a.codes.items → j < size M → i < r → f < count M → (j * r + i) * c + f < length codes
-bound a M i j f r c codes v h e g d l m o =
-    let n : count M ≡ c = sym (g ∙ ap count v) in
-    let p : (j * r + i) * c + f < a.size * r * c = place_below (a.size * r) c (j * r + i) f (place_below a.size r j i (column_below a M j v l) m) (omega arith) in
+-- the number of factors, as the function reads it
+count_is : (a : Inside) (M : Rep) (c : ℕ) → matrices a ≡ M → c ≡ length a.factors → count M ≡ c
+count_is a M c v e = sym (e ∙ ap count v)
+
+-- the codes of a row of a column are among the codes, by the rank and the number of factors that the function reads
+within : (a : Inside) (M : Rep) (i j r c : ℕ) (codes : List ℕ) → matrices a ≡ M → KeepsRep a → r ≡ a.rank → c ≡ length a.factors → codes ≡ a.codes.items → j < size M → i < r → (j * r + i) * c + c ≤ length codes
+within a M i j r c codes v h e g d l m =
+    let p : (j * r + i) * c + c ≤ a.size * r * c = place_within (a.size * r) c (j * r + i) (place_below a.size r j i (column_below a M j v l) m) in
     let q : a.size * r * c ≡ a.size * (r * c) = omega arith in
-    subst (λ (n : ℕ). (j * r + i) * c + f < n) (q ∙ sym (ap (λ (xs : List ℕ). length xs) d ∙ h.full ∙ (λ t. a.size * (sym e t * sym g t)))) p
+    subst (λ (n : ℕ). (j * r + i) * c + c ≤ n) (q ∙ sym (ap (λ (xs : List ℕ). length xs) d ∙ h.full ∙ (λ t. a.size * (sym e t * sym g t)))) p
 
 pub bounds-deref-j : goal.bounds-deref-j
-bounds-deref-j c = bound c.self.inside _ c.loop-i.i c.args.j c.args.factor _ _ _ c.self.view_is c.self.invariant c.from-rank.ensures c.count-count.ensures.count c.deref.ensures.0 c.requires.column c.loop-i-test.true c.requires.factor
+bounds-deref-j c =
+    let b : (c.args.j * c.from-rank.result + c.loop-i.i) * c.count-count.result + c.count-count.result ≤ length c.deref.result.now
+    = within c.self.inside _ c.loop-i.i c.args.j _ _ _ c.self.view_is c.self.invariant c.from-rank.ensures c.count-count.ensures.count c.deref.ensures.0 c.requires.column c.loop-i-test.true in
+    let n : count c.args.self.now ≡ c.count-count.result = count_is _ _ _ c.self.view_is c.count-count.ensures.count in
+    omega arith
 
 -- there is room for one more code
 room : (f : ℕ → ℕ) (i r : ℕ) (column : List ℕ) → column ≡ map f (range_with_len 0 i) → i < r → r ≤ 6 → length column < 6
