@@ -25,6 +25,11 @@ plain_request order rank size = record {
   print = Forms;
 }
 
+-- the request is for the one level whose size is the rank
+pub record IsOneLevel (request : Request) : Type 0 where
+  pub order : ℕ
+  pub is : request ≡ plain_request order request.rank request.rank
+
 -- A built text is three lines, in this order, with one space in each.
 unfoldable pub built_text : ℕ → ℕ → List ℕ
 built_text order rank = text_of_entries (FieldIs (order ∷ []) ∷ RankIs rank ∷ SizeIs rank ∷ [])
