@@ -1,10 +1,10 @@
 -- The bytes of a built text, and its request.
-use Rattle.std.proofs.Common.{true, ◌≤◌, ◌≡◌, ◌∙◌, ℕ, zero, suc, ◌+◌, ◌<◌, List, [], ◌∷◌, ◌++◌, length, get_or, codes, ap, arith, refl, lit<}
+use Rattle.std.proofs.Common.{true, ◌≡◌, ◌∙◌, ℕ, zero, suc, ◌+◌, ◌<◌, List, [], ◌∷◌, ◌++◌, length, get_or, codes, ap, arith, refl, lit<}
 use Rattle.std.proofs.lemmas.Fmt.{decimal_digit}
 use Rattle.std.specs.Prelude.{Contains, slice_index_or}
 use Rattle.std.specs.Bool.{nat_lt}
 use borrow.Author.Tests.{ltb-true}
-use Rattle.matroid_theory.specs.Field.{IsOrder, orders}
+use Rattle.matroid_theory.specs.Field.{IsOrder}
 use Rattle.matroid_theory.proofs.FieldLaws.{by_order, all_below, all_below-at}
 use Rattle.formats.specs.Request.{Request, IsRank, IsWithinLimits, column_count}
 use Rattle.macek_run.specs.Built.{primes, built_text, plain_request, IsBuilt}

@@ -1,4 +1,4 @@
-use Rattle.std.proofs.Common.{◌≡◌, ◌∙◌, ap}
+use Rattle.std.proofs.Common.{◌∙◌, ap}
 use Rattle.macek_run.proofs.Levels.{unit_is_level}
 use Rattle.macek_run.proofs.run.first_form.Goals as goal
 

@@ -1,4 +1,4 @@
-use Rattle.std.proofs.Common.{◌≡◌, ◌<◌, ap, length, arith, lit<, sym, subst}
+use Rattle.std.proofs.Common.{◌<◌, ap, length, arith, lit<, sym, subst}
 use Rattle.std.proofs.lemmas.List.{map_push, length-map}
 use Rattle.std.proofs.lemmas.List.FromFn.{length-map-range_with_len, map-range_with_len_more}
 use Rattle.matroid_theory.specs.Rep.{column_of}

@@ -1,4 +1,4 @@
-use Rattle.std.proofs.Common.{◌≡◌, ◌∙◌, ℕ, List, length, ◌∷◌, [], ◌++◌, ap, sym, arith, map, codes}
+use Rattle.std.proofs.Common.{◌≡◌, ◌∙◌, ℕ, List, length, ◌∷◌, [], ◌++◌, ap, arith, map, codes}
 use Rattle.std.specs.List.{range_with_len}
 use Rattle.matroid_theory.specs.Rep.{count}
 use Rattle.formats.specs.Lines.{joined}

@@ -1,4 +1,4 @@
-use Rattle.std.proofs.Common.{◌≡◌, ◌∙◌, ℕ, List, ap, arith, map}
+use Rattle.std.proofs.Common.{◌≡◌, ◌∙◌, ap, arith, map}
 use Rattle.std.specs.List.{join_with_byte}
 use Rattle.formats.specs.Listing.{factor_text}
 use Rattle.formats.specs.Levels.{columns_of_factor}
