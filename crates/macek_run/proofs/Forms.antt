@@ -22,9 +22,9 @@ each_digit g a (suc n) h = (h a (omega arith), each_digit g (a + 1) n (λ i l. h
 pub column_digits : (M : Rep) → IsRep M → (f j : ℕ) → f < count M → j < size M → HasDigits (column_of M f j)
 column_digits M is_rep f j l m =
     each_digit (λ i. matrix M f i j) 0 M.rank (λ i n.
-      let small : order M f < 10 = order_small (order M f) (is_rep.shaped.orders f l) in
-      let below : matrix M f i j < order M f = is_rep.shaped.codes f i j l (omega arith) m in
-      omega arith)
+    let small : order M f < 10 = order_small (order M f) (is_rep.shaped.orders f l) in
+    let below : matrix M f i j < order M f = is_rep.shaped.codes f i j l (omega arith) m in
+    omega arith)
 
 joined-push : (between : List ℕ) (x : List ℕ) (xs : List (List ℕ)) (y : List ℕ) → joined between ((x ∷ xs) ++ y ∷ []) ≡ joined between (x ∷ xs) ++ between ++ y
 joined-push between x [] y = refl

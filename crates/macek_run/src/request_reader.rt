@@ -117,7 +117,9 @@ fn digit_at(text: &[u8], at: usize) -> u8
 
 // A built text has this many bytes, and its digits stand at these places.
 const BUILT_BYTES: usize = 22;
+
 const ORDER_AT: usize = 6;
+
 const RANK_AT: usize = 13;
 
 const MOST_RANK: u8 = 6;

@@ -9,7 +9,7 @@ use Rattle.macek_run.proofs.lister.form.factor_words.Goals as goal
 pub column_word-requires : goal.column_word-requires
 column_word-requires c =
     subst HasDigits (sym c.factor_column.ensures)
-      (column_digits c.args.rep.now c.size-size.ensures.is_rep c.args.factor c.loop-j.j c.requires (subst (λ n. c.loop-j.j < n) c.size-size.ensures.value c.loop-j-test.true))
+    (column_digits c.args.rep.now c.size-size.ensures.is_rep c.args.factor c.loop-j.j c.requires (subst (λ n. c.loop-j.j < n) c.size-size.ensures.value c.loop-j-test.true))
 
 pub push-requires : goal.push-requires
 push-requires c =
