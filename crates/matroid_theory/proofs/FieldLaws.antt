@@ -24,8 +24,9 @@ pub all_below-at : (n : ℕ) (p : ℕ → Bool) → all_below n p ≡ true → (
 all_below-at zero p h i l = absurd (omega arith)
 all_below-at (suc n) p h i l =
     elim (cases_lt i n) [
-      inl b ↦ all_below-at n p (both_right (p n) _ h) i b
-    | inr g ↦ (let e : i ≡ n = omega arith in rw e (both_left (p n) _ h)) ]
+      | inl b ↦ all_below-at n p (both_right (p n) _ h) i b
+      | inr g ↦ (let e : i ≡ n = omega arith in rw e (both_left (p n) _ h))
+    ]
 
 -- what holds at each order holds at every one
 pub by_order : (P : ℕ → Type 0) → P 2 → P 3 → P 4 → P 5 → P 7 → P 8 → P 9 → (q : ℕ) → IsOrder q → P q
@@ -116,14 +117,17 @@ poly-mod = by_order (λ q. (a : ℕ) → poly q (a % q) ≡ poly q a) (one 2) (o
   where
     one : (p a : ℕ) → digits p 1 (a % p) ≡ digits p 1 a
     one p a = ap (λ d. d ∷ []) (mod-mod a p)
+
     four : (a : ℕ) → digits 2 2 (a % 4) ≡ digits 2 2 a
     four a = let d0 : a % 4 % 2 ≡ a % 2 = omega arith in let d1 : a % 4 / 2 % 2 ≡ a / 2 % 2 = omega arith in λ i. d0 i ∷ d1 i ∷ []
+
     eight : (a : ℕ) → digits 2 3 (a % 8) ≡ digits 2 3 a
     eight a =
         let d0 : a % 8 % 2 ≡ a % 2 = omega arith in
         let d1 : a % 8 / 2 % 2 ≡ a / 2 % 2 = omega arith in
         let d2 : a % 8 / 2 / 2 % 2 ≡ a / 2 / 2 % 2 = omega arith in
         λ i. d0 i ∷ d1 i ∷ d2 i ∷ []
+
     nine : (a : ℕ) → digits 3 2 (a % 9) ≡ digits 3 2 a
     nine a = let d0 : a % 9 % 3 ≡ a % 3 = omega arith in let d1 : a % 9 / 3 % 3 ≡ a / 3 % 3 = omega arith in λ i. d0 i ∷ d1 i ∷ []
 
@@ -233,8 +237,9 @@ module _ (q : ℕ) (o : IsOrder q) where
   times_inverse-by : (a : ℕ) → a < q → a ≢ 0 → times q a (inverse q a) ≡ 1
   times_inverse-by a l n =
       elim (or_cases (a == 0) _ (both_right (nat_lt (inverse q a) q) _ (inverses-at a l))) [
-        inl z ↦ absurd (n (same z))
-      | inr e ↦ same e ]
+        | inl z ↦ absurd (n (same z))
+        | inr e ↦ same e
+      ]
 
   pub field_laws : IsField q
   field_laws = record {

@@ -38,6 +38,7 @@ same_codes M N s t e h = λ k. record { factors = ap (λ s. s.factors) e k; rank
   where
     sizes : size N ≡ size M
     sizes = ap (λ s. s.size) e
+
     columns : N.columns ≡ M.columns
     columns = ext_get_or [] N.columns M.columns sizes column
       where
@@ -46,6 +47,7 @@ same_codes M N s t e h = λ k. record { factors = ap (λ s. s.factors) e k; rank
           where
             l' : j < size M
             l' = subst (λ n. j < n) sizes l
+
             code : (k : ℕ) → k < length (slice_index_or N.columns j []) → slice_index (slice_index_or N.columns j []) k ≡ slice_index (slice_index_or M.columns j []) k
             code k m =
                 let n : length (slice_index_or N.columns j []) ≡ M.rank * count M = t.lengths j l ∙ ap (λ s. s.rank * length s.factors) e in
@@ -76,9 +78,9 @@ module _ (U : Rep) (shaped : IsShaped U) (standard : IsStandard U) (square : siz
   pub unit_only : (N : Rep) → IsShaped N → IsStandard N → shape N ≡ shape U → N ≡ U
   unit_only N t s e =
       same_codes U N shaped t e (λ f i j l m n.
-        let n' : j < U.rank = omega arith in
-        s.units f i j (subst (λ s. f < length s.factors) (sym e) l) (subst (λ s. i < s.rank) (sym e) m) (subst (λ s. j < s.rank) (sym e) n')
-        ∙ sym (standard.units f i j l m n'))
+      let n' : j < U.rank = omega arith in
+      s.units f i j (subst (λ s. f < length s.factors) (sym e) l) (subst (λ s. i < s.rank) (sym e) m) (subst (λ s. j < s.rank) (sym e) n')
+      ∙ sym (standard.units f i j l m n'))
 
   pub unit_form : (mode : Mode) → IsForm mode U
   unit_form mode = record {
@@ -93,7 +95,7 @@ module _ (U : Rep) (shaped : IsShaped U) (standard : IsStandard U) (square : siz
   all_independent : (f : ℕ) → f < count U → IsIndependentIn U f (λ _. true)
   all_independent f l =
       IsIndependent-same (order U f) U.rank (size U) (matrix U f) (λ j. nat_lt j U.rank) (λ _. true) (λ j m. lt-ltb j U.rank (below j m))
-        (units_independent (order U f) (field_laws (order U f) (shaped.orders f l)) U.rank (size U) (matrix U f) standard.room (λ i j m n. standard.units f i j l m n))
+      (units_independent (order U f) (field_laws (order U f) (shaped.orders f l)) U.rank (size U) (matrix U f) standard.room (λ i j m n. standard.units f i j l m n))
     where
       below : (j : ℕ) → j < size U → j < U.rank
       below j m = omega arith
@@ -132,9 +134,11 @@ module _ (U : Rep) (shaped : IsShaped U) (standard : IsStandard U) (square : siz
           avoids = avoids;
         };
       }
+
       there : (M : Rep) → Contains (U ∷ []) M → IsLevelForm q q.rank M
       there M (zero, l, e) = subst (IsLevelForm q q.rank) e member
       there M (suc k, l, e) = absurd (omega arith)
+
       back : (M : Rep) → IsLevelForm q q.rank M → Contains (U ∷ []) M
       back M h =
           let m = h.member in

@@ -22,11 +22,13 @@ pub shaped_pushed : (P : Rep) (v : List ℕ) → IsShaped P → IsProductColumn 
 shaped_pushed P v s c = record {
   orders = s.orders;
   lengths = λ j l. elim (cases_lt j (size P)) [
-      inl b ↦ ap (λ (c : List ℕ). length c) (get_or-append P.columns (v ∷ []) [] j b) ∙ s.lengths j b
+    | inl b ↦ ap (λ (c : List ℕ). length c) (get_or-append P.columns (v ∷ []) [] j b) ∙ s.lengths j b
     | inr g ↦ (let n : size (followed_by P v) ≡ suc (size P) = size_followed P v in let e : j ≡ size P = omega arith in
-        ap (λ j. length (slice_index_or (P.columns ++ v ∷ []) j [])) e ∙ ap (λ (c : List ℕ). length c) (get_or-append_seam P.columns v [] []) ∙ c.rows) ];
+        ap (λ j. length (slice_index_or (P.columns ++ v ∷ []) j [])) e ∙ ap (λ (c : List ℕ). length c) (get_or-append_seam P.columns v [] []) ∙ c.rows)
+  ];
   codes = λ f i j l m o. elim (cases_lt j (size P)) [
-      inl b ↦ subst (λ (x : ℕ). x < order P f) (sym (matrix_before P v f i j b)) (s.codes f i j l m b)
+    | inl b ↦ subst (λ (x : ℕ). x < order P f) (sym (matrix_before P v f i j b)) (s.codes f i j l m b)
     | inr g ↦ (let n : size (followed_by P v) ≡ suc (size P) = size_followed P v in let e : j ≡ size P = omega arith in
-        subst (λ (x : ℕ). x < order P f) (sym (ap (matrix (followed_by P v) f i) e ∙ matrix_last P v f i)) (c.codes i f m l)) ];
+        subst (λ (x : ℕ). x < order P f) (sym (ap (matrix (followed_by P v) f i) e ∙ matrix_last P v f i)) (c.codes i f m l))
+  ];
 }

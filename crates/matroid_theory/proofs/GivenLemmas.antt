@@ -13,14 +13,18 @@ given_unique given N other h g = λ i. record { rank = ranks i; size = sizes i; 
   where
     sizes : N.size ≡ other.size
     sizes = h.sizes ∙ sym g.sizes
+
     there : (X : ℕ) → Contains N.bases X → Contains other.bases X
     there X c = let e = h.exact X in let d = g.exact X in let b = e.0 c in d.1 (subst (λ (n : ℕ). X < 2 ^ n) sizes b.0, b.1)
+
     back : (X : ℕ) → Contains other.bases X → Contains N.bases X
     back X c = let e = h.exact X in let d = g.exact X in let b = d.0 c in e.1 (subst (λ (n : ℕ). X < 2 ^ n) (sym sizes) b.0, b.1)
+
     bases : N.bases ≡ other.bases
     bases =
         rising_unique (λ x y. x < y) (λ x l. absurd (omega arith)) (λ x y z l m. omega arith) N.bases other.bases
-          (AllPairs-from_increasing N.bases h.rising) (AllPairs-from_increasing other.bases g.rising) there back
+        (AllPairs-from_increasing N.bases h.rising) (AllPairs-from_increasing other.bases g.rising) there back
+
     ranks : N.rank ≡ other.rank
     ranks =
         let X = h.some in

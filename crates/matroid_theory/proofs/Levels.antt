@@ -53,7 +53,7 @@ rep_cmp-equal M N s e =
 pub rising_list_unique : (P : Rep → Type 0) (xs ys : List Rep) → IsRisingList P xs → IsRisingList P ys → xs ≡ ys
 rising_list_unique P xs ys h g =
     rising_unique (λ M N. rep_cmp M N ≡ Less) rep_cmp-irreflexive rep_cmp-transitive xs ys h.rising g.rising
-      (λ M m. let e = h.exact M in let d = g.exact M in d.1 (e.0 m)) (λ M m. let e = h.exact M in let d = g.exact M in e.1 (d.0 m))
+    (λ M m. let e = h.exact M in let d = g.exact M in d.1 (e.0 m)) (λ M m. let e = h.exact M in let d = g.exact M in e.1 (d.0 m))
 
 -- there is at most one number of tries
 pub count_unique : {X : Type 0} (P : X → Type 0) (n m : ℕ) → IsCount P n → IsCount P m → n ≡ m

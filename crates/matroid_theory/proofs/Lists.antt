@@ -33,12 +33,16 @@ module _ {X : Type 0} where
       heads : x ≡ y
       heads =
           elim (found y x ys (f x (here x xs))) [
-            inl e ↦ sym e
-          | inr p ↦ elim (found x y xs (b y (here y ys))) [
-              inl e ↦ e
-            | inr q ↦ absurd (apart x (chain x y x (first_pairs L x y xs h q) (first_pairs L y x ys g p))) ] ]
+            | inl e ↦ sym e
+            | inr p ↦ elim (found x y xs (b y (here y ys))) [
+              | inl e ↦ e
+              | inr q ↦ absurd (apart x (chain x y x (first_pairs L x y xs h q) (first_pairs L y x ys g p)))
+            ]
+          ]
+
       down : (z : X) → Contains xs z → Contains ys z
       down z m = elim (found y z ys (f z (there x z xs m))) [ inl e ↦ absurd (apart x (subst (L x) (sym (heads ∙ e)) (first_pairs L x z xs h m))) | inr p ↦ p ]
+
       up : (z : X) → Contains ys z → Contains xs z
       up z m = elim (found x z xs (b z (there y z ys m))) [ inl e ↦ absurd (apart y (subst (L y) (sym (sym heads ∙ e)) (first_pairs L y z ys g m))) | inr p ↦ p ]
 
@@ -53,6 +57,7 @@ module _ {X : Type 0} where
     where
       shorter : (ys : List X) (i : ℕ) → i < length ys → length (remove ys i) + 1 ≡ length ys
       shorter ys i l = grind (arith, common_steps)
+
       keep : (at : Contains ys x) → (z : X) → Contains xs z → Contains (remove ys at.0) z
       keep (i, l, e) z m =
           let (j, b, d) = f z (there x z xs m) in

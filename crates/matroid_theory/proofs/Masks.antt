@@ -41,12 +41,14 @@ pub members-mask : (n : ℕ) (S : ℕ → Bool) (j : ℕ) → j < n → members 
 members-mask zero S j l = absurd (omega arith)
 members-mask (suc n) S j l =
     elim (cases_lt j n) [
-      inl b ↦ ap (λ x. x == 1) (bit_at_cat_low (cond (S n) 1 0) n (mask n S) j b) ∙ members-mask n S j b
-    | inr g ↦ (let e : j ≡ n = omega arith in
-        ap (λ k. members (mask (suc n) S) k) e ∙ ap (λ x. x == 1) (bit_at_cat_high (cond (S n) 1 0) n (mask n S) n (mask-below n S) g') ∙ top (S n) ∙ ap S (sym e)) ]
+      | inl b ↦ ap (λ x. x == 1) (bit_at_cat_low (cond (S n) 1 0) n (mask n S) j b) ∙ members-mask n S j b
+      | inr g ↦ (let e : j ≡ n = omega arith in
+          ap (λ k. members (mask (suc n) S) k) e ∙ ap (λ x. x == 1) (bit_at_cat_high (cond (S n) 1 0) n (mask n S) n (mask-below n S) g') ∙ top (S n) ∙ ap S (sym e))
+    ]
   where
     g' : n ≤ n
     g' = omega arith
+
     top : (b : Bool) → (bit_at (cond b 1 0) (n - n) == 1) ≡ b
     top b = (let z : n - n ≡ 0 = omega arith in ap (λ k. bit_at (cond b 1 0) k == 1) z) ∙ (elim b as (λ b. (bit_at (cond b 1 0) 0 == 1) ≡ b) [ true ↦ refl | false ↦ refl ])
 

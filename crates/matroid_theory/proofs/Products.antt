@@ -15,8 +15,9 @@ any_below-at : (n : ℕ) (p : ℕ → Bool) → any_below n p ≡ true → (i : 
 any_below-at zero p h = cc
 any_below-at (suc n) p h =
     elim (or_cases (p n) _ h) [
-      inl e ↦ (n, omega arith, e)
-    | inr g ↦ (let r : (i : ℕ) × (i < n) × (p i ≡ true) = any_below-at n p g in (r.0, (let l = r.1 in omega arith), r.2)) ]
+      | inl e ↦ (n, omega arith, e)
+      | inr g ↦ (let r : (i : ℕ) × (i < n) × (p i ≡ true) = any_below-at n p g in (r.0, (let l = r.1 in omega arith), r.2))
+    ]
 
 some_factor-test : (q : ℕ) → IsOrder q → each_pair q (λ a b. any_below q (λ m. product_number q a b == multiple_number q (times q a b) m)) ≡ true
 unfolding times poly characteristic degree remainder modulus product_number multiple_number
@@ -37,11 +38,13 @@ product_exact q o a b c l m n = (only, (λ e. subst (IsProduct q a b) (sym e) so
     only d =
         let k = d.factor_below in
         elim (or_cases (not (product_number q a b == multiple_number q c d.factor)) _
-            (all_below-at q (λ m. not (product_number q a b == multiple_number q c m) || (c == times q a b))
-              (all_below-at q (λ c. all_below q (λ m. not (product_number q a b == multiple_number q c m) || (c == times q a b)))
-                (at_pair q (λ a b. all_below q (λ c. all_below q (λ m. not (product_number q a b == multiple_number q c m) || (c == times q a b)))) (only_product-test q o) a b l m) c n) d.factor k)) [
-          inl e ↦ absurd (no_way (product_number q a b == multiple_number q c d.factor) (eq-eqb _ _ d.equal) e)
-        | inr e ↦ eqb-true c (times q a b) e ]
+        (all_below-at q (λ m. not (product_number q a b == multiple_number q c m) || (c == times q a b))
+        (all_below-at q (λ c. all_below q (λ m. not (product_number q a b == multiple_number q c m) || (c == times q a b)))
+        (at_pair q (λ a b. all_below q (λ c. all_below q (λ m. not (product_number q a b == multiple_number q c m) || (c == times q a b)))) (only_product-test q o) a b l m) c n) d.factor k)) [
+          | inl e ↦ absurd (no_way (product_number q a b == multiple_number q c d.factor) (eq-eqb _ _ d.equal) e)
+          | inr e ↦ eqb-true c (times q a b) e
+        ]
+
     some : IsProduct q a b (times q a b)
     some =
         let r = any_below-at q (λ m. product_number q a b == multiple_number q (times q a b) m) (at_pair q (λ a b. any_below q (λ m. product_number q a b == multiple_number q (times q a b) m)) (some_factor-test q o) a b l m) in
@@ -64,5 +67,6 @@ sum_exact q o a b c l m n = (only, (λ e. subst (IsSum q a b) (sym e) some))
   where
     only : IsSum q a b c → c ≡ plus q a b
     only s = sym (eqb-true _ c (all_below-at q (λ c. number (characteristic q) (poly q c) == c) (number-test q o) c n)) ∙ ap (number (characteristic q)) s.equal
+
     some : IsSum q a b (plus q a b)
     some = record { equal = bytes_same (poly q (plus q a b)) _ (at_pair q (λ a b. bytes_eq (poly q (plus q a b)) (poly_plus (characteristic q) (poly q a) (poly q b))) (sum-test q o) a b l m) }

@@ -80,14 +80,15 @@ module _ (q : ℕ) (F : IsField q) where
   sum_one zero k f l c h = absurd (omega arith)
   sum_one (suc n) k f l c h =
       elim (cases_lt k n) [
-        inl b ↦ (let ne : n ≢ k = omega arith in
+        | inl b ↦ (let ne : n ≢ k = omega arith in
             ap (plus q (sum_below q n f)) (h n (omega arith) ne)
             ∙ plus_zero_right (sum_below q n f) (sum_below-code n f)
             ∙ sum_one n k f b c (λ j l'. h j (omega arith)))
-      | inr g ↦ (let e : n ≡ k = omega arith in
+        | inr g ↦ (let e : n ≡ k = omega arith in
             ap (λ x. plus q x (f n)) (sum_same n f (λ _. 0) (λ j l'. h j (omega arith) (omega arith)) ∙ sum_zero n)
             ∙ ap (λ x. plus q 0 (f x)) e
-            ∙ F.plus_zero (f k) c) ]
+            ∙ F.plus_zero (f k) c)
+      ]
 
   pub sum_times_right : (n : ℕ) (c : ℕ) (f : ℕ → ℕ) → sum_below q n (λ j. times q (f j) c) ≡ times q (sum_below q n f) c
   sum_times_right n c f =
@@ -101,6 +102,7 @@ module _ (q : ℕ) (F : IsField q) where
     where
       here : times q (unit i i) (a i) ≡ a i
       here = ap (λ b. times q (cond b 1 0) (a i)) (same_number i) ∙ F.times_one (a i) c
+
       other : (j : ℕ) → j < n → j ≢ i → times q (unit i j) (a j) ≡ 0
       other j _ ne = ap (λ b. times q (cond b 1 0) (a j)) (other_number i j (λ e. ne (sym e))) ∙ zero_times (a j)
 
@@ -108,11 +110,11 @@ module _ (q : ℕ) (F : IsField q) where
   pub combination-product : (n m : ℕ) (G H : Matrix) (a : ℕ → ℕ) (i : ℕ) → combination q n (product q m G H) a i ≡ combination q m G (combination q n H a) i
   combination-product n m G H a i =
       sum_same n (λ j. times q (sum_below q m (λ k. times q (G i k) (H k j))) (a j)) (λ j. sum_below q m (λ k. times q (times q (G i k) (H k j)) (a j)))
-        (λ j _. sym (sum_times_right m (a j) (λ k. times q (G i k) (H k j))))
+      (λ j _. sym (sum_times_right m (a j) (λ k. times q (G i k) (H k j))))
       ∙ sum_swap n m (λ j k. times q (times q (G i k) (H k j)) (a j))
       ∙ sum_same m (λ k. sum_below q n (λ j. times q (times q (G i k) (H k j)) (a j))) (λ k. times q (G i k) (combination q n H a k))
-        (λ k _. sum_same n (λ j. times q (times q (G i k) (H k j)) (a j)) (λ j. times q (G i k) (times q (H k j) (a j))) (λ j _. F.times_assoc (G i k) (H k j) (a j))
-          ∙ sum_times n (G i k) (λ j. times q (H k j) (a j)))
+      (λ k _. sum_same n (λ j. times q (times q (G i k) (H k j)) (a j)) (λ j. times q (G i k) (times q (H k j) (a j))) (λ j _. F.times_assoc (G i k) (H k j) (a j))
+      ∙ sum_times n (G i k) (λ j. times q (H k j) (a j)))
 
   pub combination-same : (n : ℕ) (A : Matrix) (a b : ℕ → ℕ) (i : ℕ) → ((j : ℕ) → j < n → a j ≡ b j) → combination q n A a i ≡ combination q n A b i
   combination-same n A a b i h = sum_same n (λ j. times q (A i j) (a j)) (λ j. times q (A i j) (b j)) (λ j l. ap (times q (A i j)) (h j l))
@@ -120,7 +122,7 @@ module _ (q : ℕ) (F : IsField q) where
   pub combination-scaled : (n : ℕ) (A : Matrix) (c : ℕ) (a : ℕ → ℕ) (i : ℕ) → combination q n A (λ j. times q c (a j)) i ≡ times q c (combination q n A a i)
   combination-scaled n A c a i =
       sum_same n (λ j. times q (A i j) (times q c (a j))) (λ j. times q c (times q (A i j) (a j)))
-        (λ j _. sym (F.times_assoc (A i j) c (a j)) ∙ ap (λ x. times q x (a j)) (F.times_comm (A i j) c) ∙ F.times_assoc c (A i j) (a j))
+      (λ j _. sym (F.times_assoc (A i j) c (a j)) ∙ ap (λ x. times q x (a j)) (F.times_comm (A i j) c) ∙ F.times_assoc c (A i j) (a j))
       ∙ sum_times n c (λ j. times q (A i j) (a j))
 
   -- G (H A) = A for inverse matrices, row by row

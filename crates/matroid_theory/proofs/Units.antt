@@ -10,8 +10,9 @@ module _ (q : ℕ) (F : IsField q) (r : ℕ) where
   units_only : (n : ℕ) (A : Matrix) → r ≤ n → ((i j : ℕ) → i < r → j < r → A i j ≡ unit i j) → (a : ℕ → ℕ) → AreCoefficients q n (λ j. nat_lt j r) a → ((i : ℕ) → i < r → combination q n A a i ≡ 0) → (j : ℕ) → j < n → a j ≡ 0
   units_only n A le u a c z j l =
       elim (cases_lt j r) [
-        inl b ↦ sym (picked j b) ∙ z j b
-      | inr g ↦ c.outside j l (le-ltb j r g) ]
+        | inl b ↦ sym (picked j b) ∙ z j b
+        | inr g ↦ c.outside j l (le-ltb j r g)
+      ]
     where
       picked : (i : ℕ) → i < r → combination q n A a i ≡ a i
       picked i b =
@@ -22,8 +23,9 @@ module _ (q : ℕ) (F : IsField q) (r : ℕ) where
           other : (j : ℕ) → j < n → j ≢ i → times q (A i j) (a j) ≡ 0
           other j m ne =
               elim (cases_lt j r) [
-                inl b' ↦ ap (λ x. times q x (a j)) (u i j b b' ∙ ap (λ b. cond b 1 0) (other_number i j (λ e. ne (sym e)))) ∙ zero_times q F (a j)
-              | inr g ↦ ap (times q (A i j)) (c.outside j m (le-ltb j r g)) ∙ times_zero q F (A i j) ]
+                | inl b' ↦ ap (λ x. times q x (a j)) (u i j b b' ∙ ap (λ b. cond b 1 0) (other_number i j (λ e. ne (sym e)))) ∙ zero_times q F (a j)
+                | inr g ↦ ap (times q (A i j)) (c.outside j m (le-ltb j r g)) ∙ times_zero q F (A i j)
+              ]
 
   -- the columns of a standard matrix below r are independent
   pub units_independent : (n : ℕ) (A : Matrix) → r ≤ n → ((i j : ℕ) → i < r → j < r → A i j ≡ unit i j) → IsIndependent q r n A (λ j. nat_lt j r)
