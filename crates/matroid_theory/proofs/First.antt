@@ -84,6 +84,7 @@ module _ (U : Rep) (shaped : IsShaped U) (standard : IsStandard U) (square : siz
 
   pub unit_form : (mode : Mode) → IsForm mode U
   unit_form mode = record {
+    shaped = shaped;
     standard = standard;
     least = λ N s e g.
         let p : N ≡ U = unit_only N e.takes.shaped s e.takes.same_shape in

@@ -1,4 +1,5 @@
--- Ranks of sets, separations and connectivity, in the first factor.
+-- Ranks of sets, separations and connectivity, in the first factor (Oxley, chapter 8).
+--     They are meant for a representation that agrees: all factors then have the same ranks, and the rank of all columns is that of the representation.
 use Rattle.std.specs.Prelude.{ℕ, ◌+◌, ◌<◌, ◌≤◌, Bool, not, ◌==◌, ◌||◌}
 use Rattle.matroid_theory.specs.Matrix.{size_below, IsRankOf}
 use Rattle.matroid_theory.specs.Rep.{Rep, size, order, matrix}

@@ -1,5 +1,5 @@
 -- Matroids that are given by all sets of so many elements, by the columns of a matrix, or as the dual of such a matroid.
---     Oxley, section 1.1 (uniform and vector matroids) and section 2.1 (duals).
+--     Oxley, chapter 1 (uniform and vector matroids) and chapter 2 (duals).
 use Rattle.std.specs.Prelude.{ℕ, ◌<◌, ◌^◌, ◌≡◌, ◌↔◌, List, [], length, Bool, true, not, slice_index, slice_index_or}
 use Rattle.std.specs.List.{Contains}
 use Rattle.std.specs.List.Sorted.{IsStrictlyIncreasing}

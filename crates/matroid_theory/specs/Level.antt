@@ -1,8 +1,9 @@
 -- Members, levels, what is listed, and tries.
+--     Every representation that is spoken of here is a member, so it is shaped and its factors agree.
 use Rattle.std.specs.Prelude.{ℕ, ◌+◌, ◌*◌, ◌<◌, ◌≡◌, ◌≢◌, ◌↔◌, List, [], ◌∷◌, ◌++◌, length, slice_index, Bool, IsTrue, Option, IfSome}
 use Rattle.std.specs.List.{All, AllPairs, Contains}
 use Rattle.std.specs.declared.cmp.Ordering.TheVariants.{Less}
-use Rattle.matroid_theory.specs.Rep.{Rep, IsShaped, size}
+use Rattle.matroid_theory.specs.Rep.{Rep, IsShaped, IsProductColumn, size}
 use Rattle.matroid_theory.specs.Matroid.{Agrees, IsSimple}
 use Rattle.matroid_theory.specs.declared.Mode.{Mode}
 use Rattle.matroid_theory.specs.Move.{AreEquivalent}
@@ -62,6 +63,7 @@ IsListed q n filters forms = IsRisingList (λ M. IsLevelForm q n M × Passes q n
 
 -- a column of all factors is normalised: it isn't zero, all factors have the same support, and its first nonzero entry is 1 in every factor
 pub record IsNormalised (factors : List ℕ) (rank : ℕ) (v : List ℕ) : Type 0 where
+  pub is_column : IsProductColumn factors rank v
   pub lead : ℕ
   pub lead_below : lead < rank
   pub zeros : (i f : ℕ) → i < lead → f < length factors → slice_index v (i * length factors + f) ≡ 0

@@ -9,7 +9,7 @@ pub mod laws;
 /// Which moves make representations equivalent.
 #[derive(Clone, Copy, Debug, PartialEq, Eq)]
 pub enum Mode {
-    /// Row operations, column scalars and a relabelling (Oxley, section 6.3).
+    /// Row operations, column scalars and a relabelling (Oxley, chapter 6).
     Linear,
     /// These, and a field automorphism for each factor.
     Semilinear,
