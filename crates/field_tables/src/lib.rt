@@ -14,3 +14,6 @@ pub type Mask = u16;
 
 /// One column of one factor, from row 0: at most 6 codes.
 pub type Column = ArrayVec<u8, 6>;
+
+#[cfg(test)]
+mod tests;
