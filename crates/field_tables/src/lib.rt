@@ -5,9 +5,8 @@
 mod field;
 mod tables;
 
-pub use field::Field;
-
 use arrayvec::ArrayVec;
+pub use field::Field;
 
 /// A set of columns: bit j stands for column j.
 pub type Mask = u16;

@@ -10,7 +10,11 @@ fn compare_products(rt: &impl Abort, field: Field, rows: &[&[u8]]) {
         let row = rows[usize::from(a) - 2];
         assert_eq!(rt; row.len(), rows.len(), "the row of {a} over {q}");
         for b in 2..q {
-            assert_eq!(rt; field.mul(a, b), row[usize::from(b) - 2], "{a} times {b} over {q}");
+            assert_eq!(rt;
+                field.mul(a, b),
+                row[usize::from(b) - 2],
+                "{a} times {b} over {q}"
+            );
         }
     }
 }
@@ -51,7 +55,14 @@ fn products(rt: HostRuntime) -> Result<(), Fail> {
 
 #[test]
 fn orders_and_degrees(rt: HostRuntime) {
-    let table = [(2, Some(1)), (4, Some(2)), (8, Some(3)), (9, Some(2)), (6, None), (11, None)];
+    let table = [
+        (2, Some(1)),
+        (4, Some(2)),
+        (8, Some(3)),
+        (9, Some(2)),
+        (6, None),
+        (11, None),
+    ];
     for (q, degree) in table {
         assert_eq!(rt; Field::of(q).map(|field| field.degree()), degree, "at {q}");
     }
