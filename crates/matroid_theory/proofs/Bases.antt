@@ -1,12 +1,12 @@
 -- Each set of columns has one rank; independent sets can be augmented, and sets of one size exchange elements.
-use Rattle.std.proofs.Common.{◌≡◌, ◌≢◌, ℕ, zero, suc, ◌+◌, ◌^◌, ◌<◌, ◌≤◌, refl, sym, ◌∙◌, ap, subst, arith, cond, Bool, true, false, inl, inr, ◌⊎◌, below_more, ◌||◌}
+use Rattle.std.proofs.Common.{◌≡◌, ◌≢◌, ℕ, zero, suc, ◌+◌, ◌^◌, ◌<◌, ◌≤◌, refl, sym, ◌∙◌, ap, subst, arith, cond, Bool, true, false, inl, inr, ◌⊎◌, ◌||◌}
 use Rattle.std.specs.Bool.{◌==◌}
 use Rattle.std.proofs.lemmas.Bool.{cases_lt, cases_eq, cases_Bool}
 use mathlib.Core.Bool.{true≢false}
 use Rattle.matroid_theory.specs.Field.{plus, times, negative, inverse, IsField}
 use Rattle.matroid_theory.specs.Matrix.{Matrix, sum_below, combination, product, unit, size_below, AreCoefficients, IsIndependent, IsIndependentPart, IsRankOf}
 use Rattle.matroid_theory.specs.Matroid.{members}
-use Rattle.matroid_theory.proofs.Sums.{zero_below, combination-product, combination-same, combination-scaled, sum_same, sum_zero, sum_below-code, times_zero, same_number, other_number}
+use Rattle.matroid_theory.proofs.Sums.{zero_below, plus_zero_right, combination-product, combination-same, combination-scaled, sum_same, sum_zero, sum_below-code, times_zero, zero_times, same_number, other_number}
 use Rattle.matroid_theory.proofs.Steps.{cleared_entry}
 use Rattle.matroid_theory.proofs.Dimension.{independent_bound, unit_code, times_unit_column, combination_plus}
 use Rattle.matroid_theory.proofs.Masks.{mask, mask-below, members-mask, size-same, IsIndependent-same, by_masks}
@@ -22,7 +22,7 @@ search_below (suc n) P Q h =
       inl p ↦ inl (n, omega arith, p)
     | inr z ↦ elim (search_below n P Q (λ j l. h j (omega arith))) [
         inl w ↦ inl (w.0, (let l = w.1 in omega arith), w.2)
-      | inr y ↦ inr (below_more n Q y z) ] ]
+      | inr y ↦ inr (λ j l. elim (cases_lt j n) [ inl b ↦ y j b | inr g ↦ (let e : n ≡ j = omega arith in subst Q e z) ]) ] ]
 
 -- ---- sizes
 
@@ -155,3 +155,132 @@ module _ (q : ℕ) (F : IsField q) (r n : ℕ) (A : Matrix) (codes : (i j : ℕ)
 
   pub rank_exists : (S : ℕ → Bool) → (k : ℕ) × IsRankOf q r n A S k
   rank_exists S = rank_from S n (λ m I p. (let l : size_below n I ≤ n = size_most n I in let e : size_below n I ≡ m = p.elements in omega arith))
+
+  -- ---- augmentation
+
+  -- column e is a combination of the columns in I
+  abbrev Spanned : (ℕ → Bool) → ℕ → Type 0
+  Spanned I e = (x : ℕ → ℕ) × AreCoefficients q n I x × ((i : ℕ) → i < r → combination q n A x i ≡ A i e)
+
+  -- a column in I, by itself
+  spanned_own : (I : ℕ → Bool) (e : ℕ) → e < n → I e ≡ true → Spanned I e
+  spanned_own I e l t =
+      ( (λ k. unit k e)
+      , record {
+          codes = λ k _. unit_code q F k e;
+          outside = λ k m f. ap (λ b. cond b 1 0) (other_number k e (λ i. true≢false (sym t ∙ ap I (sym i) ∙ f)));
+        }
+      , (λ i m. times_unit_column q F n A i e l (codes i e m l)) )
+
+  -- the coefficient of e in a relation of I with e isn't 0
+  relation_at : (I : ℕ → Bool) (e : ℕ) → e < n → IsIndependent q r n A I → (w : Relation q r n A (with_element e I)) → w.a e ≢ 0
+  relation_at I e l h w z = w.nonzero (h.only_zero w.a (record { codes = w.coefficients.codes; outside = out }) w.zero_combination w.at w.at_below)
+    where
+      out : (j : ℕ) → j < n → I j ≡ false → w.a j ≡ 0
+      out j m f = elim (cases_eq j e) [
+          inl i ↦ ap w.a i ∙ z
+        | inr i ↦ w.coefficients.outside j m (with_other e I j i ∙ f) ]
+
+  -- a column that makes I dependent, from the relation divided by its coefficient
+  spanned_related : (I : ℕ → Bool) (e : ℕ) → e < n → IsIndependent q r n A I → Relation q r n A (with_element e I) → Spanned I e
+  spanned_related I e l h w =
+      ( x
+      , record { codes = λ j _. F.plus_below _ _; outside = out }
+      , (λ i m. combination_plus q F n A (λ j. unit j e) (λ j. times q t (w.a j)) i
+          ∙ (λ k. plus q (times_unit_column q F n A i e l (codes i e m l) k) ((combination-scaled q F n A t w.a i ∙ ap (times q t) (w.zero_combination i m) ∙ times_zero q F t) k))
+          ∙ plus_zero_right q F (A i e) (codes i e m l)) )
+    where
+      t : ℕ
+      t = negative q (times q 1 (inverse q (w.a e)))
+      x : ℕ → ℕ
+      x j = plus q (unit j e) (times q t (w.a j))
+      out : (j : ℕ) → j < n → I j ≡ false → x j ≡ 0
+      out j m f = elim (cases_eq j e) [
+          inl i ↦ ap x i ∙ ap (λ b. plus q (cond b 1 0) (times q t (w.a e))) (same_number e)
+              ∙ cleared_entry q F 1 (w.a e) F.two (w.coefficients.codes e l) (relation_at I e l h w)
+        | inr i ↦ (λ k. plus q (cond (other_number j e i k) 1 0) ((ap (times q t) (w.coefficients.outside j m (with_other e I j i ∙ f)) ∙ times_zero q F t) k)) ∙ F.plus_zero 0 (zero_below q F) ]
+
+  -- independent columns that are all combinations of the columns in I are at most as many: X e has the coefficients of column e
+  module _ (I J : ℕ → Bool) (h : IsIndependent q r n A J) (X : ℕ → ℕ → ℕ)
+    (X_in : (e : ℕ) → e < n → J e ≡ true → AreCoefficients q n I (X e))
+    (X_is : (e : ℕ) → e < n → J e ≡ true → (i : ℕ) → i < r → combination q n A (X e) i ≡ A i e) where
+
+    -- the coefficients as a matrix, with a column for each one in J
+    abbrev coefficients : Matrix
+    coefficients k l = X (pick n J l) k
+
+    at_column : (l : ℕ) → l < size_below n J → AreCoefficients q n I (X (pick n J l))
+    at_column l m = let p : Picks n J (pick n J) = pick_picks n J in X_in (pick n J l) (p.below l m) (p.member l m)
+
+    -- A_J a = A (X a), and X a is 0
+    picked_combination : (a : ℕ → ℕ) → ((i : ℕ) → i < size_below n I → combination q (size_below n J) (λ i l. coefficients (pick n I i) l) a i ≡ 0) → (i : ℕ) → i < r → combination q (size_below n J) (λ i l. A i (pick n J l)) a i ≡ 0
+    picked_combination a z i m =
+        sum_same q F (size_below n J) (λ l. times q (A i (pick n J l)) (a l)) (λ l. times q (product q n A coefficients i l) (a l)) (λ l o. ap (λ y. times q y (a l)) (sym (X_is (pick n J l) (p.below l o) (p.member l o) i m)))
+        ∙ combination-product q F (size_below n J) n A coefficients a i
+        ∙ combination_zero q F n A (combination q (size_below n J) coefficients a) i row
+      where
+        p : Picks n J (pick n J)
+        p = pick_picks n J
+        c : Picks n I (pick n I)
+        c = pick_picks n I
+        row : (k : ℕ) → k < n → combination q (size_below n J) coefficients a k ≡ 0
+        row k o = elim (cases_Bool (I k)) [
+            inl t ↦ ap (combination q (size_below n J) coefficients a) (sym (c.place k o t)) ∙ z (size_below k I) (size_grows k n I o t)
+          | inr f ↦ sum_same q F (size_below n J) (λ l. times q (coefficients k l) (a l)) (λ _. 0) (λ l u. ap (λ y. times q y (a l)) ((at_column l u).outside k o f) ∙ zero_times q F (a l)) ∙ sum_zero q F (size_below n J) ]
+
+    combinations_bound : size_below n J ≤ size_below n I
+    combinations_bound =
+        independent_bound q F (size_below n J) (size_below n I) (λ i l. coefficients (pick n I i) l) (λ i l o u. (at_column l u).codes (pick n I i) ((pick_picks n I).below i o))
+          (record { only_zero = λ a c z. (set_independent q F J (pick n J) r n A (pick_picks n J) h).only_zero a c (picked_combination a z) })
+
+  spanned_bound : (I J : ℕ → Bool) → IsIndependent q r n A J → ((e : ℕ) → e < n → J e ≡ true → Spanned I e) → size_below n J ≤ size_below n I
+  spanned_bound I J h s = combinations_bound I J h (λ e. (chosen e).0) (λ e l t. ((chosen e).1 l t).0) (λ e l t. ((chosen e).1 l t).1)
+    where
+      chosen : (e : ℕ) → (x : ℕ → ℕ) × (e < n → J e ≡ true → AreCoefficients q n I x × ((i : ℕ) → i < r → combination q n A x i ≡ A i e))
+      chosen e =
+          elim (cases_lt e n) [
+            inr g ↦ ((λ _. 0), (λ l _. absurd (omega arith)))
+          | inl l ↦ elim (cases_Bool (J e)) [
+              inr f ↦ ((λ _. 0), (λ _ t. absurd (true≢false (sym t ∙ f))))
+            | inl t ↦ (let w = s e l t in (w.0, (λ _ _. (w.1, w.2)))) ] ]
+
+  -- (I3): an independent set of fewer elements than another one can take one of its elements
+  pub augmentation : (I J : ℕ → Bool) → IsIndependent q r n A I → IsIndependent q r n A J → size_below n I < size_below n J
+    → (e : ℕ) × (e < n) × (J e ≡ true) × (I e ≡ false) × IsIndependent q r n A (with_element e I)
+  augmentation I J h g l =
+      elim (search_below n (λ e. (J e ≡ true) × (I e ≡ false) × IsIndependent q r n A (with_element e I)) (λ e. J e ≡ true → Spanned I e) case) [
+        inl w ↦ (w.0, w.1, w.2.0, w.2.1, w.2.2)
+      | inr s ↦ (let b : size_below n J ≤ size_below n I = spanned_bound I J g s in absurd (omega arith)) ]
+    where
+      case : (e : ℕ) → e < n → ((J e ≡ true) × (I e ≡ false) × IsIndependent q r n A (with_element e I)) ⊎ (J e ≡ true → Spanned I e)
+      case e m =
+          elim (cases_Bool (I e)) [
+            inl t ↦ inr (λ _. spanned_own I e m t)
+          | inr f ↦ elim (decided q F r n A codes (with_element e I)) [
+              inr w ↦ inr (λ _. spanned_related I e m h w)
+            | inl d ↦ elim (cases_Bool (J e)) [ inl t ↦ inl (t, f, d) | inr o ↦ inr (λ t. absurd (true≢false (sym t ∙ o))) ] ] ]
+
+  -- (B2): of two independent sets within S of one size, the first can have an element exchanged for one of the second
+  pub exchange : (S : ℕ → Bool) (k : ℕ) (B D : ℕ → Bool) → IsIndependentPart q r n A S k B → IsIndependentPart q r n A S k D → (x : ℕ) → x < n → B x ≡ true → D x ≡ false
+    → (y : ℕ) × (y < n) × (D y ≡ true) × (B y ≡ false) × IsIndependentPart q r n A S k (with_element y (but x B))
+  exchange S k B D b d x l t f =
+      let s : size_below n (but x B) + 1 ≡ size_below n B = size_but x n B l t in
+      let e : size_below n B ≡ k = b.elements in
+      let e' : size_below n D ≡ k = d.elements in
+      let w = augmentation (but x B) D (smaller_independent q r n A (but x B) B down b.independent) d.independent (omega arith) in
+      let (y, m, ty, fy, h) = w in
+      let ne : y ≢ x = λ i. true≢false (sym ty ∙ ap D i ∙ f) in
+      let z : size_below n (with_element y (but x B)) ≡ size_below n (but x B) + 1 = size_with y n (but x B) m fy in
+      (y, m, ty, sym (but_other x B y ne) ∙ fy, record { within = within y ty; elements = z ∙ s ∙ e; independent = h })
+    where
+      down : (j : ℕ) → j < n → B j ≡ false → but x B j ≡ false
+      down j m g = elim (j == x) as (λ c. cond c false (B j) ≡ false) [ true ↦ refl | false ↦ g ]
+      within : (y : ℕ) → D y ≡ true → (j : ℕ) → j < n → with_element y (but x B) j ≡ true → S j ≡ true
+      within y ty j m o = elim (cases_eq j y) [
+          inl i ↦ d.within j m (ap D i ∙ ty)
+        | inr i ↦ b.within j m (elim (cases_Bool (B j)) [ inl u ↦ u | inr g ↦ absurd (true≢false (sym o ∙ with_other y (but x B) j i ∙ down j m g)) ]) ]
+
+  -- independent columns in a set are at most as many as the rows
+  pub set_bound : (S : ℕ → Bool) → IsIndependent q r n A S → size_below n S ≤ r
+  set_bound S h =
+      independent_bound q F (size_below n S) r (λ i l. A i (pick n S l)) (λ i l m o. codes i (pick n S l) m ((pick_picks n S).below l o)) (set_independent q F S (pick n S) r n A (pick_picks n S) h)
