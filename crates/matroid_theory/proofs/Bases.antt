@@ -1,5 +1,5 @@
 -- Each set of columns has one rank; independent sets can be augmented, and sets of one size exchange elements.
-use Rattle.std.proofs.Common.{◌≡◌, ◌≢◌, ℕ, zero, suc, ◌+◌, ◌^◌, ◌<◌, ◌≤◌, refl, sym, ◌∙◌, ap, subst, arith, cond, Bool, true, false, inl, inr, ◌⊎◌, ◌||◌}
+use Rattle.std.proofs.Common.{◌≡◌, ◌≢◌, ℕ, zero, suc, ◌+◌, ◌^◌, ◌<◌, ◌≤◌, refl, sym, ◌∙◌, ap, subst, arith, cond, Bool, true, false, inl, inr, ◌⊎◌, ◌&&◌, ◌||◌, not}
 use Rattle.std.specs.Bool.{◌==◌}
 use Rattle.std.proofs.lemmas.Bool.{cases_lt, cases_eq, cases_Bool}
 use mathlib.Core.Bool.{true≢false}
@@ -55,6 +55,10 @@ size_with e n I l f =
         inl i ↦ ap (but e (with_element e I)) i ∙ but_own e (with_element e I) ∙ sym f ∙ ap I (sym i)
       | inr i ↦ but_other e (with_element e I) j i ∙ with_other e I j i ]
 
+-- a set with y for x, as a test
+pub exchanged_set : (x y : ℕ) (B : ℕ → Bool) (j : ℕ) → with_element y (but x B) j ≡ ((j == y) || (not (j == x) && B j))
+exchanged_set x y B j = elim (j == x) as (λ c. ((j == y) || cond c false (B j)) ≡ ((j == y) || (not c && B j))) [ true ↦ refl | false ↦ refl ]
+
 -- ---- the members of a set in order
 
 abbrev pub pick : ℕ → (ℕ → Bool) → ℕ → ℕ
@@ -103,6 +107,7 @@ rank_unique q r n A S k l h g =
     let b : l ≤ k = (let (I, p) = g.reached in h.greatest l I p) in
     omega arith
 
+-- the same parts, for sets with the same numbers
 pub part-same : (q r n : ℕ) (A : Matrix) (S : ℕ → Bool) (k : ℕ) (I J : ℕ → Bool) → ((j : ℕ) → j < n → I j ≡ J j) → IsIndependentPart q r n A S k I → IsIndependentPart q r n A S k J
 part-same q r n A S k I J h p = record {
   within = λ j l t. p.within j l (h j l ∙ t);
@@ -110,7 +115,10 @@ part-same q r n A S k I J h p = record {
   independent = IsIndependent-same q r n A I J h p.independent;
 }
 
--- a part of an independent set is independent
+-- no column is independent, and a part of an independent set is
+pub empty_independent : (q r n : ℕ) (A : Matrix) → IsIndependent q r n A (λ _. false)
+empty_independent q r n A = record { only_zero = λ a c z j l. c.outside j l refl }
+
 pub smaller_independent : (q r n : ℕ) (A : Matrix) (S T : ℕ → Bool) → ((j : ℕ) → j < n → T j ≡ false → S j ≡ false) → IsIndependent q r n A T → IsIndependent q r n A S
 smaller_independent q r n A S T down h = record { only_zero = λ a c z. h.only_zero a (record { codes = c.codes; outside = λ j l f. c.outside j l (down j l f) }) z }
 
@@ -142,7 +150,7 @@ module _ (q : ℕ) (F : IsField q) (r n : ℕ) (A : Matrix) (codes : (i j : ℕ)
   none_part S = record {
     within = λ j l t. absurd (true≢false (sym t));
     elements = size_none n;
-    independent = record { only_zero = λ a c z j l. c.outside j l refl };
+    independent = empty_independent q r n A;
   }
 
   rank_from : (S : ℕ → Bool) (k : ℕ) → ((m : ℕ) (I : ℕ → Bool) → IsIndependentPart q r n A S m I → m ≤ k) → (k : ℕ) × IsRankOf q r n A S k
@@ -279,6 +287,18 @@ module _ (q : ℕ) (F : IsField q) (r n : ℕ) (A : Matrix) (codes : (i j : ℕ)
       within y ty j m o = elim (cases_eq j y) [
           inl i ↦ d.within j m (ap D i ∙ ty)
         | inr i ↦ b.within j m (elim (cases_Bool (B j)) [ inl u ↦ u | inr g ↦ absurd (true≢false (sym o ∙ with_other y (but x B) j i ∙ down j m g)) ]) ]
+
+  -- an independent set within S that no column in S can be added to has as many elements as the rank
+  pub greatest_part : (S : ℕ → Bool) (k m : ℕ) (B : ℕ → Bool) → IsRankOf q r n A S k → IsIndependentPart q r n A S m B
+    → ((e : ℕ) → e < n → S e ≡ true → B e ≡ false → ¬ (IsIndependent q r n A (with_element e B))) → m ≡ k
+  greatest_part S k m B h b none =
+      elim (cases_lt m k) [
+        inr g ↦ (let l : m ≤ k = h.greatest m B b in omega arith)
+      | inl l ↦ (let (D, d) = h.reached in
+          let e : size_below n B ≡ m = b.elements in
+          let e' : size_below n D ≡ k = d.elements in
+          let (y, o, t, f, i) = augmentation B D b.independent d.independent (omega arith) in
+          absurd (none y o (d.within y o t) f i)) ]
 
   -- independent columns in a set are at most as many as the rows
   pub set_bound : (S : ℕ → Bool) → IsIndependent q r n A S → size_below n S ≤ r
