@@ -18,9 +18,11 @@ module _ (q : ℕ) (F : IsField q) where
 
     -- columns that are independent in A are so in G A, for an invertible G
     pub independent_product : (H : Matrix) → AreInverse q r G H → (S : ℕ → Bool) → IsIndependent q r n A S → IsIndependent q r n (product q r G A) S
-    independent_product H v S h = record { only_zero = λ a c z. h.only_zero a c (λ i l.
-        sym (inverse-undoes q F r H G (turned q F r G H v) (combination q n A a) i l (sum_below-code q F n _))
-        ∙ combination_zero r H (combination q r G (combination q n A a)) i (λ k m. sym (combination-product q F n r G A a k) ∙ z k m)) }
+    independent_product H v S h = record {
+      only_zero = λ a c z. h.only_zero a c (λ i l.
+          sym (inverse-undoes q F r H G (turned q F r G H v) (combination q n A a) i l (sum_below-code q F n _))
+          ∙ combination_zero r H (combination q r G (combination q n A a)) i (λ k m. sym (combination-product q F n r G A a k) ∙ z k m));
+    }
 
     part_product : (H : Matrix) → AreInverse q r G H → (S : ℕ → Bool) (k : ℕ) (I : ℕ → Bool) → IsIndependentPart q r n A S k I → IsIndependentPart q r n (product q r G A) S k I
     part_product H v S k I p = record { within = p.within; elements = p.elements; independent = independent_product H v I p.independent }

@@ -63,7 +63,7 @@ pub fn independence_of_columns()
         ((i j : ℕ) → i < r → j < n → A i j < q) →
         IsIndependentPart q r n A S k B → IsIndependentPart q r n A S k D → x < n → B x ≡ true → D x ≡ false →
         (y : ℕ) × (y < n) × (D y ≡ true) × (B y ≡ false) ×
-            IsIndependentPart q r n A S k (λ j. (j == y) || (not (j == x) && B j)) }
+        IsIndependentPart q r n A S k (λ j. (j == y) || (not (j == x) && B j)) }
     ensures greatest { (q r n k m : ℕ) (A : Matrix) (S B : ℕ → Bool) → IsField q →
         ((i j : ℕ) → i < r → j < n → A i j < q) →
         IsRankOf q r n A S k → IsIndependentPart q r n A S m B →

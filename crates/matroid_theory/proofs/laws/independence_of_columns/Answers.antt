@@ -1,4 +1,4 @@
-use Rattle.std.proofs.Common.{sym, ◌∙◌, Bool, true, false, inl, inr}
+use Rattle.std.proofs.Common.{sym, ◌∙◌, inl, inr}
 use Rattle.std.proofs.lemmas.Bool.{cases_Bool}
 use mathlib.Core.Bool.{true≢false}
 use Rattle.matroid_theory.proofs.Dimension.{inverse_matrix}
