@@ -8,6 +8,8 @@ pub mod Masks
 pub mod Counts
 pub mod Picked
 pub mod Ranks
+pub mod Invertible
+pub mod Bases
 pub mod Units
 pub mod Followed
 pub mod Lists

@@ -1,9 +1,10 @@
 //! Laws over the definitions, each the contract of a function with an empty body.
-ghost use Rattle.std.specs.Prelude.{◌≡◌, ◌<◌, ◌↔◌, ℕ, List};
+ghost use Rattle.std.specs.Prelude.{◌≡◌, ◌<◌, ◌≤◌, ◌↔◌, ◌==◌, ◌&&◌, ◌||◌, not, ℕ, List, Bool, true, false};
 ghost use Rattle.std.specs.declared.cmp.Ordering.{Ordering as Outcome};
 ghost use Rattle.std.specs.declared.cmp.Ordering.TheVariants.{Less as less, Equal as equal};
 ghost use Rattle.std.specs.Ordering.{ordering_reverse};
 ghost use Rattle.matroid_theory.specs.Field.{IsOrder, IsField, IsSum, IsProduct, plus, times};
+ghost use Rattle.matroid_theory.specs.Matrix.{Matrix, AreInverse, IsIndependent, IsIndependentPart, IsRankOf, product, size_below};
 ghost use Rattle.matroid_theory.specs.Rep.{Rep, shape};
 ghost use Rattle.matroid_theory.specs.Order.{rep_cmp};
 ghost use Rattle.matroid_theory.specs.Level.{Family, Filters, IsLevel, IsListed, IsTry, IsCount};
@@ -44,4 +45,42 @@ pub fn one_number_of_tries()
 /// What is given is one matroid.
 pub fn one_matroid()
     ensures { (given : Given) (N other : Matroid) → IsGivenBy given N → IsGivenBy given other → N ≡ other }
+{}
+
+/// The independent sets among the n columns of a matrix of r rows are those of a matroid (Oxley, 1.1 and 1.2): no column
+/// is one, and so is each part of one; of two of them, the smaller can take an element of the larger; a greatest one of
+/// the columns in S can give an element for one of another, and one that no column in S can be added to is a greatest one.
+/// They have at most r columns, and a square matrix of independent columns has an inverse.
+pub fn independence_of_columns()
+    ensures empty { (q r n : ℕ) (A : Matrix) → IsIndependent q r n A (λ j. false) }
+    ensures parts { (q r n : ℕ) (A : Matrix) (I J : ℕ → Bool) → IsIndependent q r n A J →
+        ((j : ℕ) → j < n → I j ≡ true → J j ≡ true) → IsIndependent q r n A I }
+    ensures augmentation { (q r n : ℕ) (A : Matrix) (I J : ℕ → Bool) → IsField q →
+        ((i j : ℕ) → i < r → j < n → A i j < q) →
+        IsIndependent q r n A I → IsIndependent q r n A J → size_below n I < size_below n J →
+        (e : ℕ) × (e < n) × (J e ≡ true) × (I e ≡ false) × IsIndependent q r n A (λ j. (j == e) || I j) }
+    ensures exchange { (q r n k : ℕ) (A : Matrix) (S B D : ℕ → Bool) (x : ℕ) → IsField q →
+        ((i j : ℕ) → i < r → j < n → A i j < q) →
+        IsIndependentPart q r n A S k B → IsIndependentPart q r n A S k D → x < n → B x ≡ true → D x ≡ false →
+        (y : ℕ) × (y < n) × (D y ≡ true) × (B y ≡ false) ×
+        IsIndependentPart q r n A S k (λ j. (j == y) || (not (j == x) && B j)) }
+    ensures greatest { (q r n k m : ℕ) (A : Matrix) (S B : ℕ → Bool) → IsField q →
+        ((i j : ℕ) → i < r → j < n → A i j < q) →
+        IsRankOf q r n A S k → IsIndependentPart q r n A S m B →
+        ((e : ℕ) → e < n → S e ≡ true → B e ≡ false → ¬ (IsIndependent q r n A (λ j. (j == e) || B j))) → m ≡ k }
+    ensures at_most_rows { (q r n : ℕ) (A : Matrix) (S : ℕ → Bool) → IsField q →
+        ((i j : ℕ) → i < r → j < n → A i j < q) → IsIndependent q r n A S → size_below n S ≤ r }
+    ensures inverse { (q n : ℕ) (A : Matrix) → IsField q → ((i j : ℕ) → i < n → j < n → A i j < q) →
+        IsIndependent q n n A (λ j. true) →
+        (H : Matrix) × ((i j : ℕ) → i < n → j < n → H i j < q) × AreInverse q n A H }
+{}
+
+/// Each set of columns has one rank, and a product with an invertible matrix on the left keeps it.
+pub fn ranks()
+    ensures exists { (q r n : ℕ) (A : Matrix) (S : ℕ → Bool) → IsField q → ((i j : ℕ) → i < r → j < n → A i j < q) →
+        (k : ℕ) × IsRankOf q r n A S k }
+    ensures unique { (q r n : ℕ) (A : Matrix) (S : ℕ → Bool) (k l : ℕ) →
+        IsRankOf q r n A S k → IsRankOf q r n A S l → k ≡ l }
+    ensures kept { (q r n : ℕ) (G H A : Matrix) (S : ℕ → Bool) (k : ℕ) → IsField q → AreInverse q r G H →
+        IsRankOf q r n A S k ↔ IsRankOf q r n (product q r G A) S k }
 {}
