@@ -122,7 +122,7 @@ part-same q r n A S k I J h p = record {
   independent = IsIndependent-same q r n A I J h p.independent;
 }
 
--- no column is independent, and a part of an independent set is
+-- the empty set is independent, and so is a part of an independent set
 pub empty_independent : (q r n : ℕ) (A : Matrix) → IsIndependent q r n A (λ _. false)
 empty_independent q r n A = record { only_zero = λ a c z j l. c.outside j l refl }
 

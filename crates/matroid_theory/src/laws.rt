@@ -47,10 +47,11 @@ pub fn one_matroid()
     ensures { (given : Given) (N other : Matroid) → IsGivenBy given N → IsGivenBy given other → N ≡ other }
 {}
 
-/// The independent sets among the n columns of a matrix of r rows are those of a matroid (Oxley, 1.1 and 1.2): no column
-/// is one, and so is each part of one; of two of them, the smaller can take an element of the larger; a greatest one of
-/// the columns in S can give an element for one of another, and one that no column in S can be added to is a greatest one.
-/// They have at most r columns, and a square matrix of independent columns has an inverse.
+/// The independent sets of columns are those of a matroid (Oxley, sections 1.1 and 1.2). The empty set is one, and so is
+/// each part of one. Of two, the smaller can take an element of the larger. Two of one size exchange elements, so bases
+/// do, which are those of the greatest size. One that no column in S can be added to has the greatest size within S.
+/// An independent set has at most as many columns as there are rows, and a square matrix of independent columns has an
+/// inverse.
 pub fn independence_of_columns()
     ensures empty { (q r n : ℕ) (A : Matrix) → IsIndependent q r n A (λ j. false) }
     ensures parts { (q r n : ℕ) (A : Matrix) (I J : ℕ → Bool) → IsIndependent q r n A J →
