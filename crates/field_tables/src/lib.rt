@@ -11,7 +11,7 @@ pub use field::Field;
 /// A set of columns: bit j stands for column j.
 pub type Mask = u16;
 
-/// One column of one factor, from row 0: at most 6 codes.
+/// One column of one factor, from the top row: at most 6 codes.
 pub type Column = ArrayVec<u8, 6>;
 
 #[cfg(test)]

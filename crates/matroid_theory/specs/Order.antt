@@ -8,7 +8,7 @@ use Rattle.matroid_theory.specs.Rep.{Rep, IsShaped, IsStandard}
 use Rattle.matroid_theory.specs.declared.Mode.{Mode}
 use Rattle.matroid_theory.specs.Move.{AreEquivalent}
 
--- column by column, in a column from row 0, in a row factor by factor, and by code
+-- column by column, in a column from the top row, in a row factor by factor, and by code
 abbrev pub rep_cmp : Rep → Rep → Ordering
 rep_cmp M N = slice_cmp (slice_cmp nat_cmp) M.columns N.columns
 

@@ -24,7 +24,7 @@ order M f = slice_index M.factors f
 abbrev pub matrix : Rep → ℕ → Matrix
 matrix M f i j = slice_index (slice_index_or M.columns j []) (i * count M + f)
 
--- column j of factor f, from row 0
+-- column j of factor f, from the top row
 abbrev pub column_of : Rep → ℕ → ℕ → List ℕ
 column_of M f j = map (λ i. matrix M f i j) (range_with_len 0 M.rank)
 
