@@ -5,7 +5,7 @@ mod factors;
 mod rep;
 
 pub use factors::Factors;
-pub use rep::{ProductColumn, Rep};
+pub use rep::{ProductColumn, Rep, compare};
 
 #[cfg(test)]
 mod tests;

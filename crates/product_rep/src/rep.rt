@@ -1,11 +1,13 @@
-ghost use Rattle.std.specs.Prelude.{◌≡◌, ◌<◌, ◌≤◌, ◌+◌, ◌*◌, ℕ, [], ◌++◌, Some, length, replicate, slice_get, slice_index};
+ghost use Rattle.std.specs.Prelude.{◌≡◌, ◌<◌, ◌≤◌, ◌+◌, ◌*◌, ℕ, [], ◌++◌, Some, length, remove, replicate, slice_get, slice_index};
 ghost use Rattle.matroid_theory.specs.Rep.{Rep as Matrices, size, count, shape, column_of, IsRep, IsStandard, IsProductColumn};
 ghost use Rattle.matroid_theory.specs.Level.{followed_by};
 ghost use Rattle.matroid_theory.specs.Matrix.{unit};
+ghost use Rattle.matroid_theory.specs.Order.{rep_cmp};
 
 use crate::Factors;
 use arrayvec::ArrayVec;
 use field_tables::Column;
+use std::cmp::Ordering;
 use std::marker::Model;
 
 /// One column of all factors: its codes row by row, and factor by factor within a row; at most 18.
@@ -125,6 +127,47 @@ impl Rep {
         }
         self.size += 1;
     }
+
+    /// The same representation.
+    pub fn copy(&self) -> Rep
+        ensures { result ≡ self.now }
+    {
+        let mut codes = ArrayVec::new();
+        push_codes(&mut codes, self.codes.as_slice());
+        Rep {
+            factors: self.factors.copy(),
+            rank: self.rank,
+            size: self.size,
+            codes,
+        }
+    }
+
+    /// The representation without column `j`; the other columns keep their order.
+    pub fn without(&self, j: usize) -> Rep
+        requires { j < size self.now }
+        ensures { result ≡ record self.now { columns = remove self.now.columns j } }
+    {
+        let width = usize::from(self.rank) * self.factors.count();
+        let all = self.codes.as_slice();
+        let mut codes = ArrayVec::new();
+        push_codes(&mut codes, &all[..j * width]);
+        push_codes(&mut codes, &all[(j + 1) * width..]);
+        Rep {
+            factors: self.factors.copy(),
+            rank: self.rank,
+            size: self.size - 1,
+            codes,
+        }
+    }
+}
+
+/// The order of two representations of one shape: column by column, in a column from row 0, in a row factor by factor, and by
+/// code.
+pub fn compare(a: &Rep, b: &Rep) -> Ordering
+    requires { shape a.now ≡ shape b.now }
+    ensures { result ≡ rep_cmp a.now b.now }
+{
+    a.codes.as_slice().cmp(b.codes.as_slice())
 }
 
 /// Column `j` of the identity matrix, in every factor.
@@ -148,5 +191,15 @@ fn push_copies(column: &mut ProductColumn, code: u8, count: usize)
 {
     for _ in 0..count {
         column.push(code);
+    }
+}
+
+/// Adds these codes at the end, in one go.
+fn push_codes(codes: &mut ArrayVec<u8, 288>, more: &[u8])
+    requires { length codes.old.items + length more.now ≤ 288 }
+    ensures { codes.new.items ≡ codes.old.items ++ more.now }
+{
+    if codes.try_extend_from_slice(more).is_err() {
+        unreachable!();
     }
 }

@@ -1,4 +1,8 @@
+ghost use Rattle.std.specs.Prelude.{◌≡◌, IfOk};
+
 use super::*;
+use arrayvec::CapacityError;
+use std::cmp::Ordering;
 use std::test::Fail;
 
 #[test]
@@ -36,11 +40,64 @@ fn columns_of_representations(rt: HostRuntime) -> Result<(), Fail> {
     assert_eq!(rt; rep.factors().count(), 2);
     assert_eq!(rt; rep.column(1).as_slice(), [0, 0, 1, 1, 0, 0].as_slice());
     assert_eq!(rt; rep.factor_column(1, 2).as_slice(), [0, 0, 1].as_slice());
-    let mut column = ProductColumn::new();
-    column.try_extend_from_slice(&[1, 1, 1, 1, 1, 2])?;
-    rep.push_column(&column);
+    rep.push_column(&column(&[1, 1, 1, 1, 1, 2])?);
     assert_eq!(rt; rep.size(), 4);
     assert_eq!(rt; rep.column(3).as_slice(), [1, 1, 1, 1, 1, 2].as_slice());
     assert_eq!(rt; rep.factor_column(1, 3).as_slice(), [1, 1, 2].as_slice());
     Ok(())
+}
+
+#[test]
+fn copies_and_removals(rt: HostRuntime) -> Result<(), Fail> {
+    let mut rep = Rep::unit(Factors::of(&[2, 3]).ok_or("no factors")?, 3);
+    rep.push_column(&column(&[1, 1, 1, 1, 1, 2])?);
+    let copy = rep.copy();
+    let rest = rep.without(1);
+    let table = [
+        (
+            &copy,
+            &[
+                [1, 1, 0, 0, 0, 0],
+                [0, 0, 1, 1, 0, 0],
+                [0, 0, 0, 0, 1, 1],
+                [1, 1, 1, 1, 1, 2],
+            ][..],
+        ),
+        (
+            &rest,
+            &[[1, 1, 0, 0, 0, 0], [0, 0, 0, 0, 1, 1], [1, 1, 1, 1, 1, 2]][..],
+        ),
+    ];
+    for (rep, columns) in table {
+        assert_eq!(rt; rep.factors().count(), 2);
+        assert_eq!(rt; rep.rank(), 3);
+        assert_eq!(rt; rep.size(), columns.len());
+        for (j, codes) in columns.iter().enumerate() {
+            assert_eq!(rt; rep.column(j).as_slice(), codes.as_slice(), "at {j}");
+        }
+    }
+    Ok(())
+}
+
+#[test]
+fn orders_of_representations(rt: HostRuntime) -> Result<(), Fail> {
+    let mut a = Rep::unit(Factors::of(&[2, 3]).ok_or("no factors")?, 3);
+    a.push_column(&column(&[0, 0, 1, 1, 1, 1])?);
+    a.push_column(&column(&[1, 1, 0, 0, 1, 1])?);
+    let mut b = a.copy();
+    a.push_column(&column(&[1, 1, 1, 1, 1, 1])?);
+    b.push_column(&column(&[1, 1, 1, 2, 0, 0])?);
+    assert_eq!(rt; compare(&a, &b), Ordering::Less);
+    assert_eq!(rt; compare(&b, &a), Ordering::Greater);
+    assert_eq!(rt; compare(&a, &a), Ordering::Equal);
+    Ok(())
+}
+
+/// The column of these codes.
+fn column(codes: &[u8]) -> Result<ProductColumn, CapacityError>
+    ensures { IfOk result (λ column. column.items ≡ codes.now) }
+{
+    let mut column = ProductColumn::new();
+    column.try_extend_from_slice(codes)?;
+    Ok(column)
 }

@@ -4,17 +4,13 @@ use Rattle.std.proofs.lemmas.Option.{slice_get-get_or}
 use Rattle.matroid_theory.specs.Rep.{Rep, size}
 use Rattle.product_rep.specs.declared.rep.Rep.TheInside.{Inside}
 use Rattle.product_rep.specs.Pieces.{matrices, KeepsRep}
-use Rattle.product_rep.proofs.PiecesLemmas.{size-matrices, column_below, place_within, column-step, take-all}
+use Rattle.product_rep.proofs.PiecesLemmas.{size-matrices, column_below, column_within, column-step, take-all}
 use Rattle.product_rep.proofs.rep.Rep.column.Goals as goal
-
--- the codes of a column are among the codes, by the width that the function reads
-within : (a : Inside) (j w : ℕ) (codes : List ℕ) → KeepsRep a → w ≡ a.rank * length a.factors → codes ≡ a.codes.items → j < a.size → j * w + w ≤ length codes
-within a j w codes h e d l = subst (λ (n : ℕ). j * w + w ≤ n) (sym (ap (λ (xs : List ℕ). length xs) d ∙ h.full ∙ ap (λ (w : ℕ). a.size * w) (sym e))) (place_within a.size w j l)
 
 pub bounds-deref-j : goal.bounds-deref-j
 bounds-deref-j c =
     let b : c.args.j * (c.from.result * c.count.result) + c.from.result * c.count.result ≤ length c.deref.result.now
-    = within c.self.inside c.args.j _ _ c.self.invariant (λ i. c.from.ensures i * c.count.ensures.count i) c.deref.ensures.0 (column_below _ _ _ c.self.view_is c.requires) in
+    = column_within c.self.inside _ c.args.j _ _ c.self.view_is c.self.invariant (λ i. c.from.ensures i * c.count.ensures.count i) c.deref.ensures.0 c.requires in
     omega arith
 
 -- one more code, as the function reads it
