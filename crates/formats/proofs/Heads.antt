@@ -1,7 +1,7 @@
 -- Which texts of entries stand for a request.
 use Rattle.std.proofs.Common.{◌≡◌, ◌∙◌, ℕ, zero, suc, ◌+◌, ◌<◌, ◌≤◌, ◌==◌, ◌||◌, Bool, true, cond, List, [], ◌∷◌, ◌++◌, map, length, Option, None, Some, false, refl, ap, subst, arith, append_assoc, lit≤, length-append}
 use Rattle.std.specs.List.{AllByRecursion, list_any, cons_option}
-use Rattle.std.specs.Prelude.{slice_index, filter_map, option_to_list, if◌then◌else◌}
+use Rattle.std.specs.Prelude.{IsTrue, slice_index, filter_map, option_to_list, if◌then◌else◌}
 use Rattle.std.proofs.lemmas.Bool.Decides.{nat_tests}
 use Rattle.std.proofs.lemmas.List.Sums.{count_by-le-length, sum_by-append, sum_by-cons}
 use Rattle.std.proofs.lemmas.List.{length-map}
@@ -9,15 +9,16 @@ use Rattle.matroid_theory.specs.Field.{IsOrder, IsFactors}
 use Rattle.matroid_theory.proofs.FieldLaws.{by_order}
 use Rattle.formats.specs.declared.refusal.PrintMode.{PrintMode}
 use Rattle.formats.specs.declared.refusal.PrintMode.TheVariants.{Forms, Counts}
-use Rattle.formats.specs.Entry.{Minor, Entry, Version, RankIs, FieldIs, SizeIs, Forbids, ListsConnected, ListsThreeConnected, ListsCosimple, ListsDistinct, ListsWith, Prints, IsEntry, kind_number, forbid_kind, most_of_kind, named_elements}
+use Rattle.formats.specs.Entry.{Minor, Entry, Version, RankIs, FieldIs, SizeIs, Forbids, ListsConnected, ListsThreeConnected, ListsCosimple, ListsDistinct, ListsWith, Prints, IsEntry, all_forms, kind_number, forbid_kind, most_of_kind, named_elements}
 use Rattle.formats.specs.Request.{Request, AreInOrder, count_of_kind, rank_in, field_in, size_in, forbidden_in, wanted_in, has_kind, prints_counts, AskFor, column_count, most_bytes, most_columns, IsRank, IsWithinLimits, StandsFor}
 use Rattle.formats.specs.Listing.{where_set, head_entries, text_of_entries}
 use Rattle.formats.proofs.Spelled.{text_says}
+use Rattle.formats.proofs.Forms.{all_read}
 use Rattle.formats.proofs.Lengths.{IsSmall, text_length}
 
--- The text of entries that are in order and ask for a request within its limits stands for it.
-pub text_stands : (entries : List Entry) (q : Request) → AllByRecursion IsEntry entries → AreInOrder entries → AskFor entries q → IsWithinLimits q → length (text_of_entries entries) ≤ most_bytes → StandsFor (text_of_entries entries) q
-text_stands entries q may in_order asked limits short = record { short = short; entries = entries; said = text_says entries may; in_order = in_order; asked = asked; limits = limits }
+-- The text of entries that are read, are in order and ask for a request within its limits stands for it.
+pub text_stands : (forms : Entry → Bool) (entries : List Entry) (q : Request) → AllByRecursion IsEntry entries → AllByRecursion (λ entry. IsTrue (forms entry)) entries → AreInOrder entries → AskFor entries q → IsWithinLimits q → length (text_of_entries entries) ≤ most_bytes → StandsFor forms (text_of_entries entries) q
+text_stands forms entries q may are_read in_order asked limits short = record { short = short; entries = entries; said = text_says forms entries may are_read; in_order = in_order; asked = asked; limits = limits }
 
 -- the two parts of what is small
 all_may : (entries : List Entry) → AllByRecursion IsSmall entries → AllByRecursion IsEntry entries
@@ -29,9 +30,9 @@ none_big [] all = tt
 none_big (e ∷ entries) all = (all.0.not_big, none_big entries all.1)
 
 -- the same, where there are at most 64 entries
-small_stands : (entries : List Entry) (q : Request) → AllByRecursion IsSmall entries → length entries ≤ 64 → ((kind : ℕ) → count_of_kind kind entries ≤ most_of_kind kind) → AskFor entries q → IsWithinLimits q → StandsFor (text_of_entries entries) q
-small_stands entries q all few not_often asked limits =
-    text_stands entries q (all_may entries all) (record { not_often = not_often; not_big = none_big entries all }) asked limits (omega (arith, text_length entries all))
+small_stands : (forms : Entry → Bool) (entries : List Entry) (q : Request) → AllByRecursion IsSmall entries → AllByRecursion (λ entry. IsTrue (forms entry)) entries → length entries ≤ 64 → ((kind : ℕ) → count_of_kind kind entries ≤ most_of_kind kind) → AskFor entries q → IsWithinLimits q → StandsFor forms (text_of_entries entries) q
+small_stands forms entries q all are_read few not_often asked limits =
+    text_stands forms entries q (all_may entries all) are_read (record { not_often = not_often; not_big = none_big entries all }) asked limits (omega (arith, text_length entries all))
 
 -- the entries of a request for one field whose size is its rank
 abbrev pub built_entries : ℕ → ℕ → List Entry
@@ -70,12 +71,16 @@ built_small order rank o r = (
 built_not_often : (order rank kind : ℕ) → count_of_kind kind (built_entries order rank) ≤ most_of_kind kind
 built_not_often order rank kind = grind (arith, nat_tests)
 
--- A text for one field whose size is its rank stands for that request.
-pub built_stands : (order rank : ℕ) → IsOrder order → IsRank rank → StandsFor (text_of_entries (FieldIs (order ∷ []) ∷ RankIs rank ∷ SizeIs rank ∷ [])) (record { factors = order ∷ []; rank = rank; size = rank; forbid = []; connected = false; three_connected = false; cosimple = false; distinct = false; has = None; print = Forms })
-built_stands order rank o r =
-    small_stands (built_entries order rank) (built_request order rank) (built_small order rank o r) (omega arith) (built_not_often order rank)
+-- A text for one field whose size is its rank stands for that request, where its three forms are read.
+pub built_stands_in : (forms : Entry → Bool) → ((factors : List ℕ) → IsTrue (forms (FieldIs factors))) → ((n : ℕ) → IsTrue (forms (RankIs n))) → ((n : ℕ) → IsTrue (forms (SizeIs n))) → (order rank : ℕ) → IsOrder order → IsRank rank → StandsFor forms (text_of_entries (FieldIs (order ∷ []) ∷ RankIs rank ∷ SizeIs rank ∷ [])) (record { factors = order ∷ []; rank = rank; size = rank; forbid = []; connected = false; three_connected = false; cosimple = false; distinct = false; has = None; print = Forms })
+built_stands_in forms field_read rank_read size_read order rank o r =
+    small_stands forms (built_entries order rank) (built_request order rank) (built_small order rank o r) (field_read (order ∷ []), (rank_read rank, (size_read rank, tt))) (omega arith) (built_not_often order rank)
     (record { rank = refl; field = refl; size = refl; forbid = refl; connected = refl; three_connected = refl; cosimple = refl; distinct = refl; has = refl; print = refl })
     (record { rank = r; size = (omega arith, omega (arith, r.1)); columns = built_columns order rank o r })
+
+-- the same among all forms
+pub built_stands : (order rank : ℕ) → IsOrder order → IsRank rank → StandsFor all_forms (text_of_entries (FieldIs (order ∷ []) ∷ RankIs rank ∷ SizeIs rank ∷ [])) (record { factors = order ∷ []; rank = rank; size = rank; forbid = []; connected = false; three_connected = false; cosimple = false; distinct = false; has = None; print = Forms })
+built_stands = built_stands_in all_forms (λ factors. refl) (λ n. refl) (λ n. refl)
 
 -- what holds of the entries of a list holds of those of one kind, made anew of their values
 values_kept : {Y : Type 0} (P : Entry → Type 0) (value : Entry → Option Y) (made : Y → Entry) → ((e : Entry) (y : Y) → value e ≡ Some y → e ≡ made y) → (entries : List Entry) → AllByRecursion P entries → AllByRecursion P (map made (filter_map value entries))
@@ -400,9 +405,9 @@ all_small [] may not_big = tt
 all_small (e ∷ entries) may not_big = (record { may = may.0; not_big = not_big.0 }, all_small entries may.1 not_big.1)
 
 -- The head of a request's listing, without its first line, stands for the request.
-pub head_stands : (text : List ℕ) (q : Request) → StandsFor text q → StandsFor (text_of_entries (head_entries q)) q
+pub head_stands : (text : List ℕ) (q : Request) → StandsFor all_forms text q → StandsFor all_forms (text_of_entries (head_entries q)) q
 head_stands text q s =
     let few = few_forbidden s.entries q s.in_order s.asked in
     let small = head_small s.entries q (all_small s.entries s.said.may s.in_order.not_big) s.asked in
-    subst (λ (es : List Entry). StandsFor (text_of_entries es) q) (parts_are q)
-    (small_stands (head_parts q) q small (head_length q few) (λ kind. omega (arith, head_count q kind few, kinds_bound_small kind)) (head_asks q) s.limits)
+    subst (λ (es : List Entry). StandsFor all_forms (text_of_entries es) q) (parts_are q)
+    (small_stands all_forms (head_parts q) q small (all_read (head_parts q)) (head_length q few) (λ kind. omega (arith, head_count q kind few, kinds_bound_small kind)) (head_asks q) s.limits)

@@ -1,6 +1,6 @@
 -- Cutting the text of some entries into lines and words gives back their spellings.
 use Rattle.std.proofs.Common.{◌≡◌, ◌∙◌, ℕ, suc, ◌-◌, ◌<◌, ◌≤◌, ◌==◌, ◌&&◌, Bool, true, false, cond, List, [], ◌∷◌, ◌++◌, map, length, take, refl, ap, arith, append_assoc}
-use Rattle.std.specs.Prelude.{codes, decimal, nat_lt, filter, slice_index}
+use Rattle.std.specs.Prelude.{IsTrue, codes, decimal, nat_lt, filter, slice_index}
 use Rattle.std.specs.List.{AllByRecursion, slice_split, join_with_byte}
 use Rattle.std.specs.Str.Lines.{strip_carriage_return}
 use Rattle.std.specs.Str.Parse.{AllDigits}
@@ -222,6 +222,6 @@ spelled (e ∷ entries) all =
     first_statement (spelling e) (text_of_entries entries) (entry_line e all.0)
     ∙ ap (λ (l : List (List (List ℕ))). spelling e ∷ l) (spelled entries all.1)
 
--- The text of entries says them.
-pub text_says : (entries : List Entry) → AllByRecursion IsEntry entries → SayInTurn (lines_of (text_of_entries entries)) entries
-text_says entries all = record { may = all; spelled = spelled entries all }
+-- The text of entries that are read says them.
+pub text_says : (forms : Entry → Bool) (entries : List Entry) → AllByRecursion IsEntry entries → AllByRecursion (λ entry. IsTrue (forms entry)) entries → SayInTurn forms (lines_of (text_of_entries entries)) entries
+text_says forms entries all are_read = record { may = all; are_read = are_read; spelled = spelled entries all }

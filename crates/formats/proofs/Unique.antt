@@ -1,6 +1,6 @@
 -- A line says at most one entry, and a text stands for at most one request.
 use Rattle.std.proofs.Common.{◌≡◌, ◌∙◌, ℕ, suc, ◌+◌, ◌*◌, ◌<◌, ◌≤◌, List, [], ◌∷◌, ◌++◌, map, length, get_or, Option, None, Some, refl, sym, ap, subst, arith, lit<}
-use Rattle.std.specs.Prelude.{codes, decimal, option_to_list, slice_index}
+use Rattle.std.specs.Prelude.{IsTrue, codes, decimal, option_to_list, slice_index}
 use Rattle.std.specs.List.{AllByRecursion}
 use Rattle.std.proofs.lemmas.Bool.Decides.{nat_tests}
 use Rattle.std.proofs.lemmas.Fmt.{decimal_injective, decimal_is_IsNumeral}
@@ -176,7 +176,7 @@ entry_same (ListsWith m) _ p q e = absurd (omega (arith, ap first_letters e, ap 
 entry_same (Prints m) (Prints n) p q e = let t : mode_word m ≡ mode_word n = cc (e) in let same = mode_same m n t in cc (same)
 entry_same (Prints m) _ p q e = absurd (omega (arith, ap first_letters e))
 
--- the lines of a text say one list of entries
+-- entries with the same spellings are the same
 pub entries_same : (xs ys : List Entry) → AllByRecursion IsEntry xs → AllByRecursion IsEntry ys → map spelling xs ≡ map spelling ys → xs ≡ ys
 entries_same [] [] a b e = refl
 entries_same [] (y ∷ ys) a b e = cc (e)
@@ -186,9 +186,6 @@ entries_same (x ∷ xs) (y ∷ ys) a b e =
     let t : map spelling xs ≡ map spelling ys = cc (e) in
     let same = entry_same x y a.0 b.0 h in
     cc (same, entries_same xs ys a.1 b.1 t)
-
-said_same : (lines : List (List ℕ)) (xs ys : List Entry) → SayInTurn lines xs → SayInTurn lines ys → xs ≡ ys
-said_same lines xs ys a b = entries_same xs ys a.may b.may (sym a.spelled ∙ b.spelled)
 
 option_same : (m n : Option Minor) → option_to_list m ≡ option_to_list n → m ≡ n
 option_same None None e = refl
@@ -222,11 +219,7 @@ asked_same entries q r a b =
       print = print i;
     }
 
--- a text stands for one request
-pub request_same : (text : List ℕ) (q r : Request) → StandsFor text q → StandsFor text r → q ≡ r
-request_same text q r a b =
-    asked_same b.entries q r (subst (λ (es : List Entry). AskFor es q) (said_same _ a.entries b.entries a.said b.said) a.asked) b.asked
-
+-- the statements before a line, its own, and those after it
 cond_append : (b : Bool) (w : List (List ℕ)) (xs ys : List (List (List ℕ))) → cond b (w ∷ (xs ++ ys)) (xs ++ ys) ≡ cond b (w ∷ xs) xs ++ ys
 cond_append true w xs ys = refl
 cond_append false w xs ys = refl
@@ -236,28 +229,6 @@ statements_split [] line after counts = ap (λ (b : Bool). cond (not b) (words_o
 statements_split (x ∷ before) line after counts =
     ap (λ (l : List (List (List ℕ))). cond (not (is_skipped (words_of x))) (words_of x ∷ l) l) (statements_split before line after counts)
     ∙ cond_append (not (is_skipped (words_of x))) (words_of x) (statements_of before) (words_of line ∷ statements_of after)
-
--- the entry that a line says, among those of all lines
-record Found (entries : List Entry) (front : List (List (List ℕ))) (words : List (List ℕ)) : Type 0 where
-  earlier : List Entry
-  entry : Entry
-  later : List Entry
-  split : entries ≡ earlier ++ entry ∷ later
-  spelled : map spelling earlier ≡ front
-  may_earlier : AllByRecursion IsEntry earlier
-  says : Says words entry
-
-found : (entries : List Entry) (front back : List (List (List ℕ))) (words : List (List ℕ)) → AllByRecursion IsEntry entries → map spelling entries ≡ front ++ words ∷ back → Found entries front words
-found [] [] back words may e = cc (e)
-found [] (f ∷ front) back words may e = cc (e)
-found (x ∷ xs) [] back words may e = let h : spelling x ≡ words = cc (e) in record { earlier = []; entry = x; later = xs; split = refl; spelled = refl; may_earlier = tt; says = record { may = may.0; spelled = sym h } }
-found (x ∷ xs) (f ∷ front) back words may e =
-    let h : spelling x ≡ f = cc (e) in
-    let t : map spelling xs ≡ front ++ words ∷ back = cc (e) in
-    let rest = found xs front back words may.1 t in
-    let whole : x ∷ xs ≡ x ∷ (rest.earlier ++ rest.entry ∷ rest.later) = ap (λ (l : List Entry). x ∷ l) rest.split in
-    let front_is : spelling x ∷ map spelling rest.earlier ≡ f ∷ front = cc (h, rest.spelled) in
-    record { earlier = x ∷ rest.earlier; entry = rest.entry; later = rest.later; split = whole; spelled = front_is; may_earlier = (may.0, rest.may_earlier); says = rest.says }
 
 big_at : (xs : List Entry) (e : Entry) (ys : List Entry) → AllByRecursion (λ entry. named_elements entry ≤ 10) (xs ++ e ∷ ys) → named_elements e ≤ 10
 big_at [] e ys all = all.0
@@ -270,70 +241,11 @@ count_at xs e ys =
     let here : counts e ≡ 1 = grind (arith, nat_tests) in
     omega (arith, sum_by-append counts xs (e ∷ ys), sum_by-cons counts e ys, here)
 
-says_same : (words : List (List ℕ)) (a b : Entry) → Says words a → Says words b → a ≡ b
-says_same words a b p q = entry_same a b p.may q.may (sym p.spelled ∙ q.spelled)
-
--- in lines that are in order no line has a fault
-pub no_fault : (lines before : List (List ℕ)) (line : List ℕ) (after : List (List ℕ)) (entries said : List Entry) (fault : Fault) → lines ≡ before ++ line ∷ after → SayInTurn lines entries → AreInOrder entries → SayInTurn before said → is_skipped (words_of line) ≡ false → HasFault said (words_of line) fault → ⊥
-no_fault lines before line after entries said fault split all in_order some counts wrong =
-    let spelled : map spelling entries ≡ statements_of before ++ words_of line ∷ statements_of after = sym all.spelled ∙ ap statements_of split ∙ statements_split before line after counts in
-    let at = found entries (statements_of before) (statements_of after) (words_of line) all.may spelled in
-    let same : at.earlier ≡ said = entries_same at.earlier said at.may_earlier some.may (at.spelled ∙ some.spelled) in
-    let order : AreInOrder (said ++ at.entry ∷ at.later) = subst AreInOrder (at.split ∙ ap (λ (l : List Entry). l ++ at.entry ∷ at.later) same) in_order in
-    contradiction fault said (words_of line) at.entry at.later at.says order wrong
-  where
-    contradiction : (fault : Fault) (said : List Entry) (words : List (List ℕ)) (e : Entry) (later : List Entry) → Says words e → AreInOrder (said ++ e ∷ later) → HasFault said words fault → ⊥
-    contradiction NoForm said words e later says order wrong = wrong e says
-    contradiction Again said words e later says order wrong =
-        let one = says_same words wrong.0 e wrong.1 says in
-        let often : most_of_kind (kind_number e) ≤ count_of_kind (kind_number e) said = subst (λ (x : Entry). most_of_kind (kind_number x) ≤ count_of_kind (kind_number x) said) one wrong.3 in
-        omega (arith, often, count_at said e later, order.not_often (kind_number e))
-    contradiction NinthForbid said words e later says order wrong =
-        let one = says_same words wrong.0 e wrong.1 says in
-        let forbids : kind_number e ≡ forbid_kind = subst (λ (x : Entry). kind_number x ≡ forbid_kind) one wrong.2 in
-        let often : most_of_kind (kind_number e) ≤ count_of_kind (kind_number e) said = subst (λ (k : ℕ). most_of_kind k ≤ count_of_kind k said) (sym forbids) wrong.3 in
-        omega (arith, often, count_at said e later, order.not_often (kind_number e))
-    contradiction TooBig said words e later says order wrong =
-        let one = says_same words wrong.0 e wrong.1 says in
-        let big : 10 < named_elements e = subst (λ (x : Entry). 10 < named_elements x) one wrong.3 in
-        omega (arith, big, big_at said e later order.not_big)
-
-first_fault_stands : (text : List ℕ) (q : Request) (n : ℕ) (fault : Fault) → StandsFor text q → FirstFault text n fault → ⊥
-first_fault_stands text q n fault a b = no_fault _ b.before b.line b.after a.entries b.said fault b.split a.said a.in_order b.says b.counts b.wrong
-
+-- where a request is asked for, no line is missing
 missing_stands : (q : Request) (entries : List Entry) (word : Word) → AskFor entries q → IsMissing entries word → ⊥
 missing_stands q entries Rank a m = cc (a.rank, m)
 missing_stands q entries Field a m = cc (a.field, m.1)
 missing_stands q entries Size a m = cc (a.size, m.2)
-
--- a text that stands for a request isn't refused
-pub not_both : (text : List ℕ) (q : Request) (why : Refusal) → StandsFor text q → HasRefusal text why → ⊥
-not_both text q refusal.TooLong a b = omega (arith, a.short, b)
-not_both text q (refusal.BadLine n) a b = first_fault_stands text q n NoForm a b
-not_both text q (refusal.Twice n) a b = first_fault_stands text q n Again a b
-not_both text q (refusal.TooManyForbidden n) a b = first_fault_stands text q n NinthForbid a b
-not_both text q (refusal.ForbidTooBig n) a b = first_fault_stands text q n TooBig a b
-not_both text q (refusal.Missing word) a b = missing_stands q b.0 word (subst (λ (es : List Entry). AskFor es q) (said_same _ a.entries b.0 a.said b.1.said) a.asked) b.2
-not_both text q (refusal.Rank v) a b =
-    let values = b.2 in
-    let asked = subst (λ (es : List Entry). AskFor es q) (said_same _ a.entries values.entries a.said values.none.said) a.asked in
-    let same : q.rank ≡ v = cc (asked.rank, values.values.rank_said) in
-    b.3 (subst IsRank same a.limits.rank)
-not_both text q (refusal.Size v) a b =
-    let values = b.2 in
-    let asked = subst (λ (es : List Entry). AskFor es q) (said_same _ a.entries values.entries a.said values.none.said) a.asked in
-    let ranks : q.rank ≡ b.0 = cc (asked.rank, values.values.rank_said) in
-    let sizes : q.size ≡ v = cc (asked.size, values.values.size_said) in
-    b.4 (subst (λ (s : ℕ). IsSize b.0 s) sizes (subst (λ (r : ℕ). IsSize r q.size) ranks a.limits.size))
-not_both text q (refusal.TooWide c) a b =
-    let values = b.3 in
-    let asked = subst (λ (es : List Entry). AskFor es q) (said_same _ a.entries values.entries a.said values.none.said) a.asked in
-    let ranks : q.rank ≡ b.0 = cc (asked.rank, values.values.rank_said) in
-    let fields : q.factors ≡ b.1 = cc (asked.field, values.values.field_said) in
-    let same : column_count q.rank q.factors ≡ column_count b.0 b.1 = ap (λ (r : ℕ). column_count r q.factors) ranks ∙ ap (column_count b.0) fields in
-    let few = a.limits.columns in
-    omega (arith, same, few, b.6, b.7)
-not_both text q refusal.NotBuilt a b = b
 
 -- where two lists that are one are cut, it is at one place, or the one cut lies in the front of the other
 data Places (before : List (List ℕ)) (line : List ℕ) (before' : List (List ℕ)) (line' : List ℕ) : Type 0 where
@@ -355,45 +267,6 @@ places (x ∷ before) line after (y ∷ before') line' after' e =
     let t : before ++ line ∷ after ≡ before' ++ line' ∷ after' = cc (e) in
     subst (λ (z : List ℕ). Places (x ∷ before) line (z ∷ before') line') h (more_places x before line before' line' (places before line after before' line' after' t))
 
--- a line has one fault after given entries
-fault_same : (said : List Entry) (words : List (List ℕ)) (f g : Fault) → HasFault said words f → HasFault said words g → f ≡ g
-fault_same said words NoForm NoForm a b = refl
-fault_same said words NoForm Again a b = absurd (a b.0 b.1)
-fault_same said words NoForm NinthForbid a b = absurd (a b.0 b.1)
-fault_same said words NoForm TooBig a b = absurd (a b.0 b.1)
-fault_same said words Again NoForm a b = absurd (b a.0 a.1)
-fault_same said words NinthForbid NoForm a b = absurd (b a.0 a.1)
-fault_same said words TooBig NoForm a b = absurd (b a.0 a.1)
-fault_same said words Again Again a b = refl
-fault_same said words NinthForbid NinthForbid a b = refl
-fault_same said words TooBig TooBig a b = refl
-fault_same said words Again NinthForbid a b = absurd (subst (λ (x : Entry). kind_number x ≢ forbid_kind) (says_same words a.0 b.0 a.1 b.1) a.2 b.2)
-fault_same said words NinthForbid Again a b = absurd (subst (λ (x : Entry). kind_number x ≢ forbid_kind) (says_same words b.0 a.0 b.1 a.1) b.2 a.2)
-fault_same said words Again TooBig a b =
-    let often = subst (λ (x : Entry). most_of_kind (kind_number x) ≤ count_of_kind (kind_number x) said) (says_same words a.0 b.0 a.1 b.1) a.3 in
-    absurd (omega (arith, often, b.2))
-fault_same said words TooBig Again a b =
-    let often = subst (λ (x : Entry). most_of_kind (kind_number x) ≤ count_of_kind (kind_number x) said) (says_same words b.0 a.0 b.1 a.1) b.3 in
-    absurd (omega (arith, often, a.2))
-fault_same said words NinthForbid TooBig a b =
-    let few = subst (λ (k : ℕ). count_of_kind k said < most_of_kind k) (ap kind_number (says_same words b.0 a.0 b.1 a.1) ∙ a.2) b.2 in
-    absurd (omega (arith, few, a.3))
-fault_same said words TooBig NinthForbid a b =
-    let few = subst (λ (k : ℕ). count_of_kind k said < most_of_kind k) (ap kind_number (says_same words a.0 b.0 a.1 b.1) ∙ b.2) a.2 in
-    absurd (omega (arith, few, b.3))
-
--- the first fault of a text is one
-first_fault_same : (text : List ℕ) (m n : ℕ) (f g : Fault) → FirstFault text m f → FirstFault text n g → (m ≡ n) × (f ≡ g)
-first_fault_same text m n f g a b = at (places a.before a.line a.after b.before b.line b.after (sym a.split ∙ b.split))
-  where
-    at : Places a.before a.line b.before b.line → (m ≡ n) × (f ≡ g)
-    at (SamePlace e l) =
-        let said : a.said ≡ b.said = said_same _ a.said b.said (subst (λ (ls : List (List ℕ)). SayInTurn ls a.said) e a.says) b.says in
-        let wrong = subst (λ (es : List Entry). HasFault es (words_of b.line) f) said (subst (λ (line : List ℕ). HasFault a.said (words_of line) f) l a.wrong) in
-        (omega (arith, a.place, b.place, ap length e), fault_same b.said (words_of b.line) f g wrong b.wrong)
-    at (Sooner rest e) = absurd (no_fault b.before a.before a.line rest b.said a.said f e b.says b.in_order a.says a.counts a.wrong)
-    at (Later rest e) = absurd (no_fault a.before b.before b.line rest a.said b.said g e a.says a.in_order b.says b.counts b.wrong)
-
 refusal_at : Fault → ℕ → Refusal
 refusal_at NoForm n = refusal.BadLine n
 refusal_at Again n = refusal.Twice n
@@ -406,26 +279,7 @@ data Late (rank : ℕ) (factors : List ℕ) (size : ℕ) (why : Refusal) : Type 
   BadSize : IsRank rank → (IsSize rank size → ⊥) → why ≡ refusal.Size size → Late rank factors size why
   Wide : IsRank rank → IsSize rank size → why ≡ refusal.TooWide (column_count rank factors) → Late rank factors size why
 
--- at which place of the order a text is refused
-data Stage (text : List ℕ) (why : Refusal) : Type 0 where
-  Long : most_bytes < length text → why ≡ refusal.TooLong → Stage text why
-  AtLine : (n : ℕ) (fault : Fault) → FirstFault text n fault → why ≡ refusal_at fault n → Stage text why
-  Lacks : (word : Word) (entries : List Entry) → NoFault text entries → IsMissing entries word → why ≡ refusal.Missing word → Stage text why
-  OutOf : (rank : ℕ) (factors : List ℕ) (size : ℕ) → HasValues text rank factors size → Late rank factors size why → Stage text why
-
-stage : (text : List ℕ) (why : Refusal) → HasRefusal text why → Stage text why
-unfolding refusal_at
-stage text refusal.TooLong h = Long h refl
-stage text (refusal.BadLine n) h = AtLine n NoForm h refl
-stage text (refusal.Twice n) h = AtLine n Again h refl
-stage text (refusal.TooManyForbidden n) h = AtLine n NinthForbid h refl
-stage text (refusal.ForbidTooBig n) h = AtLine n TooBig h refl
-stage text (refusal.Missing word) h = Lacks word h.0 h.1 h.2 refl
-stage text (refusal.Rank v) h = OutOf v h.0 h.1 h.2 (BadRank h.3 refl)
-stage text (refusal.Size v) h = OutOf h.0 h.1 v h.2 (BadSize h.3 h.4 refl)
-stage text (refusal.TooWide c) h = OutOf h.0 h.1 h.2 h.3 (Wide h.4 h.5 (ap refusal.TooWide h.6))
-stage text refusal.NotBuilt h = absurd h
-
+-- the first word that is missing is one
 missing_same : (entries : List Entry) (v w : Word) → IsMissing entries v → IsMissing entries w → v ≡ w
 missing_same entries Rank Rank a b = refl
 missing_same entries Rank Field a b = absurd (b.0 a)
@@ -437,11 +291,13 @@ missing_same entries Size Rank a b = absurd (a.0 b)
 missing_same entries Size Field a b = absurd (a.1 b.1)
 missing_same entries Size Size a b = refl
 
+-- where all values are there, none is missing
 missing_values : (entries : List Entry) (word : Word) (rank : ℕ) (factors : List ℕ) (size : ℕ) → IsMissing entries word → AreValues entries rank factors size → ⊥
 missing_values entries Rank rank factors size m v = let f = v.rank_said in cc (f, m)
 missing_values entries Field rank factors size m v = let f = v.field_said in let g = m.1 in cc (f, g)
 missing_values entries Size rank factors size m v = let f = v.size_said in let g = m.2 in cc (f, g)
 
+-- values are refused in one way
 late_same : (rank : ℕ) (factors : List ℕ) (size : ℕ) (v w : Refusal) → Late rank factors size v → Late rank factors size w → v ≡ w
 late_same rank factors size v w (BadRank a e) (BadRank b f) = e ∙ sym f
 late_same rank factors size v w (BadRank a e) (BadSize b c f) = absurd (a b)
@@ -453,34 +309,197 @@ late_same rank factors size v w (Wide a b e) (BadRank c f) = absurd (c a)
 late_same rank factors size v w (Wide a b e) (BadSize c d f) = absurd (d b)
 late_same rank factors size v w (Wide a b e) (Wide c d f) = e ∙ sym f
 
-line_none : (text : List ℕ) (n : ℕ) (fault : Fault) (entries : List Entry) → FirstFault text n fault → NoFault text entries → ⊥
-line_none text n fault entries b a = no_fault _ b.before b.line b.after entries b.said fault b.split a.said a.in_order b.says b.counts b.wrong
+-- where these forms are read
+module _ (forms : Entry → Bool) where
+  -- the lines of a text say one list of entries
+  said_same : (lines : List (List ℕ)) (xs ys : List Entry) → SayInTurn forms lines xs → SayInTurn forms lines ys → xs ≡ ys
+  said_same lines xs ys a b = entries_same xs ys a.may b.may (sym a.spelled ∙ b.spelled)
 
-stage_same : (text : List ℕ) (v w : Refusal) → Stage text v → Stage text w → v ≡ w
-stage_same text v w (Long a e) (Long b f) = e ∙ sym f
-stage_same text v w (Long a e) (AtLine n g b f) = absurd (omega (arith, a, b.short))
-stage_same text v w (Long a e) (Lacks word es b c f) = absurd (omega (arith, a, b.short))
-stage_same text v w (Long a e) (OutOf r fs s b c) = absurd (omega (arith, a, b.none.short))
-stage_same text v w (AtLine n g b f) (Long a e) = absurd (omega (arith, a, b.short))
-stage_same text v w (AtLine m f a e) (AtLine n g b h) = let same = first_fault_same text m n f g a b in e ∙ ap (λ (k : ℕ). refusal_at f k) same.0 ∙ ap (λ (k : Fault). refusal_at k n) same.1 ∙ sym h
-stage_same text v w (AtLine m f a e) (Lacks word es b c h) = absurd (line_none text m f es a b)
-stage_same text v w (AtLine m f a e) (OutOf r fs s b c) = absurd (line_none text m f b.entries a b.none)
-stage_same text v w (Lacks word es b c f) (Long a e) = absurd (omega (arith, a, b.short))
-stage_same text v w (Lacks word es b c h) (AtLine m f a e) = absurd (line_none text m f es a b)
-stage_same text v w (Lacks word es a c e) (Lacks word' es' b d f) = e ∙ ap refusal.Missing (missing_same es' word word' (subst (λ (l : List Entry). IsMissing l word) (said_same _ es es' a.said b.said) c) d) ∙ sym f
-stage_same text v w (Lacks word es a c e) (OutOf r fs s b d) = absurd (missing_values b.entries word r fs s (subst (λ (l : List Entry). IsMissing l word) (said_same _ es b.entries a.said b.none.said) c) b.values)
-stage_same text v w (OutOf r fs s b c) (Long a e) = absurd (omega (arith, a, b.none.short))
-stage_same text v w (OutOf r fs s b c) (AtLine m f a e) = absurd (line_none text m f b.entries a b.none)
-stage_same text v w (OutOf r fs s b d) (Lacks word es a c e) = absurd (missing_values b.entries word r fs s (subst (λ (l : List Entry). IsMissing l word) (said_same _ es b.entries a.said b.none.said) c) b.values)
-stage_same text v w (OutOf r fs s a c) (OutOf r' fs' s' b d) =
-    let one = said_same _ a.entries b.entries a.none.said b.none.said in
-    let values = subst (λ (l : List Entry). AreValues l r fs s) one a.values in
-    let ranks : r ≡ r' = cc (values.rank_said, b.values.rank_said) in
-    let fields : fs ≡ fs' = cc (values.field_said, b.values.field_said) in
-    let sizes : s ≡ s' = cc (values.size_said, b.values.size_said) in
-    let moved = subst (λ (k : ℕ). Late r' fs' k v) sizes (subst (λ (k : List ℕ). Late r' k s v) fields (subst (λ (k : ℕ). Late k fs s v) ranks c)) in
-    late_same r' fs' s' v w moved d
+  -- a text stands for one request
+  pub request_same : (text : List ℕ) (q r : Request) → StandsFor forms text q → StandsFor forms text r → q ≡ r
+  request_same text q r a b =
+      asked_same b.entries q r (subst (λ (es : List Entry). AskFor es q) (said_same _ a.entries b.entries a.said b.said) a.asked) b.asked
 
--- a text has one refusal
-pub refusal_same : (text : List ℕ) (v w : Refusal) → HasRefusal text v → HasRefusal text w → v ≡ w
-refusal_same text v w a b = stage_same text v w (stage text v a) (stage text w b)
+  -- the entry that a line says, among those of all lines
+  record Found (entries : List Entry) (front : List (List (List ℕ))) (words : List (List ℕ)) : Type 0 where
+    earlier : List Entry
+    entry : Entry
+    later : List Entry
+    split : entries ≡ earlier ++ entry ∷ later
+    spelled : map spelling earlier ≡ front
+    may_earlier : AllByRecursion IsEntry earlier
+    read_earlier : AllByRecursion (λ entry. IsTrue (forms entry)) earlier
+    says : Says forms words entry
+
+  -- after one more entry
+  more_found : (x : Entry) (xs : List Entry) (front : List (List (List ℕ))) (words : List (List ℕ)) → IsEntry x → IsTrue (forms x) → Found xs front words → Found (x ∷ xs) (spelling x ∷ front) words
+  more_found x xs front words may is_read rest = record {
+    earlier = x ∷ rest.earlier;
+    entry = rest.entry;
+    later = rest.later;
+    split = ap (λ (l : List Entry). x ∷ l) rest.split;
+    spelled = ap (λ (l : List (List (List ℕ))). spelling x ∷ l) rest.spelled;
+    may_earlier = (may, rest.may_earlier);
+    read_earlier = (is_read, rest.read_earlier);
+    says = rest.says;
+  }
+
+  found : (entries : List Entry) (front back : List (List (List ℕ))) (words : List (List ℕ)) → AllByRecursion IsEntry entries → AllByRecursion (λ entry. IsTrue (forms entry)) entries → map spelling entries ≡ front ++ words ∷ back → Found entries front words
+  found [] [] back words may are_read e = cc (e)
+  found [] (f ∷ front) back words may are_read e = cc (e)
+  found (x ∷ xs) [] back words may are_read e = let h : spelling x ≡ words = cc (e) in record { earlier = []; entry = x; later = xs; split = refl; spelled = refl; may_earlier = tt; read_earlier = tt; says = record { may = may.0; is_read = are_read.0; spelled = sym h } }
+  found (x ∷ xs) (f ∷ front) back words may are_read e =
+      let h : spelling x ≡ f = cc (e) in
+      let t : map spelling xs ≡ front ++ words ∷ back = cc (e) in
+      subst (λ (w : List (List ℕ)). Found (x ∷ xs) (w ∷ front) words) h (more_found x xs front words may.0 are_read.0 (found xs front back words may.1 are_read.1 t))
+
+  says_same : (words : List (List ℕ)) (a b : Entry) → Says forms words a → Says forms words b → a ≡ b
+  says_same words a b p q = entry_same a b p.may q.may (sym p.spelled ∙ q.spelled)
+
+  -- in lines that are in order no line has a fault
+  pub no_fault : (lines before : List (List ℕ)) (line : List ℕ) (after : List (List ℕ)) (entries said : List Entry) (fault : Fault) → lines ≡ before ++ line ∷ after → SayInTurn forms lines entries → AreInOrder entries → SayInTurn forms before said → is_skipped (words_of line) ≡ false → HasFault forms said (words_of line) fault → ⊥
+  no_fault lines before line after entries said fault split all in_order some counts wrong =
+      let spelled : map spelling entries ≡ statements_of before ++ words_of line ∷ statements_of after = sym all.spelled ∙ ap statements_of split ∙ statements_split before line after counts in
+      let at = found entries (statements_of before) (statements_of after) (words_of line) all.may all.are_read spelled in
+      let same : at.earlier ≡ said = entries_same at.earlier said at.may_earlier some.may (at.spelled ∙ some.spelled) in
+      let order : AreInOrder (said ++ at.entry ∷ at.later) = subst AreInOrder (at.split ∙ ap (λ (l : List Entry). l ++ at.entry ∷ at.later) same) in_order in
+      contradiction fault said (words_of line) at.entry at.later at.says order wrong
+    where
+      contradiction : (fault : Fault) (said : List Entry) (words : List (List ℕ)) (e : Entry) (later : List Entry) → Says forms words e → AreInOrder (said ++ e ∷ later) → HasFault forms said words fault → ⊥
+      contradiction NoForm said words e later says order wrong = wrong e says
+      contradiction Again said words e later says order wrong =
+          let one = says_same words wrong.0 e wrong.1 says in
+          let often : most_of_kind (kind_number e) ≤ count_of_kind (kind_number e) said = subst (λ (x : Entry). most_of_kind (kind_number x) ≤ count_of_kind (kind_number x) said) one wrong.3 in
+          omega (arith, often, count_at said e later, order.not_often (kind_number e))
+      contradiction NinthForbid said words e later says order wrong =
+          let one = says_same words wrong.0 e wrong.1 says in
+          let forbids : kind_number e ≡ forbid_kind = subst (λ (x : Entry). kind_number x ≡ forbid_kind) one wrong.2 in
+          let often : most_of_kind (kind_number e) ≤ count_of_kind (kind_number e) said = subst (λ (k : ℕ). most_of_kind k ≤ count_of_kind k said) (sym forbids) wrong.3 in
+          omega (arith, often, count_at said e later, order.not_often (kind_number e))
+      contradiction TooBig said words e later says order wrong =
+          let one = says_same words wrong.0 e wrong.1 says in
+          let big : 10 < named_elements e = subst (λ (x : Entry). 10 < named_elements x) one wrong.3 in
+          omega (arith, big, big_at said e later order.not_big)
+
+  first_fault_stands : (text : List ℕ) (q : Request) (n : ℕ) (fault : Fault) → StandsFor forms text q → FirstFault forms text n fault → ⊥
+  first_fault_stands text q n fault a b = no_fault _ b.before b.line b.after a.entries b.said fault b.split a.said a.in_order b.says b.counts b.wrong
+
+  -- a text that stands for a request isn't refused
+  pub not_both : (text : List ℕ) (q : Request) (why : Refusal) → StandsFor forms text q → HasRefusal forms text why → ⊥
+  not_both text q refusal.TooLong a b = omega (arith, a.short, b)
+  not_both text q (refusal.BadLine n) a b = first_fault_stands text q n NoForm a b
+  not_both text q (refusal.Twice n) a b = first_fault_stands text q n Again a b
+  not_both text q (refusal.TooManyForbidden n) a b = first_fault_stands text q n NinthForbid a b
+  not_both text q (refusal.ForbidTooBig n) a b = first_fault_stands text q n TooBig a b
+  not_both text q (refusal.Missing word) a b = missing_stands q b.0 word (subst (λ (es : List Entry). AskFor es q) (said_same _ a.entries b.0 a.said b.1.said) a.asked) b.2
+  not_both text q (refusal.Rank v) a b =
+      let values = b.2 in
+      let asked = subst (λ (es : List Entry). AskFor es q) (said_same _ a.entries values.entries a.said values.none.said) a.asked in
+      let same : q.rank ≡ v = cc (asked.rank, values.values.rank_said) in
+      b.3 (subst IsRank same a.limits.rank)
+  not_both text q (refusal.Size v) a b =
+      let values = b.2 in
+      let asked = subst (λ (es : List Entry). AskFor es q) (said_same _ a.entries values.entries a.said values.none.said) a.asked in
+      let ranks : q.rank ≡ b.0 = cc (asked.rank, values.values.rank_said) in
+      let sizes : q.size ≡ v = cc (asked.size, values.values.size_said) in
+      b.4 (subst (λ (s : ℕ). IsSize b.0 s) sizes (subst (λ (r : ℕ). IsSize r q.size) ranks a.limits.size))
+  not_both text q (refusal.TooWide c) a b =
+      let values = b.3 in
+      let asked = subst (λ (es : List Entry). AskFor es q) (said_same _ a.entries values.entries a.said values.none.said) a.asked in
+      let ranks : q.rank ≡ b.0 = cc (asked.rank, values.values.rank_said) in
+      let fields : q.factors ≡ b.1 = cc (asked.field, values.values.field_said) in
+      let same : column_count q.rank q.factors ≡ column_count b.0 b.1 = ap (λ (r : ℕ). column_count r q.factors) ranks ∙ ap (column_count b.0) fields in
+      let few = a.limits.columns in
+      omega (arith, same, few, b.6, b.7)
+  not_both text q refusal.NotBuilt a b = b
+
+  -- a line has one fault after given entries
+  fault_same : (said : List Entry) (words : List (List ℕ)) (f g : Fault) → HasFault forms said words f → HasFault forms said words g → f ≡ g
+  fault_same said words NoForm NoForm a b = refl
+  fault_same said words NoForm Again a b = absurd (a b.0 b.1)
+  fault_same said words NoForm NinthForbid a b = absurd (a b.0 b.1)
+  fault_same said words NoForm TooBig a b = absurd (a b.0 b.1)
+  fault_same said words Again NoForm a b = absurd (b a.0 a.1)
+  fault_same said words NinthForbid NoForm a b = absurd (b a.0 a.1)
+  fault_same said words TooBig NoForm a b = absurd (b a.0 a.1)
+  fault_same said words Again Again a b = refl
+  fault_same said words NinthForbid NinthForbid a b = refl
+  fault_same said words TooBig TooBig a b = refl
+  fault_same said words Again NinthForbid a b = absurd (subst (λ (x : Entry). kind_number x ≢ forbid_kind) (says_same words a.0 b.0 a.1 b.1) a.2 b.2)
+  fault_same said words NinthForbid Again a b = absurd (subst (λ (x : Entry). kind_number x ≢ forbid_kind) (says_same words b.0 a.0 b.1 a.1) b.2 a.2)
+  fault_same said words Again TooBig a b =
+      let often = subst (λ (x : Entry). most_of_kind (kind_number x) ≤ count_of_kind (kind_number x) said) (says_same words a.0 b.0 a.1 b.1) a.3 in
+      absurd (omega (arith, often, b.2))
+  fault_same said words TooBig Again a b =
+      let often = subst (λ (x : Entry). most_of_kind (kind_number x) ≤ count_of_kind (kind_number x) said) (says_same words b.0 a.0 b.1 a.1) b.3 in
+      absurd (omega (arith, often, a.2))
+  fault_same said words NinthForbid TooBig a b =
+      let few = subst (λ (k : ℕ). count_of_kind k said < most_of_kind k) (ap kind_number (says_same words b.0 a.0 b.1 a.1) ∙ a.2) b.2 in
+      absurd (omega (arith, few, a.3))
+  fault_same said words TooBig NinthForbid a b =
+      let few = subst (λ (k : ℕ). count_of_kind k said < most_of_kind k) (ap kind_number (says_same words a.0 b.0 a.1 b.1) ∙ b.2) a.2 in
+      absurd (omega (arith, few, b.3))
+
+  -- the first fault of a text is one
+  first_fault_same : (text : List ℕ) (m n : ℕ) (f g : Fault) → FirstFault forms text m f → FirstFault forms text n g → (m ≡ n) × (f ≡ g)
+  first_fault_same text m n f g a b = at (places a.before a.line a.after b.before b.line b.after (sym a.split ∙ b.split))
+    where
+      at : Places a.before a.line b.before b.line → (m ≡ n) × (f ≡ g)
+      at (SamePlace e l) =
+          let said : a.said ≡ b.said = said_same _ a.said b.said (subst (λ (ls : List (List ℕ)). SayInTurn forms ls a.said) e a.says) b.says in
+          let wrong = subst (λ (es : List Entry). HasFault forms es (words_of b.line) f) said (subst (λ (line : List ℕ). HasFault forms a.said (words_of line) f) l a.wrong) in
+          (omega (arith, a.place, b.place, ap length e), fault_same b.said (words_of b.line) f g wrong b.wrong)
+      at (Sooner rest e) = absurd (no_fault b.before a.before a.line rest b.said a.said f e b.says b.in_order a.says a.counts a.wrong)
+      at (Later rest e) = absurd (no_fault a.before b.before b.line rest a.said b.said g e a.says a.in_order b.says b.counts b.wrong)
+
+  -- at which place of the order a text is refused
+  data Stage (text : List ℕ) (why : Refusal) : Type 0 where
+    Long : most_bytes < length text → why ≡ refusal.TooLong → Stage text why
+    AtLine : (n : ℕ) (fault : Fault) → FirstFault forms text n fault → why ≡ refusal_at fault n → Stage text why
+    Lacks : (word : Word) (entries : List Entry) → NoFault forms text entries → IsMissing entries word → why ≡ refusal.Missing word → Stage text why
+    OutOf : (rank : ℕ) (factors : List ℕ) (size : ℕ) → HasValues forms text rank factors size → Late rank factors size why → Stage text why
+
+  stage : (text : List ℕ) (why : Refusal) → HasRefusal forms text why → Stage text why
+  unfolding refusal_at
+  stage text refusal.TooLong h = Long h refl
+  stage text (refusal.BadLine n) h = AtLine n NoForm h refl
+  stage text (refusal.Twice n) h = AtLine n Again h refl
+  stage text (refusal.TooManyForbidden n) h = AtLine n NinthForbid h refl
+  stage text (refusal.ForbidTooBig n) h = AtLine n TooBig h refl
+  stage text (refusal.Missing word) h = Lacks word h.0 h.1 h.2 refl
+  stage text (refusal.Rank v) h = OutOf v h.0 h.1 h.2 (BadRank h.3 refl)
+  stage text (refusal.Size v) h = OutOf h.0 h.1 v h.2 (BadSize h.3 h.4 refl)
+  stage text (refusal.TooWide c) h = OutOf h.0 h.1 h.2 h.3 (Wide h.4 h.5 (ap refusal.TooWide h.6))
+  stage text refusal.NotBuilt h = absurd h
+
+  line_none : (text : List ℕ) (n : ℕ) (fault : Fault) (entries : List Entry) → FirstFault forms text n fault → NoFault forms text entries → ⊥
+  line_none text n fault entries b a = no_fault _ b.before b.line b.after entries b.said fault b.split a.said a.in_order b.says b.counts b.wrong
+
+  stage_same : (text : List ℕ) (v w : Refusal) → Stage text v → Stage text w → v ≡ w
+  stage_same text v w (Long a e) (Long b f) = e ∙ sym f
+  stage_same text v w (Long a e) (AtLine n g b f) = absurd (omega (arith, a, b.short))
+  stage_same text v w (Long a e) (Lacks word es b c f) = absurd (omega (arith, a, b.short))
+  stage_same text v w (Long a e) (OutOf r fs s b c) = absurd (omega (arith, a, b.none.short))
+  stage_same text v w (AtLine n g b f) (Long a e) = absurd (omega (arith, a, b.short))
+  stage_same text v w (AtLine m f a e) (AtLine n g b h) = let same = first_fault_same text m n f g a b in e ∙ ap (λ (k : ℕ). refusal_at f k) same.0 ∙ ap (λ (k : Fault). refusal_at k n) same.1 ∙ sym h
+  stage_same text v w (AtLine m f a e) (Lacks word es b c h) = absurd (line_none text m f es a b)
+  stage_same text v w (AtLine m f a e) (OutOf r fs s b c) = absurd (line_none text m f b.entries a b.none)
+  stage_same text v w (Lacks word es b c f) (Long a e) = absurd (omega (arith, a, b.short))
+  stage_same text v w (Lacks word es b c h) (AtLine m f a e) = absurd (line_none text m f es a b)
+  stage_same text v w (Lacks word es a c e) (Lacks word' es' b d f) = e ∙ ap refusal.Missing (missing_same es' word word' (subst (λ (l : List Entry). IsMissing l word) (said_same _ es es' a.said b.said) c) d) ∙ sym f
+  stage_same text v w (Lacks word es a c e) (OutOf r fs s b d) = absurd (missing_values b.entries word r fs s (subst (λ (l : List Entry). IsMissing l word) (said_same _ es b.entries a.said b.none.said) c) b.values)
+  stage_same text v w (OutOf r fs s b c) (Long a e) = absurd (omega (arith, a, b.none.short))
+  stage_same text v w (OutOf r fs s b c) (AtLine m f a e) = absurd (line_none text m f b.entries a b.none)
+  stage_same text v w (OutOf r fs s b d) (Lacks word es a c e) = absurd (missing_values b.entries word r fs s (subst (λ (l : List Entry). IsMissing l word) (said_same _ es b.entries a.said b.none.said) c) b.values)
+  stage_same text v w (OutOf r fs s a c) (OutOf r' fs' s' b d) =
+      let one = said_same _ a.entries b.entries a.none.said b.none.said in
+      let values = subst (λ (l : List Entry). AreValues l r fs s) one a.values in
+      let ranks : r ≡ r' = cc (values.rank_said, b.values.rank_said) in
+      let fields : fs ≡ fs' = cc (values.field_said, b.values.field_said) in
+      let sizes : s ≡ s' = cc (values.size_said, b.values.size_said) in
+      let moved = subst (λ (k : ℕ). Late r' fs' k v) sizes (subst (λ (k : List ℕ). Late r' k s v) fields (subst (λ (k : ℕ). Late k fs s v) ranks c)) in
+      late_same r' fs' s' v w moved d
+
+  -- a text has one refusal
+  pub refusal_same : (text : List ℕ) (v w : Refusal) → HasRefusal forms text v → HasRefusal forms text w → v ≡ w
+  refusal_same text v w a b = stage_same text v w (stage text v a) (stage text w b)

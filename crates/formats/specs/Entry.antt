@@ -1,5 +1,5 @@
 -- What a line says, how it is spelled, and what may be said.
-use Rattle.std.specs.Prelude.{◌≡◌, ℕ, ◌+◌, ◌^◌, ◌<◌, ◌≤◌, ◌==◌, List, [], ◌∷◌, ◌++◌, map, length, codes, decimal, nat_lt, if◌then◌else◌}
+use Rattle.std.specs.Prelude.{◌≡◌, ℕ, ◌+◌, ◌^◌, ◌<◌, ◌≤◌, ◌==◌, List, [], ◌∷◌, ◌++◌, map, length, codes, decimal, nat_lt, Bool, true, IsTrue, if◌then◌else◌}
 use Rattle.std.specs.List.{AllByRecursion}
 use Rattle.matroid_theory.specs.Field.{IsOrder, IsFactors}
 use Rattle.formats.specs.declared.refusal.PrintMode.{PrintMode}
@@ -101,9 +101,14 @@ IsEntry (Forbids minor) = IsMinor minor
 IsEntry (ListsWith minor) = IsMinor minor
 IsEntry _ = Unit {0}
 
--- the words say it
-pub record Says (words : List (List ℕ)) (entry : Entry) : Type 0 where
+-- all forms of a line are read
+abbrev pub all_forms : Entry → Bool
+all_forms entry = true
+
+-- the words say it, in a form that is read
+pub record Says (forms : Entry → Bool) (words : List (List ℕ)) (entry : Entry) : Type 0 where
   pub may : IsEntry entry
+  pub is_read : IsTrue (forms entry)
   pub spelled : words ≡ spelling entry
 
 -- its kind, as its place in the table of the forms

@@ -1,5 +1,5 @@
 -- Which texts stand for which request.
-use Rattle.std.specs.Prelude.{◌≡◌, ℕ, zero, suc, ◌+◌, ◌-◌, ◌*◌, ◌^◌, ◌≤◌, ◌==◌, List, [], ◌∷◌, map, sum, length, count_by, Bool, false, true, Option, Some, None, option_to_list, filter_map, if◌then◌else◌}
+use Rattle.std.specs.Prelude.{◌≡◌, ℕ, zero, suc, ◌+◌, ◌-◌, ◌*◌, ◌^◌, ◌≤◌, ◌==◌, List, [], ◌∷◌, map, sum, length, count_by, Bool, false, true, IsTrue, Option, Some, None, option_to_list, filter_map, if◌then◌else◌}
 use Rattle.std.specs.List.{AllByRecursion, list_any, range_with_len}
 use Rattle.formats.specs.declared.refusal.PrintMode.{PrintMode}
 use Rattle.formats.specs.declared.refusal.PrintMode.TheVariants.{Forms, Counts}
@@ -18,9 +18,10 @@ pub record Request : Type 0 where
   pub has : Option Minor
   pub print : PrintMode
 
--- The lines that aren't skipped say these entries, in their order.
-pub record SayInTurn (lines : List (List ℕ)) (entries : List Entry) : Type 0 where
+-- The lines that aren't skipped say these entries, in their order, in forms that are read.
+pub record SayInTurn (forms : Entry → Bool) (lines : List (List ℕ)) (entries : List Entry) : Type 0 where
   pub may : AllByRecursion IsEntry entries
+  pub are_read : AllByRecursion (λ entry. IsTrue (forms entry)) entries
   pub spelled : statements_of lines ≡ map spelling entries
 
 abbrev pub count_of_kind : ℕ → List Entry → ℕ
@@ -102,11 +103,11 @@ pub record IsWithinLimits (request : Request) : Type 0 where
   pub size : IsSize request.rank request.size
   pub columns : column_count request.rank request.factors ≤ most_columns
 
--- The text is a request, and this is what it asks for.
-pub record StandsFor (text : List ℕ) (request : Request) : Type 0 where
+-- The text is a request, with lines of forms that are read, and this is what it asks for.
+pub record StandsFor (forms : Entry → Bool) (text : List ℕ) (request : Request) : Type 0 where
   pub short : length text ≤ most_bytes
   pub entries : List Entry
-  pub said : SayInTurn (lines_of text) entries
+  pub said : SayInTurn forms (lines_of text) entries
   pub in_order : AreInOrder entries
   pub asked : AskFor entries request
   pub limits : IsWithinLimits request

@@ -1,7 +1,8 @@
 -- What a run was asked for, and what it has written by then.
-use Rattle.std.specs.Prelude.{ℕ, List, Option}
+use Rattle.std.specs.Prelude.{Bool, ℕ, List, Option}
 use Rattle.std.specs.Io.KnownBytes.{Appends}
 use Rattle.formats.specs.declared.refusal.Refusal.{Refusal}
+use Rattle.formats.specs.Entry.{Entry}
 use Rattle.formats.specs.Request.{Request, StandsFor}
 use Rattle.formats.specs.Refusal.{HasRefusal}
 use Rattle.formats.specs.Words.{Piece, AsksForText}
@@ -9,16 +10,16 @@ use Rattle.formats.specs.Listing.{LevelEntry, listing_blocks}
 use Rattle.formats.specs.Levels.{AreLevels}
 
 -- The words and the source ask for a request.
-pub record Asks (MayStand : Piece → Type 0) (words : List (List ℕ)) (left : Option (List ℕ)) (request : Request) : Type 0 where
+pub record Asks (forms : Entry → Bool) (MayStand : Piece → Type 0) (words : List (List ℕ)) (left : Option (List ℕ)) (request : Request) : Type 0 where
   pub text : List ℕ
   pub asked : AsksForText MayStand words left text
-  pub stands : StandsFor text request
+  pub stands : StandsFor forms text request
 
 -- The words and the source ask for a text that is refused so.
-pub record AsksForRefused (MayStand : Piece → Type 0) (words : List (List ℕ)) (left : Option (List ℕ)) (refusal : Refusal) : Type 0 where
+pub record AsksForRefused (forms : Entry → Bool) (MayStand : Piece → Type 0) (words : List (List ℕ)) (left : Option (List ℕ)) (refusal : Refusal) : Type 0 where
   pub text : List ℕ
   pub asked : AsksForText MayStand words left text
-  pub refused : HasRefusal text refusal
+  pub refused : HasRefusal forms text refusal
 
 -- The sink gained what `Part` allows of the listing of the request: of its blocks, and of the bytes that were written.
 pub record GainsOf (q : Request) (before after : Option (List ℕ)) (Part : List (List (List ℕ)) → List ℕ → Type 0) : Type 0 where
