@@ -67,7 +67,8 @@ pub fn clear_all(field: Field, columns: &mut [Column], last: &Column, row: usize
 }
 
 pub fn copied(column: &Column) -> Column
-    ensures { result.items ≡ column.now.items }
+    ensures codes { result.items ≡ column.now.items }
+    ensures fits { length column.now.items ≤ 6 }
 {
     let mut copy = ArrayVec::new();
     for code in column.as_slice() {

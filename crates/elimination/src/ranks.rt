@@ -2,7 +2,7 @@
 ghost use Rattle.std.specs.Prelude.{◌≤◌, length};
 ghost use Rattle.elimination.specs.Columns.{height, AreColumns, IsRankOfColumns};
 
-use crate::clear::{clear_all, copies, pivot};
+use crate::clear::{clear_all, copies, height, pivot};
 use field_tables::{Column, Field};
 
 /// The rank of the columns: the greatest size of an independent set of them.
@@ -12,12 +12,16 @@ pub fn rank(field: Field, columns: &[Column]) -> usize
     ensures { IsRankOfColumns field (height columns.now) columns.now result }
 {
     field.laws();
+    let rows = height(columns);
     let mut rest = copies(columns);
     let mut found = 0;
     while let Some(last) = rest.pop() {
         if let Some(row) = pivot(&last) {
-            clear_all(field, rest.as_mut_slice(), &last, row);
             found += 1;
+            if found == rows {
+                return found;
+            }
+            clear_all(field, rest.as_mut_slice(), &last, row);
         }
     }
     found
