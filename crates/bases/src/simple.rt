@@ -1,12 +1,45 @@
-ghost use Rattle.std.specs.Prelude.{◌↔◌, IsTrue};
-ghost use Rattle.matroid_theory.specs.Matroid.{IsSimple};
+ghost use Rattle.std.specs.Prelude.{◌≡◌, ◌<◌, ◌≤◌, ◌↔◌, ◌==◌, ◌||◌, ℕ, IsTrue};
+ghost use Rattle.matroid_theory.specs.Rep.{size, count};
+ghost use Rattle.matroid_theory.specs.Matroid.{IsIndependentIn, IsSimple};
 
-use elimination::independent;
+use crate::basis::is_independent;
 use product_rep::Rep;
 
 /// Whether in every factor no column is zero and no two columns are parallel.
 pub fn is_simple(rep: &Rep) -> bool
     ensures { IsTrue result ↔ IsSimple rep.now }
 {
-    rep.size() == 0
+    for factor in 0..rep.factors().count() {
+        if !is_simple_in(rep, factor) {
+            return false;
+        }
+    }
+    true
+}
+
+/// Whether in one factor no column is zero and no two columns are parallel.
+fn is_simple_in(rep: &Rep, factor: usize) -> bool
+    requires { factor < count rep.now }
+    ensures { IsTrue result ↔ ((i j : ℕ) → i < size rep.now → j < size rep.now → IsIndependentIn rep.now factor (λ k. (k == i) || (k == j))) }
+{
+    for j in 0..rep.size() {
+        if !is_apart_from_earlier(rep, factor, j) {
+            return false;
+        }
+    }
+    true
+}
+
+/// Whether in one factor column `j` is nonzero and parallel to none before it.
+fn is_apart_from_earlier(rep: &Rep, factor: usize, j: usize) -> bool
+    requires factor { factor < count rep.now }
+    requires column { j < 16 }
+    ensures { IsTrue result ↔ ((i : ℕ) → i ≤ j → IsIndependentIn rep.now factor (λ k. (k == i) || (k == j))) }
+{
+    for i in 0..=j {
+        if !is_independent(rep, factor, 1 << i | 1 << j) {
+            return false;
+        }
+    }
+    true
 }

@@ -18,3 +18,6 @@ pub mod GivenLemmas
 pub mod First
 pub mod Tries
 pub mod Examples
+pub mod Agreement
+pub mod MaskCounts
+pub mod Pairs
