@@ -1,0 +1,6 @@
+//! Reads a request: cuts a text into lines, a line into words, and says what the lines ask for or the first fault.
+#![tactic(auto)]
+
+mod cut;
+mod line;
+mod number;
