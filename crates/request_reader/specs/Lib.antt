@@ -1,2 +1,5 @@
+pub mod Limits
 pub mod Now
+pub mod Plain
 pub mod Said
+pub mod Values

@@ -1,6 +1,11 @@
 //! Reads a request: cuts a text into lines, a line into words, and says what the lines ask for or the first fault.
 #![tactic(auto)]
 
+mod columns;
 mod cut;
 mod line;
 mod number;
+mod request;
+mod values;
+
+pub use request::Request;
