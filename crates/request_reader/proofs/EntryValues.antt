@@ -1,5 +1,7 @@
 -- What one more entry does to the values.
-use Rattle.std.proofs.Common.{◌≡◌, ◌∙◌, ℕ, zero, suc, ◌+◌, ◌<◌, ◌≤◌, ◌==◌, inl, inr, Bool, true, false, cond, List, [], ◌∷◌, ◌++◌, length, Option, None, Some, refl, sym, ap, subst, arith, add-zero, append-nil}
+use Rattle.std.proofs.Common.{◌≡◌, ◌∙◌, ℕ, zero, suc, ◌+◌, ◌<◌, ◌≤◌, ◌==◌, inl, inr, Bool, true, false, cond, List, [], ◌∷◌, ◌++◌, length, Option, None, Some, refl, sym, ap, subst, arith, add-zero, not}
+use Rattle.std.specs.Option.{is_some}
+use Rattle.std.proofs.lemmas.List.{append-nil}
 use Rattle.std.specs.Prelude.{IsTrue, filter_map, option_to_list}
 use Rattle.std.specs.List.{AllByRecursion, cons_option}
 use Rattle.std.proofs.lemmas.Bool.{cases_Bool}
@@ -160,18 +162,54 @@ print_end es values h new =
     }
 
 -- a kind that has a value was there
-some_value : {X : Type 0} (o : Option X) (xs : List X) → xs ≡ option_to_list o → is_none o ≡ false → 1 ≤ length xs
-some_value None xs e is = cc (is)
-some_value (Some x) xs e is = let l : length xs ≡ 1 = ap length e in omega arith
-
-pub flag_again : (es : List Entry) (kind : ℕ) (flag : Bool) → count_of_kind kind es ≡ cond flag 1 0 → flag ≡ true → 1 ≤ count_of_kind kind es
+flag_again : (es : List Entry) (kind : ℕ) (flag : Bool) → count_of_kind kind es ≡ cond flag 1 0 → flag ≡ true → 1 ≤ count_of_kind kind es
 flag_again es kind flag e set = let one : count_of_kind kind es ≡ 1 = e ∙ ap (λ (b : Bool). cond b 1 0) set in omega arith
 
-pub rank_again : (es : List Entry) (values : Values) → Holds es values → is_none values.rank ≡ false → 1 ≤ count_of_kind 1 es
-rank_again es values h is = omega (arith, rank_count es, some_value values.rank _ h.rank is)
+value_again : {X : Type 0} (o : Option X) (xs : List X) (n : ℕ) → n ≡ length xs → xs ≡ option_to_list o → is_some o ≡ true → 1 ≤ n
+value_again None xs n m e is = cc (is)
+value_again (Some x) xs n m e is = let l : length xs ≡ 1 = ap length e in omega arith
 
-pub field_again : (es : List Entry) (values : Values) → Holds es values → is_none values.factors ≡ false → 1 ≤ count_of_kind 2 es
-field_again es values h is = omega (arith, field_count es, some_value values.factors _ h.field is)
+none_there : {X : Type 0} (o : Option X) → is_some o ≡ false → o ≡ None
+none_there None is = refl
+none_there (Some x) is = cc (is)
 
-pub size_again : (es : List Entry) (values : Values) → Holds es values → is_none values.size ≡ false → 1 ≤ count_of_kind 3 es
-size_again es values h is = omega (arith, size_count es, some_value values.size _ h.size is)
+-- what is said was not said before, or was
+pub version_new : (es : List Entry) (values : Values) (s : Said) → Holds es values → s ≡ said.Version → values.version ≡ false → Holds (es ++ entry_of s ∷ []) (record values { version = true })
+version_new es values s h is new = subst (λ (s : Said). Holds (es ++ entry_of s ∷ []) (record values { version = true })) (sym is) (version_end es values h new)
+
+pub rank_new : (es : List Entry) (values : Values) (s : Said) (n : ℕ) → Holds es values → s ≡ said.Rank n → is_some values.rank ≡ false → Holds (es ++ entry_of s ∷ []) (record values { rank = Some n })
+rank_new es values s n h is new = subst (λ (s : Said). Holds (es ++ entry_of s ∷ []) (record values { rank = Some n })) (sym is) (rank_end es values n h (none_there values.rank new))
+
+pub field_new : (es : List Entry) (values : Values) (s : Said) (fs : List ℕ) → Holds es values → s ≡ said.Field fs → is_some values.factors ≡ false → Holds (es ++ entry_of s ∷ []) (record values { factors = Some fs })
+field_new es values s fs h is new = subst (λ (s : Said). Holds (es ++ entry_of s ∷ []) (record values { factors = Some fs })) (sym is) (field_end es values fs h (none_there values.factors new))
+
+pub size_new : (es : List Entry) (values : Values) (s : Said) (n : ℕ) → Holds es values → s ≡ said.Size n → is_some values.size ≡ false → Holds (es ++ entry_of s ∷ []) (record values { size = Some n })
+size_new es values s n h is new = subst (λ (s : Said). Holds (es ++ entry_of s ∷ []) (record values { size = Some n })) (sym is) (size_end es values n h (none_there values.size new))
+
+pub print_new : (es : List Entry) (values : Values) (s : Said) → Holds es values → s ≡ said.PrintsForms → values.print ≡ false → Holds (es ++ entry_of s ∷ []) (record values { print = true })
+print_new es values s h is new = subst (λ (s : Said). Holds (es ++ entry_of s ∷ []) (record values { print = true })) (sym is) (print_end es values h new)
+
+abbrev pub WasSaid : List Entry → Said → Type 0
+WasSaid es s = 1 ≤ count_of_kind (kind_number (entry_of s)) es
+
+pub version_again : (es : List Entry) (values : Values) (s : Said) → Holds es values → s ≡ said.Version → values.version ≡ true → WasSaid es s
+version_again es values s h is set = subst (WasSaid es) (sym is) (flag_again es 0 values.version h.version set)
+
+pub rank_again : (es : List Entry) (values : Values) (s : Said) (n : ℕ) → Holds es values → s ≡ said.Rank n → is_some values.rank ≡ true → WasSaid es s
+rank_again es values s n h is set = subst (WasSaid es) (sym is) (value_again values.rank _ _ (rank_count es) h.rank set)
+
+pub field_again : (es : List Entry) (values : Values) (s : Said) (fs : List ℕ) → Holds es values → s ≡ said.Field fs → is_some values.factors ≡ true → WasSaid es s
+field_again es values s fs h is set = subst (WasSaid es) (sym is) (value_again values.factors _ _ (field_count es) h.field set)
+
+pub size_again : (es : List Entry) (values : Values) (s : Said) (n : ℕ) → Holds es values → s ≡ said.Size n → is_some values.size ≡ true → WasSaid es s
+size_again es values s n h is set = subst (WasSaid es) (sym is) (value_again values.size _ _ (size_count es) h.size set)
+
+pub print_again : (es : List Entry) (values : Values) (s : Said) → Holds es values → s ≡ said.PrintsForms → values.print ≡ true → WasSaid es s
+print_again es values s h is set = subst (WasSaid es) (sym is) (flag_again es 10 values.print h.print set)
+
+-- what a test for none says of what is there
+pub is_there : (there none : Bool) → there ≡ not none → none ≡ false → there ≡ true
+is_there there none e is = cc
+
+pub not_there : (there none : Bool) → there ≡ not none → none ≡ true → there ≡ false
+not_there there none e is = cc

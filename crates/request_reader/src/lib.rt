@@ -5,7 +5,9 @@ mod columns;
 mod cut;
 mod line;
 mod number;
+mod read;
 mod request;
 mod values;
 
+pub use read::read_request;
 pub use request::Request;
