@@ -31,7 +31,7 @@ count_end kind es e = sum_by-append (of_kind kind) es (e ∷ []) ∙ ap (λ (n :
     add : of_kind kind e + 0 ≡ of_kind kind e
     add = omega arith
 
-all_end : (P : Entry → Type 0) (es : List Entry) (e : Entry) → AllByRecursion P es → P e → AllByRecursion P (es ++ e ∷ [])
+pub all_end : (P : Entry → Type 0) (es : List Entry) (e : Entry) → AllByRecursion P es → P e → AllByRecursion P (es ++ e ∷ [])
 all_end P [] e all p = (p, tt)
 all_end P (x ∷ es) e all p = (all.0, all_end P es e all.1 p)
 

@@ -22,14 +22,14 @@ pub fn read_request(text: &[u8]) -> Result<Request, Refusal>
     if text.len() > MOST_BYTES {
         return Err(Refusal::TooLong);
     }
-    let values = read_values(text)?;
-    let Some(rank) = values.rank else {
+    let Values { rank, factors, size, .. } = read_values(text)?;
+    let Some(rank) = rank else {
         return Err(Refusal::Missing(Word::Rank));
     };
-    let Some(factors) = values.factors else {
+    let Some(factors) = factors else {
         return Err(Refusal::Missing(Word::Field));
     };
-    let Some(size) = values.size else {
+    let Some(size) = size else {
         return Err(Refusal::Missing(Word::Size));
     };
     request_for(rank, factors, size)
