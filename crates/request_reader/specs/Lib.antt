@@ -1,2 +1,3 @@
 pub mod Now
 pub mod Said
+pub mod Spellings

@@ -2,5 +2,7 @@
 #![tactic(auto)]
 
 mod cut;
+mod field_line;
+mod keyword;
 mod line;
 mod number;
