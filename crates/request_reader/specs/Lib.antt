@@ -2,4 +2,5 @@ pub mod Limits
 pub mod Now
 pub mod Plain
 pub mod Said
+pub mod Spellings
 pub mod Values

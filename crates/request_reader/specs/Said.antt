@@ -1,5 +1,4 @@
 -- What a line says, as an entry.
-use Rattle.std.specs.Prelude.{ℕ}
 use Rattle.request_reader.specs.declared.line.Said.{Said}
 use Rattle.request_reader.specs.declared.line.Said.TheVariants as said
 use Rattle.formats.specs.declared.refusal.PrintMode.TheVariants.{Forms}

@@ -3,6 +3,8 @@
 
 mod columns;
 mod cut;
+mod field_line;
+mod keyword;
 mod line;
 mod number;
 mod read;
