@@ -7,7 +7,7 @@ use Rattle.formats.specs.declared.refusal.Word.TheVariants.{Rank, Field, Size}
 use Rattle.formats.specs.declared.refusal.Refusal.{Refusal}
 use Rattle.formats.specs.declared.refusal.Refusal.TheVariants as refusal
 use Rattle.formats.specs.Entry.{Entry, Version, RankIs, FieldIs, SizeIs, Forbids, ListsConnected, ListsThreeConnected, ListsCosimple, ListsDistinct, ListsWith, Prints, kind_number}
-use Rattle.formats.specs.Request.{Request, AskFor, StandsFor, IsWithinLimits, rank_in, field_in, size_in, forbidden_in, wanted_in, has_kind, prints_counts}
+use Rattle.formats.specs.Request.{Request, AskFor, StandsFor, IsWithinLimits, IsRank, IsSize, rank_in, field_in, size_in, forbidden_in, wanted_in, has_kind, prints_counts}
 use Rattle.formats.specs.Refusal.{AreValues, HasValues, HasRefusal}
 use Rattle.request_reader.specs.declared.values.Values.{Values}
 use Rattle.request_reader.specs.Limits.{IsLate}
@@ -24,8 +24,8 @@ none_found value none [] all = refl
 none_found value none (e ∷ entries) all = ap (λ o. cons_option o (filter_map value entries)) (none e all.0) ∙ none_found value none entries all.1
 
 none_any : (test : Entry → Bool) → ((e : Entry) → IsTrue (forms_now e) → test e ≡ false) → (entries : List Entry) → AllRead entries → list_any test entries ≡ false
-none_any test no [] all = refl
-none_any test no (e ∷ entries) all = ?
+none_any test never [] all = refl
+none_any test never (e ∷ entries) all = let here = never e all.0 in let later = none_any test never entries all.1 in cc
 
 not_forbidden : (e : Entry) → IsTrue (forms_now e) → forbidden_in e ≡ None
 not_forbidden (Forbids minor) is_read = cc (is_read)
@@ -97,8 +97,8 @@ stands text rank factors size h limits = record {
 
 -- what the limits say of the values is said of the text
 late : (text : List ℕ) (rank : ℕ) (factors : List ℕ) (size : ℕ) (why : Refusal) → HasValues forms_now text rank factors size → IsLate rank factors size why → IsRefused text why
-late text rank factors size (refusal.Rank v) h l = inl (factors, size, subst (λ (n : ℕ). HasValues forms_now text n factors size) (sym l.0) h, ?)
-late text rank factors size (refusal.Size v) h l = inl (rank, factors, subst (λ (n : ℕ). HasValues forms_now text rank factors n) (sym l.0) h, l.1, ?)
+late text rank factors size (refusal.Rank v) h l = inl (factors, size, subst (λ (n : ℕ). HasValues forms_now text n factors size) (sym l.0) h, subst (λ (n : ℕ). IsRank n → ⊥) (sym l.0) l.1)
+late text rank factors size (refusal.Size v) h l = inl (rank, factors, subst (λ (n : ℕ). HasValues forms_now text rank factors n) (sym l.0) h, l.1, subst (λ (n : ℕ). IsSize rank n → ⊥) (sym l.0) l.2)
 late text rank factors size (refusal.TooWide c) h l = inl (rank, factors, size, h, l.1, l.2, l.0, l.3)
 late text rank factors size refusal.NotBuilt h l = inr (refl, record { request = plain_request factors rank size; stands = stands text rank factors size h l.0; above = l.1 })
 late text rank factors size _ h l = absurd l
@@ -120,13 +120,13 @@ pub rank_missing : (text : List ℕ) (values : Values) → AreSaid text values �
 rank_missing text values said none = inl (said.entries, said.none, said.holds.rank ∙ ap option_to_list none)
 
 pub field_missing : (text : List ℕ) (values : Values) (rank : ℕ) → AreSaid text values → values.rank ≡ Some rank → values.factors ≡ None → IsRefused text (refusal.Missing Field)
-field_missing text values rank said r none = inl (said.entries, said.none, there said.entries rank (said.holds.rank ∙ ap option_to_list r), said.holds.field ∙ ap option_to_list none)
+field_missing text values rank said r none = inl (said.entries, said.none, (there said.entries rank (said.holds.rank ∙ ap option_to_list r), said.holds.field ∙ ap option_to_list none))
   where
     there : (entries : List Entry) (rank : ℕ) → filter_map rank_in entries ≡ rank ∷ [] → filter_map rank_in entries ≢ []
     there entries rank e none = cc (e, none)
 
 pub size_missing : (text : List ℕ) (values : Values) (rank : ℕ) (factors : List ℕ) → AreSaid text values → values.rank ≡ Some rank → values.factors ≡ Some factors → values.size ≡ None → IsRefused text (refusal.Missing Size)
-size_missing text values rank factors said r f none = inl (said.entries, said.none, some said.holds.rank r, some said.holds.field f, said.holds.size ∙ ap option_to_list none)
+size_missing text values rank factors said r f none = inl (said.entries, said.none, (some said.holds.rank r, some said.holds.field f, said.holds.size ∙ ap option_to_list none))
   where
     some : {X : Type 0} {xs : List X} {o : Option X} {x : X} → xs ≡ option_to_list o → o ≡ Some x → xs ≢ []
     some {X = X} {o = o} {x = x} e is none = let f : option_to_list o ≡ x ∷ [] = ap option_to_list is in cc (e, f, none)
