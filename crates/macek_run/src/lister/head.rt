@@ -4,10 +4,10 @@ ghost use Rattle.formats.specs.Entry.{FieldIs, spelling};
 ghost use Rattle.formats.specs.Listing as listing;
 
 use crate::lister::line::{Head, push_line};
-use crate::request_reader::Request;
 use arrayvec::ArrayVec;
 use itoa::Buffer;
 use product_rep::Factors;
+use request_reader::Request;
 
 /// Appends the line of the factors.
 fn push_field_line(head: &mut Head, factors: &Factors)
