@@ -1,0 +1,132 @@
+-- What entries without a filter ask for, and how a text is accepted or refused by its values.
+use Rattle.std.proofs.Common.{◌≡◌, ◌∙◌, ◌≢◌, ℕ, ◌+◌, ◌<◌, ◌≤◌, ◌||◌, ◌==◌, inl, inr, Bool, true, false, cond, List, [], ◌∷◌, Option, None, Some, refl, sym, ap, subst}
+use Rattle.std.specs.Prelude.{IsTrue, filter_map, option_to_list, Result, Ok, Err, IfOk, IfErr, if◌then◌else◌}
+use Rattle.std.specs.List.{AllByRecursion, list_any, cons_option}
+use Rattle.formats.specs.declared.refusal.PrintMode.TheVariants.{Forms, Counts}
+use Rattle.formats.specs.declared.refusal.Word.TheVariants.{Rank, Field, Size}
+use Rattle.formats.specs.declared.refusal.Refusal.{Refusal}
+use Rattle.formats.specs.declared.refusal.Refusal.TheVariants as refusal
+use Rattle.formats.specs.Entry.{Entry, Version, RankIs, FieldIs, SizeIs, Forbids, ListsConnected, ListsThreeConnected, ListsCosimple, ListsDistinct, ListsWith, Prints, kind_number}
+use Rattle.formats.specs.Request.{Request, AskFor, StandsFor, IsWithinLimits, IsRank, IsSize, rank_in, field_in, size_in, forbidden_in, wanted_in, has_kind, prints_counts}
+use Rattle.formats.specs.Refusal.{AreValues, HasValues, HasRefusal}
+use Rattle.request_reader.specs.declared.values.Values.{Values}
+use Rattle.request_reader.specs.Limits.{IsLate}
+use Rattle.request_reader.specs.Now.{forms_now, IsAccepted, IsAhead, IsRefused}
+use Rattle.request_reader.specs.Plain.{plain_request}
+use Rattle.request_reader.specs.Values.{Holds, AreSaid}
+
+abbrev AllRead : List Entry → Type 0
+AllRead entries = AllByRecursion (λ e. IsTrue (forms_now e)) entries
+
+-- what isn't read isn't there
+none_found : {X : Type 0} (value : Entry → Option X) → ((e : Entry) → IsTrue (forms_now e) → value e ≡ None) → (entries : List Entry) → AllRead entries → filter_map value entries ≡ []
+none_found value none [] all = refl
+none_found value none (e ∷ entries) all = ap (λ o. cons_option o (filter_map value entries)) (none e all.0) ∙ none_found value none entries all.1
+
+none_any : (test : Entry → Bool) → ((e : Entry) → IsTrue (forms_now e) → test e ≡ false) → (entries : List Entry) → AllRead entries → list_any test entries ≡ false
+none_any test never [] all = refl
+none_any test never (e ∷ entries) all = let here = never e all.0 in let later = none_any test never entries all.1 in cc
+
+not_forbidden : (e : Entry) → IsTrue (forms_now e) → forbidden_in e ≡ None
+not_forbidden (Forbids minor) is_read = cc (is_read)
+not_forbidden _ is_read = refl
+
+not_wanted : (e : Entry) → IsTrue (forms_now e) → wanted_in e ≡ None
+not_wanted (ListsWith minor) is_read = cc (is_read)
+not_wanted _ is_read = refl
+
+not_counts : (e : Entry) → IsTrue (forms_now e) → prints_counts e ≡ false
+not_counts (Prints Forms) is_read = refl
+not_counts (Prints Counts) is_read = cc (is_read)
+not_counts _ is_read = refl
+
+abbrev SameKind : Entry → Entry → Bool
+SameKind entry other = kind_number other == kind_number entry
+
+not_connected : (e : Entry) → IsTrue (forms_now e) → SameKind ListsConnected e ≡ false
+not_connected ListsConnected is_read = cc (is_read)
+not_connected _ is_read = refl
+
+not_three : (e : Entry) → IsTrue (forms_now e) → SameKind ListsThreeConnected e ≡ false
+not_three ListsThreeConnected is_read = cc (is_read)
+not_three _ is_read = refl
+
+not_cosimple : (e : Entry) → IsTrue (forms_now e) → SameKind ListsCosimple e ≡ false
+not_cosimple ListsCosimple is_read = cc (is_read)
+not_cosimple _ is_read = refl
+
+not_distinct : (e : Entry) → IsTrue (forms_now e) → SameKind ListsDistinct e ≡ false
+not_distinct ListsDistinct is_read = cc (is_read)
+not_distinct _ is_read = refl
+
+-- the values that are there
+are_values : (entries : List Entry) (values : Values) (rank : ℕ) (factors : List ℕ) (size : ℕ) → Holds entries values → values.rank ≡ Some rank → values.factors ≡ Some factors → values.size ≡ Some size → AreValues entries rank factors size
+are_values entries values rank factors size h r f s = record {
+  rank_said = h.rank ∙ ap option_to_list r;
+  field_said = h.field ∙ ap option_to_list f;
+  size_said = h.size ∙ ap option_to_list s;
+}
+
+has_values : (text : List ℕ) (values : Values) (rank : ℕ) (factors : List ℕ) (size : ℕ) → AreSaid text values → values.rank ≡ Some rank → values.factors ≡ Some factors → values.size ≡ Some size → HasValues forms_now text rank factors size
+has_values text values rank factors size said r f s = record { entries = said.entries; none = said.none; values = are_values said.entries values rank factors size said.holds r f s }
+
+-- Entries that are read ask for a request without a filter.
+asks : (entries : List Entry) (rank : ℕ) (factors : List ℕ) (size : ℕ) → AllRead entries → AreValues entries rank factors size → AskFor entries (plain_request factors rank size)
+asks entries rank factors size all values = record {
+  rank = values.rank_said;
+  field = values.field_said;
+  size = values.size_said;
+  forbid = none_found forbidden_in not_forbidden entries all;
+  connected = none_any (SameKind ListsConnected) not_connected entries all;
+  three_connected = none_any (SameKind ListsThreeConnected) not_three entries all;
+  cosimple = none_any (SameKind ListsCosimple) not_cosimple entries all;
+  distinct = none_any (SameKind ListsDistinct) not_distinct entries all;
+  has = none_found wanted_in not_wanted entries all;
+  print = ap (λ (b : Bool). if b then Counts else Forms) (none_any prints_counts not_counts entries all);
+}
+
+stands : (text : List ℕ) (rank : ℕ) (factors : List ℕ) (size : ℕ) → HasValues forms_now text rank factors size → IsWithinLimits (plain_request factors rank size) → StandsFor forms_now text (plain_request factors rank size)
+stands text rank factors size h limits = record {
+  short = h.none.short;
+  entries = h.entries;
+  said = h.none.said;
+  in_order = h.none.in_order;
+  asked = asks h.entries rank factors size h.none.said.are_read h.values;
+  limits = limits;
+}
+
+-- what the limits say of the values is said of the text
+late : (text : List ℕ) (rank : ℕ) (factors : List ℕ) (size : ℕ) (why : Refusal) → HasValues forms_now text rank factors size → IsLate rank factors size why → IsRefused text why
+late text rank factors size (refusal.Rank v) h l = inl (factors, size, subst (λ (n : ℕ). HasValues forms_now text n factors size) (sym l.0) h, subst (λ (n : ℕ). IsRank n → ⊥) (sym l.0) l.1)
+late text rank factors size (refusal.Size v) h l = inl (rank, factors, subst (λ (n : ℕ). HasValues forms_now text rank factors n) (sym l.0) h, l.1, subst (λ (n : ℕ). IsSize rank n → ⊥) (sym l.0) l.2)
+late text rank factors size (refusal.TooWide c) h l = inl (rank, factors, size, h, l.1, l.2, l.0, l.3)
+late text rank factors size refusal.NotBuilt h l = inr (refl, record { request = plain_request factors rank size; stands = stands text rank factors size h l.0; above = l.1 })
+late text rank factors size _ h l = absurd l
+
+-- the answer where all values are there
+pub accepted : (text : List ℕ) (values : Values) (rank : ℕ) (factors : List ℕ) (size : ℕ) (result : Result Request Refusal) → AreSaid text values → values.rank ≡ Some rank → values.factors ≡ Some factors → values.size ≡ Some size → IfOk result (λ request. request ≡ plain_request factors rank size) → IfOk result (λ request. IsWithinLimits request) → IfOk result (λ request. request.size ≡ request.rank) → IfOk result (λ request. IsAccepted text request)
+accepted text values rank factors size (Ok request) said r f s is limits one = record {
+  stands = subst (λ (q : Request). StandsFor forms_now text q) (sym is) (stands text rank factors size (has_values text values rank factors size said r f s) (subst IsWithinLimits is limits));
+  one_level = one;
+}
+accepted text values rank factors size (Err why) said r f s is limits one = tt
+
+pub refused : (text : List ℕ) (values : Values) (rank : ℕ) (factors : List ℕ) (size : ℕ) (result : Result Request Refusal) → AreSaid text values → values.rank ≡ Some rank → values.factors ≡ Some factors → values.size ≡ Some size → IfErr result (λ why. IsLate rank factors size why) → IfErr result (λ why. IsRefused text why)
+refused text values rank factors size (Ok request) said r f s l = tt
+refused text values rank factors size (Err why) said r f s l = late text rank factors size why (has_values text values rank factors size said r f s) l
+
+-- where a value isn't there
+pub rank_missing : (text : List ℕ) (values : Values) → AreSaid text values → values.rank ≡ None → IsRefused text (refusal.Missing Rank)
+rank_missing text values said none = inl (said.entries, said.none, said.holds.rank ∙ ap option_to_list none)
+
+pub field_missing : (text : List ℕ) (values : Values) (rank : ℕ) → AreSaid text values → values.rank ≡ Some rank → values.factors ≡ None → IsRefused text (refusal.Missing Field)
+field_missing text values rank said r none = inl (said.entries, said.none, (there said.entries rank (said.holds.rank ∙ ap option_to_list r), said.holds.field ∙ ap option_to_list none))
+  where
+    there : (entries : List Entry) (rank : ℕ) → filter_map rank_in entries ≡ rank ∷ [] → filter_map rank_in entries ≢ []
+    there entries rank e none = cc (e, none)
+
+pub size_missing : (text : List ℕ) (values : Values) (rank : ℕ) (factors : List ℕ) → AreSaid text values → values.rank ≡ Some rank → values.factors ≡ Some factors → values.size ≡ None → IsRefused text (refusal.Missing Size)
+size_missing text values rank factors said r f none = inl (said.entries, said.none, (some said.holds.rank r, some said.holds.field f, said.holds.size ∙ ap option_to_list none))
+  where
+    some : {X : Type 0} {xs : List X} {o : Option X} {x : X} → xs ≡ option_to_list o → o ≡ Some x → xs ≢ []
+    some {X = X} {o = o} {x = x} e is none = let f : option_to_list o ≡ x ∷ [] = ap option_to_list is in cc (e, f, none)

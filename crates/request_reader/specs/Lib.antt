@@ -1,0 +1,6 @@
+pub mod Limits
+pub mod Now
+pub mod Plain
+pub mod Said
+pub mod Spellings
+pub mod Values

@@ -1,0 +1,17 @@
+-- How the parts of a line that is read so far are spelled.
+use Rattle.std.specs.Prelude.{ℕ, List, [], ◌∷◌, map, codes, decimal}
+use Rattle.formats.specs.Lines.{parted}
+use Rattle.request_reader.specs.declared.keyword.Keyword.{Keyword}
+use Rattle.request_reader.specs.declared.keyword.Keyword.TheVariants as keyword
+
+-- the first word
+abbrev pub keyword_word : Keyword → List ℕ
+keyword_word keyword.Version = codes "version"
+keyword_word keyword.Rank = codes "rank"
+keyword_word keyword.Field = codes "field"
+keyword_word keyword.Size = codes "size"
+keyword_word keyword.Print = codes "print"
+
+-- the other words of a field line
+abbrev pub factor_words : List ℕ → List (List ℕ)
+factor_words orders = parted (codes "x") (map (λ order. decimal order ∷ []) orders)

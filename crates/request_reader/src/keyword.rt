@@ -1,0 +1,29 @@
+ghost use Rattle.std.specs.Prelude.{◌≡◌, MatchOption};
+ghost use Rattle.request_reader.specs.Spellings.{keyword_word};
+ghost use Rattle.request_reader.specs.declared.keyword.Keyword.{Keyword};
+
+/// The first word of a line of a form that is read so far.
+#[derive(Clone, Copy)]
+pub enum Keyword {
+    Version,
+    Rank,
+    Field,
+    Size,
+    Print,
+}
+
+/// The keyword that a word spells.
+pub fn keyword_of(word: &[u8]) -> Option<Keyword>
+    ensures { MatchOption result
+        ((keyword : Keyword) → word.now ≡ keyword_word keyword → ⊥)
+        (λ keyword. word.now ≡ keyword_word keyword) }
+{
+    match word {
+        b"version" => Some(Keyword::Version),
+        b"rank" => Some(Keyword::Rank),
+        b"field" => Some(Keyword::Field),
+        b"size" => Some(Keyword::Size),
+        b"print" => Some(Keyword::Print),
+        _ => None,
+    }
+}

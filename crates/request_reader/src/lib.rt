@@ -1,0 +1,15 @@
+//! Reads a request: cuts a text into lines, a line into words, and says what the lines ask for or the first fault.
+#![tactic(auto)]
+
+mod columns;
+mod cut;
+mod field_line;
+mod keyword;
+mod line;
+mod number;
+mod read;
+mod request;
+mod values;
+
+pub use read::read_request;
+pub use request::Request;

@@ -1,0 +1,88 @@
+ghost use Rattle.std.specs.Prelude.{◌≡◌, IfOk, IfErr};
+ghost use Rattle.matroid_theory.specs.Field.{IsFactors};
+ghost use Rattle.formats.specs.Request.{IsWithinLimits};
+ghost use Rattle.request_reader.specs.Plain.{plain_request};
+ghost use Rattle.request_reader.specs.Limits.{IsLate};
+
+use crate::columns::column_count;
+use formats::Refusal;
+use product_rep::Factors;
+use std::marker::Model;
+
+const MOST_RANK: u32 = 6;
+const MOST_SIZE: u32 = 16;
+const MOST_COLUMNS: u64 = 1_000_000;
+
+/// A request within its limits. So far nothing is forbidden, there is no filter, and its forms are printed. Contracts see
+/// what it asks for.
+#[derive(Drop)]
+pub struct Request {
+    factors: Factors,
+    rank: u8,
+    size: u8,
+}
+
+impl Model for Request {
+    ghost use Rattle.formats.specs.Request.{Request as Asked};
+    ghost use Rattle.request_reader.specs.Plain.{request_of, KeepsLimits};
+
+    ghost Value = { Asked };
+
+    ghost view = { request_of };
+
+    ghost invariant = { KeepsLimits };
+}
+
+impl Request {
+    /// The factors.
+    pub fn factors(&self) -> Factors
+        ensures { result ≡ self.now.factors }
+    {
+        self.factors.copy()
+    }
+
+    /// The rank, from 1 to 6.
+    pub fn rank(&self) -> u8
+        ensures rank { result ≡ self.now.rank }
+        ensures limits { IsWithinLimits self.now }
+        ensures factors { IsFactors self.now.factors }
+        ensures plain { self.now ≡ plain_request self.now.factors self.now.rank self.now.size }
+    {
+        self.rank
+    }
+
+    /// The last size to list, from the rank to 16.
+    pub fn size(&self) -> u8
+        ensures { result ≡ self.now.size }
+    {
+        self.size
+    }
+}
+
+/// The request for these values, where they are within the limits and it can be listed.
+pub fn request_for(rank: u32, factors: Factors, size: u32) -> Result<Request, Refusal>
+    ensures request { IfOk result (λ request. request ≡ plain_request factors rank size) }
+    ensures limits { IfOk result (λ request. IsWithinLimits request) }
+    ensures one_level { IfOk result (λ request. request.size ≡ request.rank) }
+    ensures refused { IfErr result (λ why. IsLate rank factors size why) }
+{
+    if rank == 0 || rank > MOST_RANK {
+        return Err(Refusal::Rank(rank));
+    }
+    if size < rank || size > MOST_SIZE {
+        return Err(Refusal::Size(size));
+    }
+    let (rank, size) = (rank as u8, size as u8);
+    let columns = column_count(rank, &factors);
+    if columns > MOST_COLUMNS {
+        return Err(Refusal::TooWide(columns));
+    }
+    if size > rank {
+        return Err(Refusal::NotBuilt);
+    }
+    Ok(Request {
+        factors,
+        rank,
+        size,
+    })
+}
