@@ -6,3 +6,5 @@ mod field_line;
 mod keyword;
 mod line;
 mod number;
+#[cfg(test)]
+mod tests;
