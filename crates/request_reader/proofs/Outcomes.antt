@@ -14,6 +14,7 @@ use Rattle.request_reader.specs.Now.{forms_now, IsAccepted, IsRefused}
 use Rattle.request_reader.specs.Plain.{plain_request}
 use Rattle.request_reader.specs.Values.{Holds, AreSaid}
 
+-- all of them are read
 abbrev AllRead : List Entry → Type 0
 AllRead entries = AllByRecursion (λ e. IsTrue (forms_now e)) entries
 
@@ -39,6 +40,7 @@ not_counts (Prints Forms) is_read = refl
 not_counts (Prints Counts) is_read = cc (is_read)
 not_counts _ is_read = refl
 
+-- another entry is of the same kind
 abbrev SameKind : Entry → Entry → Bool
 SameKind entry other = kind_number other == kind_number entry
 
@@ -84,6 +86,7 @@ asks entries rank factors size all values = record {
   print = ap (λ (b : Bool). if b then Counts else Forms) (none_any prints_counts not_counts entries all);
 }
 
+-- a text with values within the limits stands for a request
 stands : (text : List ℕ) (rank : ℕ) (factors : List ℕ) (size : ℕ) → HasValues forms_now text rank factors size → IsWithinLimits (plain_request factors rank size) → StandsFor forms_now text (plain_request factors rank size)
 stands text rank factors size h limits = record {
   short = h.none.short;
