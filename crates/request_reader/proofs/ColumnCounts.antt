@@ -53,6 +53,7 @@ count_more rank factors s =
     ∙ ap (λ (k : ℕ). sum (map (columns_of_support rank factors) (range_with_len 1 s)) + subsets rank (s + 1) * product (map (λ q. (q - 1) ^ k) factors)) at
     ∙ ap (λ (n : ℕ). sum (map (columns_of_support rank factors) (range_with_len 1 s)) + subsets rank (s + 1) * n) (product_powers s factors)
 
+-- a power of at most 512 entries is small
 power_few : (s entries : ℕ) → s ≤ 5 → entries ≤ 512 → entries ^ s ≤ 512 ^ 5
 power_few s entries l e =
     let p : entries ^ s ≤ 512 ^ s = pow-le-pow_left e s in

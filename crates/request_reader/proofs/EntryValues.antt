@@ -1,5 +1,5 @@
 -- What one more entry does to the values.
-use Rattle.std.proofs.Common.{◌≡◌, ◌∙◌, ℕ, zero, suc, ◌+◌, ◌<◌, ◌≤◌, ◌==◌, inl, inr, Bool, true, false, cond, List, [], ◌∷◌, ◌++◌, length, Option, None, Some, refl, sym, ap, subst, arith, add-zero, not}
+use Rattle.std.proofs.Common.{◌≡◌, ◌∙◌, ℕ, ◌+◌, ◌≤◌, ◌==◌, inl, inr, Bool, true, false, cond, List, [], ◌∷◌, ◌++◌, length, Option, None, Some, refl, sym, ap, subst, arith, add-zero, not}
 use Rattle.std.specs.Option.{is_some}
 use Rattle.std.proofs.lemmas.List.{append-nil}
 use Rattle.std.specs.Prelude.{IsTrue, filter_map, option_to_list}
@@ -8,9 +8,9 @@ use Rattle.std.proofs.lemmas.Bool.{cases_Bool}
 use Rattle.std.proofs.lemmas.Bool.Decides.{nat_tests}
 use Rattle.std.proofs.lemmas.List.Sums.{sum_by-append, sum_by-cons}
 use Rattle.std.proofs.lemmas.List.Elements.{filter_map-append}
-use Rattle.formats.specs.Entry.{Entry, Version, RankIs, FieldIs, SizeIs, Forbids, ListsConnected, ListsThreeConnected, ListsCosimple, ListsDistinct, ListsWith, Prints, kind_number, most_of_kind, named_elements}
-use Rattle.formats.specs.Request.{AreInOrder, count_of_kind, rank_in, field_in, size_in, forbidden_in, wanted_in, has_kind, prints_counts}
-use Rattle.formats.specs.declared.refusal.PrintMode.TheVariants.{Forms, Counts}
+use Rattle.formats.specs.Entry.{Entry, Version, RankIs, FieldIs, SizeIs, Prints, kind_number, most_of_kind, named_elements}
+use Rattle.formats.specs.Request.{AreInOrder, count_of_kind, rank_in, field_in, size_in}
+use Rattle.formats.specs.declared.refusal.PrintMode.TheVariants.{Forms}
 use Rattle.request_reader.specs.declared.values.Values.{Values}
 use Rattle.request_reader.specs.declared.line.Said.{Said}
 use Rattle.request_reader.specs.declared.line.Said.TheVariants as said
@@ -189,6 +189,7 @@ size_new es values s n h is new = subst (λ (s : Said). Holds (es ++ entry_of s 
 pub print_new : (es : List Entry) (values : Values) (s : Said) → Holds es values → s ≡ said.PrintsForms → values.print ≡ false → Holds (es ++ entry_of s ∷ []) (record values { print = true })
 print_new es values s h is new = subst (λ (s : Said). Holds (es ++ entry_of s ∷ []) (record values { print = true })) (sym is) (print_end es values h new)
 
+-- its kind was said
 abbrev pub WasSaid : List Entry → Said → Type 0
 WasSaid es s = 1 ≤ count_of_kind (kind_number (entry_of s)) es
 

@@ -34,6 +34,7 @@ pub record AreLeft (n : ℕ) (factors : List ℕ) (words : List (List ℕ)) : Ty
   pub long : n + 1 + length more ≡ length factors
   pub words_are : words ≡ factor_words (next ∷ more)
 
+-- before the first word, all are left
 pub all_left : (factors : List ℕ) (words : List (List ℕ)) → IsFactors factors → words ≡ factor_words factors → AreLeft 0 factors words
 all_left [] words are e = absurd (omega (arith, are.some))
 all_left (q ∷ qs) words are e = record { next = q; more = qs; fields = are.fields; long = omega arith; words_are = e }
@@ -64,11 +65,13 @@ orders_more qs items q all is e = subst (λ (l : List ℕ). (f : ℕ) → f < le
     pushed (x ∷ xs) all zero lt = all 0 (omega arith)
     pushed (x ∷ xs) all (suc f) lt = pushed xs (λ k l. all (suc k) (omega arith)) f (omega arith)
 
+-- the words read so far, with one more order and the `x` behind it
 pub words_more : (qs items : List ℕ) (q : ℕ) (word : List ℕ) (words left after next : List (List ℕ)) → words ≡ begun qs ++ left → left ≡ word ∷ after → after ≡ codes "x" ∷ next → word ≡ decimal q → items ≡ qs ++ q ∷ [] → words ≡ begun items ++ next
 words_more qs items q word words left after next e f g h k =
     e ∙ ap (λ (l : List (List ℕ)). begun qs ++ l) (f ∙ ap (λ (l : List (List ℕ)). word ∷ l) g ∙ ap (λ (w : List ℕ). w ∷ codes "x" ∷ next) h)
     ∙ begun_more qs q next ∙ ap (λ (l : List ℕ). begun l ++ next) (sym k)
 
+-- all words, with the last order
 pub words_all : (qs items : List ℕ) (q : ℕ) (word : List ℕ) (words left after : List (List ℕ)) → words ≡ begun qs ++ left → left ≡ word ∷ after → after ≡ [] → word ≡ decimal q → items ≡ qs ++ q ∷ [] → words ≡ factor_words items
 words_all qs items q word words left after e f g h k =
     e ∙ ap (λ (l : List (List ℕ)). begun qs ++ l) (f ∙ ap (λ (l : List (List ℕ)). word ∷ l) g ∙ ap (λ (w : List ℕ). w ∷ []) h)

@@ -1,20 +1,16 @@
--- The lines of a text that were read so far, and what ends the reading.
-use Rattle.std.proofs.Common.{◌≡◌, ◌∙◌, ℕ, zero, suc, ◌+◌, ◌<◌, ◌≤◌, Bool, true, false, not, cond, List, [], ◌∷◌, ◌++◌, map, length, refl, sym, ap, subst, arith, append_assoc, length-append, ◌≢◌}
+-- The lines of a text that were read so far, and one line more.
+use Rattle.std.proofs.Common.{◌≡◌, ◌∙◌, ℕ, ◌+◌, ◌<◌, ◌≤◌, Bool, true, false, not, cond, List, [], ◌∷◌, ◌++◌, length, refl, sym, ap, arith, append_assoc, length-append}
 use Rattle.std.specs.Prelude.{IsTrue}
-use Rattle.std.specs.List.{AllByRecursion}
-use Rattle.std.proofs.lemmas.List.{append-nil, map-append}
-use Rattle.std.proofs.lemmas.Bool.Decides.{nat_tests}
+use Rattle.std.proofs.lemmas.List.{map-append}
 use Rattle.formats.specs.Lines.{lines_of, words_of, is_skipped, statements_of}
-use Rattle.formats.specs.Entry.{Entry, Says, IsEntry, spelling, kind_number, most_of_kind, forbid_kind}
-use Rattle.formats.specs.Request.{SayInTurn, count_of_kind}
-use Rattle.formats.specs.Refusal.{FirstFault, NoForm, Again}
+use Rattle.formats.specs.Entry.{Entry, Says, IsEntry, spelling}
+use Rattle.formats.specs.Request.{SayInTurn}
 use Rattle.formats.proofs.Unique.{statements_split}
 use Rattle.request_reader.specs.declared.values.Values.{Values}
 use Rattle.request_reader.specs.declared.line.Said.{Said}
-use Rattle.request_reader.specs.declared.line.Said.TheVariants as said
 use Rattle.request_reader.specs.Now.{forms_now}
 use Rattle.request_reader.specs.Said.{entry_of}
-use Rattle.request_reader.specs.Values.{Holds, AreSaid}
+use Rattle.request_reader.specs.Values.{Holds}
 use Rattle.request_reader.proofs.EntryValues.{all_end}
 
 -- so many lines were read, they say entries with these values, and the rest is left
@@ -33,6 +29,7 @@ pub record IsNext (rest line after : List ℕ) : Type 0 where
   pub lines : lines_of rest ≡ line ∷ lines_of after
   pub shorter : length after < length rest
 
+-- nothing was read at the start
 pub start_read : (text : List ℕ) (values : Values) → length text ≤ 65536 → Holds [] values → HasRead text values 0 text
 start_read text values short none = record {
   short = short;
@@ -50,12 +47,14 @@ statements_skipped : (before : List (List ℕ)) (line : List ℕ) → is_skipped
 statements_skipped [] line skip = ap (λ (b : Bool). cond (not b) (words_of line ∷ []) []) skip
 statements_skipped (x ∷ before) line skip = ap (λ (l : List (List (List ℕ))). cond (not (is_skipped (words_of x))) (words_of x ∷ l) l) (statements_skipped before line skip)
 
+-- what was read, and its number, after one line more
 split_next : (text : List ℕ) (before : List (List ℕ)) (rest line after : List ℕ) → lines_of text ≡ before ++ lines_of rest → lines_of rest ≡ line ∷ lines_of after → lines_of text ≡ (before ++ line ∷ []) ++ lines_of after
 split_next text before rest line after e f = e ∙ ap (λ (l : List (List ℕ)). before ++ l) f ∙ sym (append_assoc before (line ∷ []) (lines_of after))
 
 place_next : (before : List (List ℕ)) (line : List ℕ) (number : ℕ) → number ≡ length before → number + 1 ≡ length (before ++ line ∷ [])
 place_next before line number e = let l : length (before ++ line ∷ []) ≡ length before + 1 = length-append before (line ∷ []) in omega arith
 
+-- after a line that is skipped, and one that says something new
 pub skip_line : (text : List ℕ) (values : Values) (number : ℕ) (rest line after : List ℕ) → HasRead text values number rest → IsNext rest line after → is_skipped (words_of line) ≡ true → HasRead text values (number + 1) after
 skip_line text values number rest line after h n skip = record {
   short = h.short;
@@ -83,61 +82,3 @@ say_line text values more number rest line after s h n counts says with_it = rec
   place = place_next h.before line number h.place;
   few = omega (arith, h.few, n.shorter);
 }
-
-pub no_form : (text : List ℕ) (values : Values) (number : ℕ) (rest line after : List ℕ) → HasRead text values number rest → IsNext rest line after → is_skipped (words_of line) ≡ false → ((entry : Entry) → Says forms_now (words_of line) entry → ⊥) → FirstFault forms_now text (number + 1) NoForm
-no_form text values number rest line after h n counts none = record {
-  short = h.short;
-  before = h.before;
-  line = line;
-  after = lines_of after;
-  split = h.split ∙ ap (λ (l : List (List ℕ)). h.before ++ l) n.lines;
-  place = ap (λ (k : ℕ). k + 1) h.place;
-  said = h.entries;
-  says = h.says;
-  in_order = h.holds.in_order;
-  counts = counts;
-  wrong = none;
-}
-
--- what is read once so far
-once : (s : Said) → most_of_kind (kind_number (entry_of s)) ≡ 1
-once said.Version = refl
-once (said.Rank n) = refl
-once (said.Field fs) = refl
-once (said.Size n) = refl
-once said.PrintsForms = refl
-
-no_forbid : (s : Said) → kind_number (entry_of s) ≢ forbid_kind
-no_forbid said.Version e = omega arith
-no_forbid (said.Rank n) e = omega arith
-no_forbid (said.Field fs) e = omega arith
-no_forbid (said.Size n) e = omega arith
-no_forbid said.PrintsForms e = omega arith
-
-pub said_again : (text : List ℕ) (values : Values) (number : ℕ) (rest line after : List ℕ) (s : Said) → HasRead text values number rest → IsNext rest line after → is_skipped (words_of line) ≡ false → Says forms_now (words_of line) (entry_of s) → ((entries : List Entry) → Holds entries values → 1 ≤ count_of_kind (kind_number (entry_of s)) entries) → FirstFault forms_now text (number + 1) Again
-said_again text values number rest line after s h n counts says was = record {
-  short = h.short;
-  before = h.before;
-  line = line;
-  after = lines_of after;
-  split = h.split ∙ ap (λ (l : List (List ℕ)). h.before ++ l) n.lines;
-  place = ap (λ (k : ℕ). k + 1) h.place;
-  said = h.entries;
-  says = h.says;
-  in_order = h.holds.in_order;
-  counts = counts;
-  wrong = (entry_of s, says, no_forbid s, subst (λ (k : ℕ). k ≤ count_of_kind (kind_number (entry_of s)) h.entries) (sym (once s)) (was h.entries h.holds));
-}
-
--- all lines are read where nothing is left
-pub all_read : (text : List ℕ) (values : Values) (number : ℕ) (rest : List ℕ) → HasRead text values number rest → length rest ≡ 0 → AreSaid text values
-all_read text values number [] h e = record {
-  entries = h.entries;
-  none = record {
-    short = h.short;
-    said = subst (λ (lines : List (List ℕ)). SayInTurn forms_now lines h.entries) (sym (h.split ∙ append-nil h.before)) h.says;
-    in_order = h.holds.in_order;
-  };
-  holds = h.holds;
-}
-all_read text values number (b ∷ rest) h e = absurd (omega arith)

@@ -1,20 +1,20 @@
 -- What entries without a filter ask for, and how a text is accepted or refused by its values.
-use Rattle.std.proofs.Common.{◌≡◌, ◌∙◌, ◌≢◌, ℕ, ◌+◌, ◌<◌, ◌≤◌, ◌||◌, ◌==◌, inl, inr, Bool, true, false, cond, List, [], ◌∷◌, Option, None, Some, refl, sym, ap, subst}
+use Rattle.std.proofs.Common.{◌≡◌, ◌∙◌, ℕ, ◌==◌, inl, inr, Bool, false, List, [], ◌∷◌, Option, None, Some, refl, sym, ap, subst}
 use Rattle.std.specs.Prelude.{IsTrue, filter_map, option_to_list, Result, Ok, Err, IfOk, IfErr, if◌then◌else◌}
 use Rattle.std.specs.List.{AllByRecursion, list_any, cons_option}
 use Rattle.formats.specs.declared.refusal.PrintMode.TheVariants.{Forms, Counts}
-use Rattle.formats.specs.declared.refusal.Word.TheVariants.{Rank, Field, Size}
 use Rattle.formats.specs.declared.refusal.Refusal.{Refusal}
 use Rattle.formats.specs.declared.refusal.Refusal.TheVariants as refusal
-use Rattle.formats.specs.Entry.{Entry, Version, RankIs, FieldIs, SizeIs, Forbids, ListsConnected, ListsThreeConnected, ListsCosimple, ListsDistinct, ListsWith, Prints, kind_number}
-use Rattle.formats.specs.Request.{Request, AskFor, StandsFor, IsWithinLimits, IsRank, IsSize, rank_in, field_in, size_in, forbidden_in, wanted_in, has_kind, prints_counts}
-use Rattle.formats.specs.Refusal.{AreValues, HasValues, HasRefusal}
+use Rattle.formats.specs.Entry.{Entry, Forbids, ListsConnected, ListsThreeConnected, ListsCosimple, ListsDistinct, ListsWith, Prints, kind_number}
+use Rattle.formats.specs.Request.{Request, AskFor, StandsFor, IsWithinLimits, IsRank, IsSize, forbidden_in, wanted_in, prints_counts}
+use Rattle.formats.specs.Refusal.{AreValues, HasValues}
 use Rattle.request_reader.specs.declared.values.Values.{Values}
 use Rattle.request_reader.specs.Limits.{IsLate}
-use Rattle.request_reader.specs.Now.{forms_now, IsAccepted, IsAhead, IsRefused}
+use Rattle.request_reader.specs.Now.{forms_now, IsAccepted, IsRefused}
 use Rattle.request_reader.specs.Plain.{plain_request}
 use Rattle.request_reader.specs.Values.{Holds, AreSaid}
 
+-- all of them are read
 abbrev AllRead : List Entry → Type 0
 AllRead entries = AllByRecursion (λ e. IsTrue (forms_now e)) entries
 
@@ -40,6 +40,7 @@ not_counts (Prints Forms) is_read = refl
 not_counts (Prints Counts) is_read = cc (is_read)
 not_counts _ is_read = refl
 
+-- another entry is of the same kind
 abbrev SameKind : Entry → Entry → Bool
 SameKind entry other = kind_number other == kind_number entry
 
@@ -85,6 +86,7 @@ asks entries rank factors size all values = record {
   print = ap (λ (b : Bool). if b then Counts else Forms) (none_any prints_counts not_counts entries all);
 }
 
+-- a text with values within the limits stands for a request
 stands : (text : List ℕ) (rank : ℕ) (factors : List ℕ) (size : ℕ) → HasValues forms_now text rank factors size → IsWithinLimits (plain_request factors rank size) → StandsFor forms_now text (plain_request factors rank size)
 stands text rank factors size h limits = record {
   short = h.none.short;
@@ -114,19 +116,3 @@ accepted text values rank factors size (Err why) said r f s is limits one = tt
 pub refused : (text : List ℕ) (values : Values) (rank : ℕ) (factors : List ℕ) (size : ℕ) (result : Result Request Refusal) → AreSaid text values → values.rank ≡ Some rank → values.factors ≡ Some factors → values.size ≡ Some size → IfErr result (λ why. IsLate rank factors size why) → IfErr result (λ why. IsRefused text why)
 refused text values rank factors size (Ok request) said r f s l = tt
 refused text values rank factors size (Err why) said r f s l = late text rank factors size why (has_values text values rank factors size said r f s) l
-
--- where a value isn't there
-pub rank_missing : (text : List ℕ) (values : Values) → AreSaid text values → values.rank ≡ None → IsRefused text (refusal.Missing Rank)
-rank_missing text values said none = inl (said.entries, said.none, said.holds.rank ∙ ap option_to_list none)
-
-pub field_missing : (text : List ℕ) (values : Values) (rank : ℕ) → AreSaid text values → values.rank ≡ Some rank → values.factors ≡ None → IsRefused text (refusal.Missing Field)
-field_missing text values rank said r none = inl (said.entries, said.none, (there said.entries rank (said.holds.rank ∙ ap option_to_list r), said.holds.field ∙ ap option_to_list none))
-  where
-    there : (entries : List Entry) (rank : ℕ) → filter_map rank_in entries ≡ rank ∷ [] → filter_map rank_in entries ≢ []
-    there entries rank e none = cc (e, none)
-
-pub size_missing : (text : List ℕ) (values : Values) (rank : ℕ) (factors : List ℕ) → AreSaid text values → values.rank ≡ Some rank → values.factors ≡ Some factors → values.size ≡ None → IsRefused text (refusal.Missing Size)
-size_missing text values rank factors said r f none = inl (said.entries, said.none, (some said.holds.rank r, some said.holds.field f, said.holds.size ∙ ap option_to_list none))
-  where
-    some : {X : Type 0} {xs : List X} {o : Option X} {x : X} → xs ≡ option_to_list o → o ≡ Some x → xs ≢ []
-    some {X = X} {o = o} {x = x} e is none = let f : option_to_list o ≡ x ∷ [] = ap option_to_list is in cc (e, f, none)

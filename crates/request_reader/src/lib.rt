@@ -13,3 +13,6 @@ mod values;
 
 pub use read::read_request;
 pub use request::Request;
+
+#[cfg(test)]
+mod tests;

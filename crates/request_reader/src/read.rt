@@ -22,7 +22,12 @@ pub fn read_request(text: &[u8]) -> Result<Request, Refusal>
     if text.len() > MOST_BYTES {
         return Err(Refusal::TooLong);
     }
-    let Values { rank, factors, size, .. } = read_values(text)?;
+    let Values {
+        rank,
+        factors,
+        size,
+        ..
+    } = read_values(text)?;
     let Some(rank) = rank else {
         return Err(Refusal::Missing(Word::Rank));
     };

@@ -10,7 +10,9 @@ use product_rep::Factors;
 use std::marker::Model;
 
 const MOST_RANK: u32 = 6;
+
 const MOST_SIZE: u32 = 16;
+
 const MOST_COLUMNS: u64 = 1_000_000;
 
 /// A request within its limits. So far nothing is forbidden, there is no filter, and its forms are printed. Contracts see

@@ -38,11 +38,26 @@ impl Values {
             (λ values. (entries : List Entry) → Holds entries self → Holds (entries ++ entry_of said ∷ []) values) }
     {
         match said {
-            Said::Version if !self.version => Some(Values { version: true, ..self }),
-            Said::Rank(rank) if self.rank.is_none() => Some(Values { rank: Some(rank), ..self }),
-            Said::Field(factors) if self.factors.is_none() => Some(Values { factors: Some(factors), ..self }),
-            Said::Size(size) if self.size.is_none() => Some(Values { size: Some(size), ..self }),
-            Said::PrintsForms if !self.print => Some(Values { print: true, ..self }),
+            Said::Version if !self.version => Some(Values {
+                version: true,
+                ..self
+            }),
+            Said::Rank(rank) if self.rank.is_none() => Some(Values {
+                rank: Some(rank),
+                ..self
+            }),
+            Said::Field(factors) if self.factors.is_none() => Some(Values {
+                factors: Some(factors),
+                ..self
+            }),
+            Said::Size(size) if self.size.is_none() => Some(Values {
+                size: Some(size),
+                ..self
+            }),
+            Said::PrintsForms if !self.print => Some(Values {
+                print: true,
+                ..self
+            }),
             _ => None,
         }
     }

@@ -1,4 +1,3 @@
-use Rattle.std.proofs.Common.{◌≡◌}
 use Rattle.request_reader.proofs.ColumnCounts.{subsets_both, two_more}
 use Rattle.request_reader.proofs.columns.+subsets.Goals as goal
 

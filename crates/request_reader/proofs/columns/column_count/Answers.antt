@@ -1,4 +1,4 @@
-use Rattle.std.proofs.Common.{◌≡◌, ◌≤◌, ◌<◌, ◌^◌, ◌*◌, ◌+◌, arith}
+use Rattle.std.proofs.Common.{◌≤◌, ◌<◌, ◌^◌, ◌*◌, ◌+◌, arith}
 use Rattle.request_reader.proofs.ColumnCounts.{few_more, power_fits, choices_few, count_step, few_step, power_step, sum_fits}
 use Rattle.request_reader.proofs.columns.column_count.Goals as goal
 

@@ -1,6 +1,5 @@
-use Rattle.std.proofs.Common.{◌≡◌, ◌∙◌, ◌≤◌, ◌-◌, ◌*◌, ℕ, sym, ap, arith, map, take}
+use Rattle.std.proofs.Common.{◌≡◌, ◌∙◌, ◌≤◌, ◌-◌, ◌*◌, ℕ, sym, ap, arith}
 use Rattle.std.specs.Prelude.{slice_index}
-use Rattle.formats.specs.Request.{product}
 use Rattle.request_reader.proofs.ColumnCounts.{product_more, order_range, entries_few, eight_more}
 use Rattle.request_reader.proofs.columns.entry_count.Goals as goal
 

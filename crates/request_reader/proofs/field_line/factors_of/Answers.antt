@@ -5,6 +5,7 @@ use Rattle.formats.specs.Lines.{words_of}
 use Rattle.request_reader.proofs.FieldLines.{begun, AreLeft, all_left, order_left, orders_more, words_more, words_all, left_more, found_factors}
 use Rattle.request_reader.proofs.field_line.factors_of.Goals as goal
 
+-- with no order read, all words are left
 no_orders : (qs : List ℕ) (words : List (List ℕ)) → qs ≡ [] → words ≡ begun qs ++ words
 no_orders qs words e = rw e
 
@@ -24,6 +25,7 @@ returns-in_err-order_of c = rw c.from_residual-in_err-order_of.ensures (λ facto
     let order = order_left _ factors c.in_ok-word.word.now _ (subst (AreLeft _ factors) c.in_ok-word.ensures.words left) in
     c.in_err-order_of.ensures order.0 order.1 order.2)
 
+-- a word of one byte that is `x`
 one_x : (word : List ℕ) → length word ≡ 1 → get_or word 0 0 ≡ 120 → word ≡ codes "x"
 one_x word long at = text_from_reads word (codes "x") long (at, tt)
 

@@ -4,14 +4,17 @@ use Rattle.matroid_theory.specs.Field.{IsOrder}
 use Rattle.request_reader.proofs.FieldLines.{order_digit}
 use Rattle.request_reader.proofs.field_line.order_of.Goals as goal
 
+-- the word of an order has one byte, its digit
 one_byte : (word : List ℕ) (q : ℕ) → IsOrder q → word ≡ decimal q → (length word ≡ 1) × (get_or word 0 0 ≡ 48 + q)
 one_byte word q is e = let d = e ∙ order_digit q is in (ap length d, ap (λ (l : List ℕ). get_or l 0 0) d)
 
+-- a word of one byte that is a digit
 one_digit : (word : List ℕ) (q : ℕ) → length word ≡ 1 → get_or word 0 0 ≡ 48 + q → word ≡ (48 + q) ∷ []
 one_digit [] q long e = absurd (omega arith)
 one_digit (b ∷ []) q long e = ap (λ (x : ℕ). x ∷ []) e
 one_digit (b ∷ a ∷ bytes) q long e = absurd (omega arith)
 
+-- a test isn't both true and false
 not_both : (b : Bool) → b ≡ true → b ≡ false → ⊥
 not_both b e h = cc (e, h)
 

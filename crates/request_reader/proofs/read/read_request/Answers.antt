@@ -1,4 +1,3 @@
-use Rattle.std.proofs.Common.{◌≡◌}
 use Rattle.request_reader.proofs.Outcomes.{accepted, refused}
 use Rattle.request_reader.proofs.read.read_request.Goals as goal
 

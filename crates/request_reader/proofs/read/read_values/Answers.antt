@@ -1,5 +1,5 @@
 use Rattle.std.proofs.Common.{◌∙◌, sym}
-use Rattle.request_reader.proofs.LinesRead.{IsNext, start_read, skip_line, say_line}
+use Rattle.request_reader.proofs.LinesRead.{start_read, skip_line, say_line}
 use Rattle.request_reader.proofs.read.read_values.Goals as goal
 
 pub loop-rest-init : goal.loop-rest-init

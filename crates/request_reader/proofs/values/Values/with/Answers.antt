@@ -1,4 +1,3 @@
-use Rattle.std.proofs.Common.{◌≡◌}
 use Rattle.request_reader.proofs.EntryValues.{version_new, rank_new, field_new, size_new, print_new, version_again, rank_again, field_again, size_again, print_again, is_there, not_there}
 use Rattle.request_reader.proofs.values.Values.with.Goals as goal
 use Rattle.request_reader.proofs.values.Values.with.Goals.{in_default-via-in-Version+else-not-self, in_default-via-in-Rank+else-is_none, in_default-via-in-Field+else-is_none-2, in_default-via-in-Size+else-is_none-3, in_default-via-in-PrintsForms+else-not-self-2}
