@@ -1,1 +1,2 @@
 pub mod PickedColumns
+pub mod Walk

@@ -1,4 +1,4 @@
-ghost use Rattle.std.specs.Prelude.{◌≡◌, ◌<◌, ◌^◌, ◌↔◌, ℕ, IsTrue};
+ghost use Rattle.std.specs.Prelude.{◌≡◌, ◌<◌, ◌^◌, ◌↔◌, ℕ, Bool, IsTrue};
 ghost use Rattle.matroid_theory.specs.Matrix.{size_below};
 ghost use Rattle.matroid_theory.specs.Rep.{size, count, IsRep};
 ghost use Rattle.matroid_theory.specs.Matroid.{members, IsIndependentIn, IsBasis, Agrees};
@@ -23,24 +23,41 @@ pub fn is_basis(rep: &Rep, set: Mask) -> bool
 pub fn agree(rep: &Rep) -> bool
     ensures { IsTrue result ↔ Agrees rep.now }
 {
-    let mut found = false;
-    for set in 0..1u32 << rep.size() {
-        let set = set as Mask;
-        if has_rank_many(rep, set) {
-            let of_first = is_independent(rep, 0, set);
-            if !others_agree(rep, set, of_first) {
-                return false;
-            }
-            found |= of_first;
-        }
-    }
-    found
+    let count = rep.factors().count();
+    has_basis(rep) && (count == 1 || have_same_bases(rep))
 }
 
-/// Whether the set is independent in each factor after the first, or in none of them, as it is in the first.
-fn others_agree(rep: &Rep, set: Mask, of_first: bool) -> bool
-    ensures { IsTrue result ↔ ((f : ℕ) → 0 < f → f < count rep.now → (IsTrue of_first ↔ IsIndependentIn rep.now f (members set))) }
+/// Whether the first factor has a basis.
+fn has_basis(rep: &Rep) -> bool
+    ensures { IsTrue result ↔ ((S : ℕ → Bool) × IsBasis rep.now 0 S) }
 {
+    for set in 0..1u32 << rep.size() {
+        if is_basis(rep, set as Mask) {
+            return true;
+        }
+    }
+    false
+}
+
+/// Whether all factors have the same bases.
+fn have_same_bases(rep: &Rep) -> bool
+    ensures { IsTrue result ↔ ((f : ℕ) → f < count rep.now → (S : ℕ → Bool) → (IsBasis rep.now 0 S ↔ IsBasis rep.now f S)) }
+{
+    for set in 0..1u32 << rep.size() {
+        let set = set as Mask;
+        if has_rank_many(rep, set) && !is_alike(rep, set) {
+            return false;
+        }
+    }
+    true
+}
+
+/// Whether the set is independent in every factor, or in none.
+fn is_alike(rep: &Rep, set: Mask) -> bool
+    requires { 0 < count rep.now }
+    ensures { IsTrue result ↔ ((f : ℕ) → f < count rep.now → (IsIndependentIn rep.now 0 (members set) ↔ IsIndependentIn rep.now f (members set))) }
+{
+    let of_first = is_independent(rep, 0, set);
     for factor in 1..rep.factors().count() {
         if is_independent(rep, factor, set) != of_first {
             return false;

@@ -1,0 +1,62 @@
+use super::*;
+use product_rep::{Factors, ProductColumn, Rep};
+use std::test::Fail;
+
+// The unit columns over these fields, and then these columns, each row by row and factor by factor within a row.
+macro_rules! unit_and {
+    ($orders:expr, $rank:expr $(, $codes:expr)*) => {{
+        let mut rep = Rep::unit(Factors::of(&$orders).ok_or("no factors")?, $rank);
+        $(
+            let mut column = ProductColumn::new();
+            column.try_extend_from_slice(&$codes)?;
+            rep.push_column(&column);
+        )*
+        rep
+    }};
+}
+
+#[test]
+fn bases_of_the_first_factor(rt: HostRuntime) -> Result<(), Fail> {
+    let rep = unit_and!([2], 3, [0, 1, 1]);
+    for (set, want) in [(7, true), (11, true), (14, false), (3, false), (0, false), (15, false)] {
+        assert!(rt; set < 16);
+        assert_eq!(rt; is_basis(&rep, set), want, "at {set}");
+    }
+    Ok(())
+}
+
+#[test]
+fn agreement_of_factors(rt: HostRuntime) -> Result<(), Fail> {
+    let factors = Factors::of(&[2, 3]).ok_or("no factors")?;
+    for (rep, want) in [
+        (Rep::empty(factors, 2), false),
+        (unit_and!([2, 3], 2, [1, 1, 1, 0]), false),
+        (unit_and!([2, 3], 2, [1, 1, 1, 2]), true),
+    ] {
+        assert_eq!(rt; agree(&rep), want, "at {}", rep.size());
+    }
+    Ok(())
+}
+
+#[test]
+fn parallel_columns(rt: HostRuntime) -> Result<(), Fail> {
+    for (rep, want) in [
+        (unit_and!([3], 2, [1, 1]), true),
+        (unit_and!([3], 2, [1, 1], [2, 2]), false),
+    ] {
+        assert_eq!(rt; is_simple(&rep), want, "at {}", rep.size());
+    }
+    Ok(())
+}
+
+#[test]
+fn zero_columns_and_other_factors(rt: HostRuntime) -> Result<(), Fail> {
+    for (rep, want) in [
+        (unit_and!([3], 2), true),
+        (unit_and!([3], 2, [1, 1], [0, 0]), false),
+        (unit_and!([2, 3], 2, [1, 2, 1, 0]), false),
+    ] {
+        assert_eq!(rt; is_simple(&rep), want, "at {}", rep.size());
+    }
+    Ok(())
+}

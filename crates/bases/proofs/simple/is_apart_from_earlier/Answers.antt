@@ -15,7 +15,7 @@ at_pair M f i j b l m h =
 
 pub returns-then-not-is_independent : goal.returns-then-not-is_independent
 returns-then-not-is_independent c =
-    let h : (c.is_independent.result ≡ true) ↔ IsIndependentIn c.args.rep.now c.args.factor (pair c.loop-i.i c.args.j) = at_pair c.args.rep.now c.args.factor c.loop-i.i c.args.j c.is_independent.result (omega arith) c.requires.column c.is_independent.ensures in
+    let h : (c.is_independent.result ≡ true) ↔ IsIndependentIn c.args.rep.now c.args.factor (pair c.loop-i.i c.args.j) = at_pair c.args.rep.now c.args.factor c.loop-i.i c.args.j c.is_independent.result (omega arith) (omega arith) c.is_independent.ensures in
     (λ t. absurd (false≢true t), λ d. absurd (false≢true (sym c.if-not-is_independent.true ∙ h.1 (d c.loop-i.i c.loop-i-test.true))))
 
 -- one more column
@@ -27,10 +27,10 @@ more M f i j n h d l = elim (cases_lt n i) [
 
 pub loop-i-preserved : goal.loop-i-preserved
 loop-i-preserved c n l =
-    let h : (c.is_independent.result ≡ true) ↔ IsIndependentIn c.args.rep.now c.args.factor (pair c.loop-i.i c.args.j) = at_pair c.args.rep.now c.args.factor c.loop-i.i c.args.j c.is_independent.result (omega arith) c.requires.column c.is_independent.ensures in
+    let h : (c.is_independent.result ≡ true) ↔ IsIndependentIn c.args.rep.now c.args.factor (pair c.loop-i.i c.args.j) = at_pair c.args.rep.now c.args.factor c.loop-i.i c.args.j c.is_independent.result (omega arith) (omega arith) c.is_independent.ensures in
     more c.args.rep.now c.args.factor c.loop-i.i c.args.j n c.loop-i.invariant (h.0 c.if-not-is_independent.false) (omega arith)
 
 pub returns-else-not-is_independent : goal.returns-else-not-is_independent
 returns-else-not-is_independent c =
-    let h : (c.is_independent.result ≡ true) ↔ IsIndependentIn c.args.rep.now c.args.factor (pair c.loop-i.i c.args.j) = at_pair c.args.rep.now c.args.factor c.loop-i.i c.args.j c.is_independent.result (omega arith) c.requires.column c.is_independent.ensures in
+    let h : (c.is_independent.result ≡ true) ↔ IsIndependentIn c.args.rep.now c.args.factor (pair c.loop-i.i c.args.j) = at_pair c.args.rep.now c.args.factor c.loop-i.i c.args.j c.is_independent.result (omega arith) (omega arith) c.is_independent.ensures in
     (λ _ n l. more c.args.rep.now c.args.factor c.loop-i.i c.args.j n c.loop-i.invariant (h.0 c.if-not-is_independent.false) (omega arith), λ _. refl)
