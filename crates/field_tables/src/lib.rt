@@ -5,12 +5,14 @@
 mod field;
 mod tables;
 
-pub use field::Field;
-
 use arrayvec::ArrayVec;
+pub use field::Field;
 
 /// A set of columns: bit j stands for column j.
 pub type Mask = u16;
 
 /// One column of one factor, from row 0: at most 6 codes.
 pub type Column = ArrayVec<u8, 6>;
+
+#[cfg(test)]
+mod tests;
