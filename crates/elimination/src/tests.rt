@@ -1,7 +1,7 @@
-use super::*;
 ghost use Rattle.std.specs.Prelude.{◌≤◌, ◌≡◌, length, IsTrue, IfSome};
 ghost use Rattle.elimination.specs.Columns.{height, AreColumns, IsColumn};
 
+use super::*;
 use arrayvec::ArrayVec;
 use field_tables::{Column, Field};
 
@@ -19,7 +19,10 @@ fn column<const N: usize>(field: Field, codes: [u8; N]) -> Column
     column
 }
 
-fn columns<const N: usize, const M: usize>(field: Field, table: [[u8; N]; M]) -> ArrayVec<Column, 16>
+fn columns<const N: usize, const M: usize>(
+    field: Field,
+    table: [[u8; N]; M],
+) -> ArrayVec<Column, 16>
     requires rows { N ≤ 6 }
     requires count { M ≤ 16 }
     ensures columns { AreColumns field (height result.items) result.items }
