@@ -1,8 +1,6 @@
-use Rattle.std.proofs.Common.{◌≡◌, ◌≢◌, ℕ, sym, ◌∙◌, ap, arith, ◌<◌, slice_index}
-use Rattle.std.proofs.lemmas.List.{get_or_read}
+use Rattle.std.proofs.Common.{◌≡◌, ◌∙◌, ap, slice_index}
 use Rattle.matroid_theory.specs.Field.{plus, times, negative, inverse}
-use Rattle.elimination.specs.Columns.{IsColumn}
-use Rattle.elimination.specs.Cleared.{multiple, IsClearedBy}
+use Rattle.elimination.specs.Cleared.{multiple}
 use Rattle.elimination.proofs.Lists.{cleared_already}
 use Rattle.elimination.proofs.clear.clear.Goals as goal
 

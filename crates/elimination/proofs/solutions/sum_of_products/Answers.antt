@@ -1,6 +1,5 @@
-use Rattle.std.proofs.Common.{◌≡◌, ◌∙◌, ◌<◌, sym, ap, arith, ◌+◌, slice_index}
-use Rattle.matroid_theory.specs.Field.{plus, times}
-use Rattle.elimination.specs.Equations.{sum_of_products}
+use Rattle.std.proofs.Common.{slice_index}
+use Rattle.matroid_theory.specs.Field.{times}
 use Rattle.elimination.proofs.Coefficients.{sum_next}
 use Rattle.elimination.proofs.solutions.sum_of_products.Goals as goal
 
