@@ -34,6 +34,7 @@ last_member n l S h g =
       | inr f ↦ (let e : size_below (suc n) S ≡ size_below n S = size_stays n S f in absurd (omega arith))
     ]
 
+-- the members below n are more than those below an earlier member
 grows : (j n : ℕ) (S : ℕ → Bool) → j < n → S j ≡ true → size_below j S < size_below n S
 grows j zero S l e = absurd (omega arith)
 grows j (suc n) S l e =
@@ -42,6 +43,7 @@ grows j (suc n) S l e =
       | inr g ↦ (let i : j ≡ n = omega arith in let k : size_below (suc n) S ≡ suc (size_below n S) = size_more n S (sym (ap S i) ∙ e) in let m : size_below j S ≡ size_below n S = ap (λ x. size_below x S) i in omega arith)
     ]
 
+-- these places list the set
 picks : (n : ℕ) (S : ℕ → Bool) → Picks n S (pick S n)
 picks zero S = record { below = λ l h. absurd (omega arith); member = λ l h. absurd (omega arith); place = λ j l. absurd (omega arith); rank = λ l h. absurd (omega arith) }
 picks (suc n) S =
@@ -83,6 +85,7 @@ module _ (q : ℕ) (F : IsField q) where
   one_more_rank r n A c e l ne (k, h) =
       (k, rank_pivot q F r n A c e l ne (Cleared n A e) (λ j. negative q (times q (A e j) (inverse q (A e n)))) (λ i j _ _. refl) (λ j m. cleared_entry q F (A e j) (A e n) (c e j l (omega arith)) (c e n l (omega arith)) ne) k h)
 
+  -- columns have a rank
   some_rank : (r n : ℕ) (A : Matrix) → ((i j : ℕ) → i < r → j < n → A i j < q) → (k : ℕ) × IsRankOf q r n A All k
   some_rank r zero A c = (0, rank_none q r A All)
   some_rank r (suc n) A c =
@@ -91,6 +94,7 @@ module _ (q : ℕ) (F : IsField q) where
         | inr z ↦ (let k = some_rank r n A (λ i j l m. c i j l (omega arith)) in (k.0, rank_zero q F r n A c z k.0 k.1))
       ]
 
+  -- and at least 1 where the last column isn't 0
   pivot_rank : (r n : ℕ) (A : Matrix) → ((i j : ℕ) → i < r → j < suc n → A i j < q) → (e : ℕ) → e < r → A e n ≢ 0 → (k : ℕ) × IsRankOf q r (suc n) A All (suc k)
   pivot_rank r n A c e l ne = one_more_rank r n A c e l ne (some_rank r n (Cleared n A e) (λ i j _ _. F.plus_below _ _))
 

@@ -21,6 +21,7 @@ abbrev pub Combines : ℕ → ℕ → List (ArrayVec ℕ) → (ℕ → ℕ) → 
 Combines q r columns a target = (i : ℕ) → i < r → combination q (length columns) (matrix_of columns) a i ≡ slice_index target i
 
 module _ (q : ℕ) (F : IsField q) where
+  -- a sum with one more term
   pub sum_next : (n : ℕ) (f : ℕ → ℕ) → sum_below q (n + 1) f ≡ plus q (sum_below q n f) (f n)
   sum_next n f = ap (λ k. sum_below q k f) (add-one n)
 
@@ -76,6 +77,7 @@ module _ (q : ℕ) (F : IsField q) where
 
   module _ (r : ℕ) (rest xs ys : List (ArrayVec ℕ)) (y : ArrayVec ℕ) (row : ℕ) (e : rest ≡ xs ++ y ∷ []) (c : AreColumns q r rest) (l : row < r) (ne : slice_index y.items row ≢ 0)
       (same : length ys ≡ length xs) (h : AreClearedBy q row y.items xs ys) where
+    -- the step, and the equation with the last column as the last term
     the_step : IsStep q r (length xs) (matrix_of (xs ++ y ∷ [])) (matrix_of ys) (λ j. multiple q row y.items (column xs j)) row
     the_step = cleared_step q F r xs ys y row (subst (AreColumns q r) e c) l ne h
 
@@ -163,6 +165,7 @@ triangle_more q r n es y e t d l m k s =
           subst (IsEquation q m) (sym (ap (column (es ++ y ∷ [])) i ∙ column_last es y)) (let o : n ≡ m = omega arith in subst (λ x. IsEquation q x y.items) o d))
     ]
 
+-- and its right side
 pub meets_more : (q r n : ℕ) (es : List (ArrayVec ℕ)) (y : ArrayVec ℕ) (sides : List ℕ) (side : ℕ) (a : ℕ → ℕ) → length es + suc n ≡ r → length sides ≡ length es → Meets q r es sides a → sum_of_products q (suc n) y.items a ≡ side → Meets q r (es ++ y ∷ []) (sides ++ side ∷ []) a
 meets_more q r n es y sides side a e f m d l k o s =
     elim (cases_lt l (length es)) [
@@ -185,6 +188,7 @@ pub record IsReduced (q r : ℕ) (basis : List (ArrayVec ℕ)) (b : List ℕ) (r
   -- the coefficients that combine the basis to b combine the rest to the target, and meet the equations
   pub kept : (a : ℕ → ℕ) → ((j : ℕ) → j < r → a j < q) → Combines q r basis a b → Combines q r rest a target × Meets q r equations sides a
 
+-- at the start nothing is taken off
 pub reduced_start : (q r : ℕ) (basis : List (ArrayVec ℕ)) (b : List ℕ) (rest : List (ArrayVec ℕ)) (target : List ℕ) (equations : List (ArrayVec ℕ)) (sides : List ℕ) → rest ≡ basis → target ≡ b → equations ≡ [] → sides ≡ []
     → length basis ≡ r → r ≤ 6 → AreColumns q r basis → IsColumn q r b → AreIndependent q r basis → IsReduced q r basis b rest target equations sides
 reduced_start q r basis b rest target equations sides e f g h s l c d i =
@@ -218,6 +222,7 @@ module _ {q r : ℕ} {basis : List (ArrayVec ℕ)} {b : List ℕ} {rest : List (
   pub target_column : IsColumn q (length y.items) target
   target_column = subst (λ n. IsColumn q n target) (sym rows) s.target_codes
 
+-- a step takes one column off and adds its equation
 pub reduced_step : (q : ℕ) (F : IsField q) (r : ℕ) (basis : List (ArrayVec ℕ)) (b : List ℕ) (rest : List (ArrayVec ℕ)) (target : List ℕ) (equations : List (ArrayVec ℕ)) (sides : List ℕ) → IsReduced q r basis b rest target equations sides
     → (xs ys : List (ArrayVec ℕ)) (y : ArrayVec ℕ) (row : ℕ) → rest ≡ xs ++ y ∷ [] → row < r → slice_index y.items row ≢ 0 → length ys ≡ length xs → AreClearedBy q row y.items xs ys
     → (new : List ℕ) → IsClearedBy q row y.items target new

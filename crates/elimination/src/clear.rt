@@ -66,6 +66,7 @@ pub fn clear_all(field: Field, columns: &mut [Column], last: &Column, row: usize
     }
 }
 
+/// The same column.
 pub fn copied(column: &Column) -> Column
     ensures codes { result.items ≡ column.now.items }
     ensures fits { length column.now.items ≤ 6 }
@@ -77,6 +78,7 @@ pub fn copied(column: &Column) -> Column
     copy
 }
 
+/// The same columns.
 pub fn copies(columns: &[Column]) -> ArrayVec<Column, 16>
     requires { length columns.now ≤ 16 }
     ensures { result.items ≡ columns.now }
