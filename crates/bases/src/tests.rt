@@ -18,7 +18,14 @@ macro_rules! unit_and {
 #[test]
 fn bases_of_the_first_factor(rt: HostRuntime) -> Result<(), Fail> {
     let rep = unit_and!([2], 3, [0, 1, 1]);
-    for (set, want) in [(7, true), (11, true), (14, false), (3, false), (0, false), (15, false)] {
+    for (set, want) in [
+        (7, true),
+        (11, true),
+        (14, false),
+        (3, false),
+        (0, false),
+        (15, false),
+    ] {
         assert!(rt; set < 16);
         assert_eq!(rt; is_basis(&rep, set), want, "at {set}");
     }

@@ -1,9 +1,9 @@
 -- Agreement of the factors, by a walk over the masks.
-use Rattle.std.proofs.Common.{◌≡◌, ℕ, ◌+◌, ◌^◌, ◌<◌, ◌≤◌, sym, subst, arith, Bool, ◌↔◌, inl, inr}
+use Rattle.std.proofs.Common.{◌≡◌, ℕ, ◌+◌, ◌^◌, ◌<◌, sym, subst, arith, Bool, ◌↔◌, inl, inr}
 use Rattle.std.proofs.lemmas.Bool.{cases_lt}
 use Rattle.matroid_theory.specs.Matrix.{size_below}
 use Rattle.matroid_theory.specs.Rep.{Rep, size, count}
-use Rattle.matroid_theory.specs.Matroid.{members, IsIndependentIn, IsBasis, Agrees}
+use Rattle.matroid_theory.specs.Matroid.{members, IsIndependentIn, IsBasis}
 use Rattle.matroid_theory.proofs.Masks.{IsBasis-same, by_masks}
 
 -- what holds of each number below n and of n
@@ -23,12 +23,6 @@ module _ (M : Rep) where
   pub alike_of_rank : (S : ℕ → Bool) → size_below (size M) S ≡ M.rank → ((f : ℕ) → f < count M → (IsIndependentIn M 0 S ↔ IsIndependentIn M f S)) → IsAlike S
   alike_of_rank S e h f l = (λ b. record { full = e; independent = (h f l).0 b.independent }, λ b. record { full = e; independent = (h f l).1 b.independent })
 
-  pub independent_alike : (S : ℕ → Bool) → size_below (size M) S ≡ M.rank → IsAlike S → (f : ℕ) → f < count M → (IsIndependentIn M 0 S ↔ IsIndependentIn M f S)
-  independent_alike S e h f l = (
-      (λ i. let b : IsBasis M f S = (h f l).0 (record { full = e; independent = i }) in b.independent),
-      (λ i. let b : IsBasis M 0 S = (h f l).1 (record { full = e; independent = i }) in b.independent),
-    )
-
   -- what is seen at each mask holds of all sets
   pub no_basis_by_masks : ((X : ℕ) → X < 2 ^ size M → ¬ (IsBasis M 0 (members X))) → (S : ℕ → Bool) → ¬ (IsBasis M 0 S)
   no_basis_by_masks = by_masks (size M) (λ S. ¬ (IsBasis M 0 S)) (λ S T e k b. k (IsBasis-same M 0 T S (λ j o. sym (e j o)) b))
@@ -38,17 +32,3 @@ module _ (M : Rep) where
       (λ b. IsBasis-same M f S T e ((h f l).0 (IsBasis-same M 0 T S (λ j o. sym (e j o)) b))),
       (λ b. IsBasis-same M 0 S T e ((h f l).1 (IsBasis-same M f T S (λ j o. sym (e j o)) b))),
     ))
-
-  -- the factors agree where the first has a basis and each set is alike
-  pub agreement : (S : ℕ → Bool) → IsBasis M 0 S → ((S : ℕ → Bool) → IsAlike S) → Agrees M
-  agreement S b h = record {
-    some = λ f l. (S, (h S f l).0 b);
-    same = λ f g l m T c. (h T g m).0 ((h T f l).1 c);
-  }
-
-  pub agreement_alike : 0 < count M → Agrees M → (S : ℕ → Bool) → IsAlike S
-  agreement_alike p a S f l = (a.same 0 f p l S, a.same f 0 l p S)
-
-  -- one factor has the bases of the first
-  pub alike_alone : count M ≡ 1 → (S : ℕ → Bool) → IsAlike S
-  alike_alone e S f l = let z : 0 ≡ f = omega arith in subst (λ (f : ℕ). IsBasis M 0 S ↔ IsBasis M f S) z (λ b. b, λ b. b)

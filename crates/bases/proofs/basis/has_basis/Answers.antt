@@ -6,7 +6,7 @@ use Rattle.bases.proofs.basis.has_basis.Goals as goal
 
 pub returns : goal.returns
 returns c = (
-    λ t. absurd (false≢true t),
-    λ b. let r : IsRep c.args.rep.now = c.size.ensures.is_rep in
-        absurd (no_basis_by_masks c.args.rep.now (λ X l. c.loop-set.invariant X (seen c.size.result (size c.args.rep.now) X c.loop-set.set c.size.ensures.value r.size_most c.loop-set-test.false l)) b.0 b.1),
-  )
+  λ t. absurd (false≢true t),
+  λ b. let r : IsRep c.args.rep.now = c.size.ensures.is_rep in
+      absurd (no_basis_by_masks c.args.rep.now (λ X l. c.loop-set.invariant X (seen c.size.result (size c.args.rep.now) X c.loop-set.set c.size.ensures.value r.size_most c.loop-set-test.false l)) b.0 b.1),
+)

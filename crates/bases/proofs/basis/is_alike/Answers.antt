@@ -1,4 +1,4 @@
-use Rattle.std.proofs.Common.{◌≡◌, ◌↔◌, ◌<◌, ℕ, arith, sym, ◌∙◌, ap, subst, List, length, Bool, true, false, not, IsTrue, refl}
+use Rattle.std.proofs.Common.{◌≡◌, ◌↔◌, ◌<◌, ℕ, arith, ◌∙◌, ap, subst, List, length, Bool, true, false, not, IsTrue, refl}
 use Rattle.std.proofs.lemmas.Bool.{false≢true}
 use mathlib.Core.Bool.{beq, true≢false}
 use Rattle.matroid_theory.specs.Rep.{count}
@@ -24,19 +24,19 @@ not_alike false false e _ _ _ = false≢true e
 
 pub returns-then-is_independent-of_first : goal.returns-then-is_independent-of_first
 returns-then-is_independent-of_first c = (
-    λ t. absurd (false≢true t),
-    λ h. let l : c.loop-factor.factor < count c.args.rep.now = subst (λ (n : ℕ). c.loop-factor.factor < n) (c.count-factor-end.ensures.count ∙ ap (λ (fs : List ℕ). length fs) c.factors.ensures) c.loop-factor-test.true in
-        absurd (not_alike c.is_independent.result c.is_independent-of_first.result c.if-is_independent-of_first.true c.is_independent.ensures c.is_independent-of_first.ensures (h c.loop-factor.factor l)),
-  )
+  λ t. absurd (false≢true t),
+  λ h. let l : c.loop-factor.factor < count c.args.rep.now = subst (λ (n : ℕ). c.loop-factor.factor < n) (c.count-factor-end.ensures.count ∙ ap (λ (fs : List ℕ). length fs) c.factors.ensures) c.loop-factor-test.true in
+      absurd (not_alike c.is_independent.result c.is_independent-of_first.result c.if-is_independent-of_first.true c.is_independent.ensures c.is_independent-of_first.ensures (h c.loop-factor.factor l)),
+)
 
 pub loop-factor-preserved : goal.loop-factor-preserved
 loop-factor-preserved c =
     one_more c.loop-factor.factor (λ f. IsTrue c.is_independent-of_first.result ↔ IsIndependentIn c.args.rep.now f (members c.args.set)) c.loop-factor.invariant
-      (subst (λ (b : Bool). IsTrue b ↔ IsIndependentIn c.args.rep.now c.loop-factor.factor (members c.args.set)) (same_answer _ _ c.if-is_independent-of_first.false) c.is_independent.ensures)
+    (subst (λ (b : Bool). IsTrue b ↔ IsIndependentIn c.args.rep.now c.loop-factor.factor (members c.args.set)) (same_answer _ _ c.if-is_independent-of_first.false) c.is_independent.ensures)
 
 pub returns : goal.returns
 returns c = (
-    (λ _ f l. let h : IsTrue c.is_independent-of_first.result ↔ IsIndependentIn c.args.rep.now f (members c.args.set) = c.loop-factor.invariant f (let n : c.count-factor-end.result ≡ count c.args.rep.now = c.count-factor-end.ensures.count ∙ ap (λ (fs : List ℕ). length fs) c.factors.ensures in omega arith) in
-        (λ i. h.0 (c.is_independent-of_first.ensures.1 i), λ i. c.is_independent-of_first.ensures.0 (h.1 i))),
-    λ _. refl,
-  )
+  (λ _ f l. let h : IsTrue c.is_independent-of_first.result ↔ IsIndependentIn c.args.rep.now f (members c.args.set) = c.loop-factor.invariant f (let n : c.count-factor-end.result ≡ count c.args.rep.now = c.count-factor-end.ensures.count ∙ ap (λ (fs : List ℕ). length fs) c.factors.ensures in omega arith) in
+      (λ i. h.0 (c.is_independent-of_first.ensures.1 i), λ i. c.is_independent-of_first.ensures.0 (h.1 i))),
+  λ _. refl,
+)

@@ -15,5 +15,5 @@ pub returns : goal.returns
 returns c =
     let q : c.field.result ≡ order c.args.rep.now c.args.factor = c.field.ensures ∙ ap (λ (fs : List ℕ). slice_index fs c.args.factor) c.factors.ensures in
     let s : AreIndependent c.field.result (height c.as_slice.result.now) c.as_slice.result.now ↔ IsIndependentIn c.args.rep.now c.args.factor (members c.args.set) =
-        named_are_independent c.args.rep.now c.picked-columns.ensures.is_rep c.args.factor c.requires (members c.args.set) c.picked-columns.result.items c.picked-columns.ensures.picked c.field.result c.as_slice.result.now q c.as_slice.ensures.value in
+    named_are_independent c.args.rep.now c.picked-columns.ensures.is_rep c.args.factor c.requires (members c.args.set) c.picked-columns.result.items c.picked-columns.ensures.picked c.field.result c.as_slice.result.now q c.as_slice.ensures.value in
     (λ t. s.0 (c.independent.ensures.0 t), λ i. c.independent.ensures.1 (s.1 i))

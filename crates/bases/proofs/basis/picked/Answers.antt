@@ -1,4 +1,4 @@
-use Rattle.std.proofs.Common.{◌≡◌, ◌<◌, ◌≤◌, ◌∙◌, ap, sym, subst, arith, lit<, length, true, false, List, bit_and, ◌/◌, ◌^◌, ◌≢◌, ◌+◌, ℕ}
+use Rattle.std.proofs.Common.{◌≡◌, ◌≤◌, ◌∙◌, ap, sym, subst, arith, lit<, length, true, false, bit_and, ◌/◌, ◌^◌, ◌≢◌, ◌+◌, ℕ}
 use Rattle.std.specs.Bool.{◌==◌}
 use Rattle.std.proofs.lemmas.Nat.Bits.{shr_and_one}
 use Rattle.arrayvec.specs.ArrayVec.{ArrayVec}
@@ -29,8 +29,8 @@ outside set j n = other_number _ 1 (λ e. n (shr_and_one set j ∙ e))
 
 pub loop-j-preserved : goal.loop-j-preserved
 loop-j-preserved c = elim c.if-set-j-eq1.branch [
-    | then-set-j-eq1 w ↦ more_picked c.args.rep.now c.args.factor c.loop-j.j (members c.args.set) c.loop-j.columns.items c.if-set-j-eq1.columns.items w.factor_column.result
-        (inside c.args.set c.loop-j.j w.if-set-j-eq1.true) (ap (λ (v : ArrayVec (ArrayVec ℕ)). v.items) w.columns-is ∙ w.push.ensures.items) w.factor_column.ensures c.loop-j.invariant
-    | else-set-j-eq1 w ↦ subst (λ (v : ArrayVec (ArrayVec ℕ)). ArePicked c.args.rep.now c.args.factor (c.loop-j.j + 1) (members c.args.set) v.items) (sym w.columns-is)
-        (same_picked c.args.rep.now c.args.factor c.loop-j.j (members c.args.set) c.loop-j.columns.items (outside c.args.set c.loop-j.j w.if-set-j-eq1.false) c.loop-j.invariant)
-  ]
+  | then-set-j-eq1 w ↦ more_picked c.args.rep.now c.args.factor c.loop-j.j (members c.args.set) c.loop-j.columns.items c.if-set-j-eq1.columns.items w.factor_column.result
+      (inside c.args.set c.loop-j.j w.if-set-j-eq1.true) (ap (λ (v : ArrayVec (ArrayVec ℕ)). v.items) w.columns-is ∙ w.push.ensures.items) w.factor_column.ensures c.loop-j.invariant
+  | else-set-j-eq1 w ↦ subst (λ (v : ArrayVec (ArrayVec ℕ)). ArePicked c.args.rep.now c.args.factor (c.loop-j.j + 1) (members c.args.set) v.items) (sym w.columns-is)
+      (same_picked c.args.rep.now c.args.factor c.loop-j.j (members c.args.set) c.loop-j.columns.items (outside c.args.set c.loop-j.j w.if-set-j-eq1.false) c.loop-j.invariant)
+]

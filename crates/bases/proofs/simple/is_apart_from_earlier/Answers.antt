@@ -21,9 +21,9 @@ returns-then-not-is_independent c =
 -- one more column
 more : (M : Rep) (f i j n : ℕ) → ((k : ℕ) → k < i → IsIndependentIn M f (pair k j)) → IsIndependentIn M f (pair i j) → n ≤ i → IsIndependentIn M f (pair n j)
 more M f i j n h d l = elim (cases_lt n i) [
-    | inl b ↦ h n b
-    | inr g ↦ (let e : i ≡ n = omega arith in subst (λ (x : ℕ). IsIndependentIn M f (pair x j)) e d)
-  ]
+  | inl b ↦ h n b
+  | inr g ↦ (let e : i ≡ n = omega arith in subst (λ (x : ℕ). IsIndependentIn M f (pair x j)) e d)
+]
 
 pub loop-i-preserved : goal.loop-i-preserved
 loop-i-preserved c n l =

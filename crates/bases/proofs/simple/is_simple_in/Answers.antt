@@ -7,9 +7,9 @@ use Rattle.bases.proofs.simple.is_simple_in.Goals as goal
 
 pub returns-then-not-is_apart_from_earlier : goal.returns-then-not-is_apart_from_earlier
 returns-then-not-is_apart_from_earlier c = (
-    λ t. absurd (false≢true t),
-    λ h. absurd (false≢true (sym c.if-not-is_apart_from_earlier.true ∙ c.is_apart_from_earlier.ensures.1 (λ i l. h i c.loop-j.j (omega arith) (omega arith)))),
-  )
+  λ t. absurd (false≢true t),
+  λ h. absurd (false≢true (sym c.if-not-is_apart_from_earlier.true ∙ c.is_apart_from_earlier.ensures.1 (λ i l. h i c.loop-j.j (omega arith) (omega arith)))),
+)
 
 pub loop-j-preserved : goal.loop-j-preserved
 loop-j-preserved c j l =
