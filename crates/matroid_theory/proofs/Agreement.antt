@@ -29,6 +29,6 @@ module _ (M : Rep) where
 
   pub alike_by_masks : ((X : ℕ) → X < 2 ^ size M → IsAlike (members X)) → (S : ℕ → Bool) → IsAlike S
   alike_by_masks = by_masks (size M) IsAlike (λ S T e h f l. (
-      (λ b. IsBasis-same M f S T e ((h f l).0 (IsBasis-same M 0 T S (λ j o. sym (e j o)) b))),
-      (λ b. IsBasis-same M 0 S T e ((h f l).1 (IsBasis-same M f T S (λ j o. sym (e j o)) b))),
-    ))
+    (λ b. IsBasis-same M f S T e ((h f l).0 (IsBasis-same M 0 T S (λ j o. sym (e j o)) b))),
+    (λ b. IsBasis-same M 0 S T e ((h f l).1 (IsBasis-same M f T S (λ j o. sym (e j o)) b))),
+  ))

@@ -33,9 +33,9 @@ members-pair i j k =
 
 pub pair_independent : (M : Rep) (f i j : ℕ) → IsIndependentIn M f (members (bit_or (2 ^ i) (2 ^ j))) ↔ IsIndependentIn M f (pair i j)
 pair_independent M f i j = (
-    IsIndependent-same (order M f) M.rank (size M) (matrix M f) (members (bit_or (2 ^ i) (2 ^ j))) (pair i j) (λ k _. members-pair i j k),
-    IsIndependent-same (order M f) M.rank (size M) (matrix M f) (pair i j) (members (bit_or (2 ^ i) (2 ^ j))) (λ k _. sym (members-pair i j k)),
-  )
+  IsIndependent-same (order M f) M.rank (size M) (matrix M f) (members (bit_or (2 ^ i) (2 ^ j))) (pair i j) (λ k _. members-pair i j k),
+  IsIndependent-same (order M f) M.rank (size M) (matrix M f) (pair i j) (members (bit_or (2 ^ i) (2 ^ j))) (λ k _. sym (members-pair i j k)),
+)
 
 pair_turned : (i j k : ℕ) → pair j i k ≡ pair i j k
 pair_turned i j k = turned (k == j) (k == i)
@@ -49,6 +49,6 @@ pair_turned i j k = turned (k == j) (k == i)
 -- the pairs of each column and one that isn't after it are all pairs
 pub pairs_both : (M : Rep) (f n : ℕ) → ((j : ℕ) → j < n → (i : ℕ) → i ≤ j → IsIndependentIn M f (pair i j)) → (i j : ℕ) → i < n → j < n → IsIndependentIn M f (pair i j)
 pairs_both M f n h i j l m = elim (cases_lt j i) [
-    | inr b ↦ h j m i b
-    | inl g ↦ IsIndependent-same (order M f) M.rank (size M) (matrix M f) (pair j i) (pair i j) (λ k _. pair_turned i j k) (h i l j (omega arith))
-  ]
+  | inr b ↦ h j m i b
+  | inl g ↦ IsIndependent-same (order M f) M.rank (size M) (matrix M f) (pair j i) (pair i j) (λ k _. pair_turned i j k) (h i l j (omega arith))
+]
