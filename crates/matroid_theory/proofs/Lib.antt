@@ -22,3 +22,4 @@ pub mod Agreement
 pub mod MaskCounts
 pub mod Pairs
 pub mod Equivalence
+pub mod Carried

@@ -5,7 +5,8 @@ ghost use Rattle.std.specs.declared.cmp.Ordering.TheVariants.{Less as less, Equa
 ghost use Rattle.std.specs.Ordering.{ordering_reverse};
 ghost use Rattle.matroid_theory.specs.Field.{IsOrder, IsField, IsSum, IsProduct, plus, times};
 ghost use Rattle.matroid_theory.specs.Matrix.{Matrix, AreInverse, IsIndependent, IsIndependentPart, IsRankOf, product, size_below};
-ghost use Rattle.matroid_theory.specs.Rep.{Rep, Shape, shape, IsShaped};
+ghost use Rattle.matroid_theory.specs.Rep.{Rep, Shape, shape, count, IsShaped};
+ghost use Rattle.matroid_theory.specs.Matroid.{IsBasis, Agrees, IsSimple};
 ghost use Rattle.matroid_theory.specs.declared.Mode.{Mode};
 ghost use Rattle.matroid_theory.specs.Move.{Move, IsMove, TakesTo, AreEquivalent};
 ghost use Rattle.matroid_theory.specs.Order.{rep_cmp};
@@ -107,4 +108,13 @@ pub fn equivalence()
     ensures symmetric { (mode : Mode) (M N : Rep) → AreEquivalent mode M N → AreEquivalent mode N M }
     ensures transitive { (mode : Mode) (M N L : Rep) →
         AreEquivalent mode M N → AreEquivalent mode N L → AreEquivalent mode M L }
+{}
+
+/// A move carries the bases of each factor by its relabelling. Of two equivalent representations both agree, or neither,
+/// and both are simple, or neither.
+pub fn moves_carry_bases()
+    ensures bases { (mode : Mode) (M N : Rep) (m : Move) → IsShaped M → IsMove mode (shape M) m → TakesTo M m N →
+        (f : ℕ) → f < count M → (S : ℕ → Bool) → IsBasis M f S ↔ IsBasis N f (λ j. S (m.label j)) }
+    ensures agreement { (mode : Mode) (M N : Rep) → AreEquivalent mode M N → Agrees M ↔ Agrees N }
+    ensures simplicity { (mode : Mode) (M N : Rep) → AreEquivalent mode M N → IsSimple M ↔ IsSimple N }
 {}
