@@ -20,7 +20,7 @@ module _ (q : ℕ) (F : IsField q) (r n : ℕ) (t : ℕ) (G A B : Matrix) (s : �
     (s_code : (j : ℕ) → j < n → s j < q) (s_nonzero : (j : ℕ) → j < n → s j ≢ 0)
     (B_is : (i j : ℕ) → i < r → j < n → B i j ≡ times q (s j) (combination q r G (λ k. raised q t (A k (p j))) i)) where
   -- the coefficients of B's columns that belong to those of A's
-  pub turned_over : (ℕ → ℕ) → ℕ → ℕ
+  turned_over : (ℕ → ℕ) → ℕ → ℕ
   turned_over a j = times q (inverse q (s j)) (raised q t (a (p j)))
 
   -- (s x) (s⁻¹ y) = x y
@@ -31,7 +31,7 @@ module _ (q : ℕ) (F : IsField q) (r n : ℕ) (t : ℕ) (G A B : Matrix) (s : �
       ∙ ap (times q x) (sym (F.times_assoc s (inverse q s) y) ∙ ap (λ z. times q z y) (F.times_inverse s l ne) ∙ F.times_one y c)
 
   -- B (turned a) = G (raised (A a))
-  pub combination_carried : (a : ℕ → ℕ) → ((k : ℕ) → k < n → a k < q) → (i : ℕ) → i < r
+  combination_carried : (a : ℕ → ℕ) → ((k : ℕ) → k < n → a k < q) → (i : ℕ) → i < r
       → combination q n B (turned_over a) i ≡ combination q r G (λ k. raised q t (combination q n A a k)) i
   unfolding turned_over
   combination_carried a c i l =
@@ -76,7 +76,7 @@ module _ (q : ℕ) (F : IsField q) (r n : ℕ) (t : ℕ) (G A B : Matrix) (s : �
           ]
 
   -- where columns of B are independent, so are the columns of A that they came from
-  pub independent_carried : (S : ℕ → Bool) → IsIndependent q r n B S → IsIndependent q r n A (λ k. S (u k))
+  independent_carried : (S : ℕ → Bool) → IsIndependent q r n B S → IsIndependent q r n A (λ k. S (u k))
   independent_carried S h = record { only_zero = λ a c z k l. sym (ap a (w.back k l)) ∙ carried_zero S h a c z (u k) (w.inverse_below k l) }
 
 -- ---- one move

@@ -16,7 +16,7 @@ use Rattle.matroid_theory.proofs.Frobenius.{raised_below, raised_times, raised_c
 
 module _ (q : ℕ) (F : IsField q) (r : ℕ) where
   -- a move after a move, in one factor
-  pub one_after : (t2 t1 s2 s1 : ℕ) (G2 G1 : Matrix) (a : ℕ → ℕ) (i : ℕ) → 0 < degree q → ((k : ℕ) → k < r → a k < q)
+  one_after : (t2 t1 s2 s1 : ℕ) (G2 G1 : Matrix) (a : ℕ → ℕ) (i : ℕ) → 0 < degree q → ((k : ℕ) → k < r → a k < q)
       → times q s2 (combination q r G2 (λ k. raised q t2 (times q s1 (combination q r G1 (λ l. raised q t1 (a l)) k))) i)
       ≡ times q (times q s2 (raised q t2 s1)) (combination q r (product q r G2 (λ k l. raised q t2 (G1 k l))) (λ l. raised q ((t2 + t1) % degree q) (a l)) i)
   one_after t2 t1 s2 s1 G2 G1 a i d c =
@@ -32,7 +32,7 @@ module _ (q : ℕ) (F : IsField q) (r : ℕ) where
       ∙ ap (times q (times q s2 (raised q t2 s1))) (sym (combination-product q F r r G2 (λ k l. raised q t2 (G1 k l)) (λ l. raised q ((t2 + t1) % degree q) (a l)) i))
 
   -- a move undone, in one factor: s' H' (raised s G a) = a
-  pub one_undone : (t s : ℕ) (G H : Matrix) (a : ℕ → ℕ) (i : ℕ) → t < degree q → s < q → s ≢ 0 → AreInverse q r H G → ((k : ℕ) → k < r → a k < q) → i < r
+  one_undone : (t s : ℕ) (G H : Matrix) (a : ℕ → ℕ) (i : ℕ) → t < degree q → s < q → s ≢ 0 → AreInverse q r H G → ((k : ℕ) → k < r → a k < q) → i < r
       → times q (raised q (undoing q F t) (inverse q s)) (combination q r (λ k l. raised q (undoing q F t) (H k l)) (λ k. raised q (undoing q F t) (times q s (combination q r G (λ l. raised q t (a l)) k))) i) ≡ a i
   one_undone t s G H a i d b n v c l =
       let u = undoing q F t in
@@ -163,10 +163,10 @@ module _ (mode : Mode) (S : Shape) (fields : (f : ℕ) → f < length S.factors 
 -- ---- what the moves take to what
 
 -- the codes of N after a move that takes M to N, over the shape of M
-abbrev pub Codes : Shape → (ℕ → Matrix) → Move → (ℕ → Matrix) → Type 0
+abbrev Codes : Shape → (ℕ → Matrix) → Move → (ℕ → Matrix) → Type 0
 Codes S A m B = (f i j : ℕ) → f < length S.factors → i < S.rank → j < S.size → B f i j ≡ moved S A m f i j
 
-pub codes_after : (mode : Mode) (S : Shape) → ((f : ℕ) → f < length S.factors → IsOrder (slice_index S.factors f)) → (a b : Move) (A B C : ℕ → Matrix)
+codes_after : (mode : Mode) (S : Shape) → ((f : ℕ) → f < length S.factors → IsOrder (slice_index S.factors f)) → (a b : Move) (A B C : ℕ → Matrix)
     → ((f i j : ℕ) → f < length S.factors → i < S.rank → j < S.size → A f i j < slice_index S.factors f)
     → IsMove mode S a → IsMove mode S b → Codes S A b B → Codes S B a C → Codes S A (after S a b) C
 unfolding after
@@ -178,7 +178,7 @@ codes_after mode S fields a b A B C c v w h g f i j l m n =
     ∙ ap (times q (a.scalar f j)) (combination-same q F S.rank (a.rows f) (λ k. raised q (a.power f) (B f k (a.label j))) (λ k. raised q (a.power f) (moved S A b f k (a.label j))) i (λ k k'. ap (raised q (a.power f)) (h f k (a.label j) l k' p)))
     ∙ one_after q F S.rank (a.power f) (b.power f) (a.scalar f j) (b.scalar f (a.label j)) (a.rows f) (b.rows f) (λ k. A f k (b.label (a.label j))) i F.degree_positive (λ k k'. c f k (b.label (a.label j)) l k' (w.labels.below (a.label j) p))
 
-pub codes_undone : (mode : Mode) (S : Shape) → ((f : ℕ) → f < length S.factors → IsOrder (slice_index S.factors f)) → (a : Move) (A B : ℕ → Matrix)
+codes_undone : (mode : Mode) (S : Shape) → ((f : ℕ) → f < length S.factors → IsOrder (slice_index S.factors f)) → (a : Move) (A B : ℕ → Matrix)
     → ((f i j : ℕ) → f < length S.factors → i < S.rank → j < S.size → A f i j < slice_index S.factors f)
     → IsMove mode S a → Codes S A a B → Codes S B (undo S a) A
 unfolding undo
@@ -225,7 +225,7 @@ takes_undone mode M N a s v t =
 
 -- ---- equivalence is an equivalence
 
-unfoldable pub equivalent-reflexive : (mode : Mode) (M : Rep) → IsShaped M → AreEquivalent mode M M
+pub equivalent-reflexive : (mode : Mode) (M : Rep) → IsShaped M → AreEquivalent mode M M
 equivalent-reflexive mode M s = record {
   shaped = s;
   move = identity;
@@ -233,7 +233,7 @@ equivalent-reflexive mode M s = record {
   takes = takes_identity M s;
 }
 
-unfoldable pub equivalent-transitive : (mode : Mode) (M N L : Rep) → AreEquivalent mode M N → AreEquivalent mode N L → AreEquivalent mode M L
+pub equivalent-transitive : (mode : Mode) (M N L : Rep) → AreEquivalent mode M N → AreEquivalent mode N L → AreEquivalent mode M L
 equivalent-transitive mode M N L e d =
     let w : IsMove mode (shape M) d.move = subst (λ S. IsMove mode S d.move) e.takes.same_shape d.valid in
     record {
@@ -243,7 +243,7 @@ equivalent-transitive mode M N L e d =
       takes = takes_after mode M N L d.move e.move e.shaped w e.valid e.takes d.takes;
     }
 
-unfoldable pub equivalent-symmetric : (mode : Mode) (M N : Rep) → AreEquivalent mode M N → AreEquivalent mode N M
+pub equivalent-symmetric : (mode : Mode) (M N : Rep) → AreEquivalent mode M N → AreEquivalent mode N M
 equivalent-symmetric mode M N e =
     let v : IsMove mode (shape M) (undo (shape M) e.move) = undo_move mode (shape M) e.shaped.orders e.move e.valid in
     record {
