@@ -21,3 +21,5 @@ pub mod Examples
 pub mod Agreement
 pub mod MaskCounts
 pub mod Pairs
+pub mod Equivalence
+pub mod Carried

@@ -1,11 +1,14 @@
 //! Laws over the definitions, each the contract of a function with an empty body.
-ghost use Rattle.std.specs.Prelude.{◌≡◌, ◌<◌, ◌≤◌, ◌↔◌, ◌==◌, ◌&&◌, ◌||◌, not, ℕ, List, Bool, true, false};
+ghost use Rattle.std.specs.Prelude.{◌≡◌, ◌<◌, ◌≤◌, ◌↔◌, ◌==◌, ◌&&◌, ◌||◌, not, ℕ, List, Bool, true, false, length, slice_index};
 ghost use Rattle.std.specs.declared.cmp.Ordering.{Ordering as Outcome};
 ghost use Rattle.std.specs.declared.cmp.Ordering.TheVariants.{Less as less, Equal as equal};
 ghost use Rattle.std.specs.Ordering.{ordering_reverse};
 ghost use Rattle.matroid_theory.specs.Field.{IsOrder, IsField, IsSum, IsProduct, plus, times};
 ghost use Rattle.matroid_theory.specs.Matrix.{Matrix, AreInverse, IsIndependent, IsIndependentPart, IsRankOf, product, size_below};
-ghost use Rattle.matroid_theory.specs.Rep.{Rep, shape};
+ghost use Rattle.matroid_theory.specs.Rep.{Rep, Shape, shape, count, IsShaped};
+ghost use Rattle.matroid_theory.specs.Matroid.{IsBasis, Agrees, IsSimple};
+ghost use Rattle.matroid_theory.specs.declared.Mode.{Mode};
+ghost use Rattle.matroid_theory.specs.Move.{Move, IsMove, TakesTo, AreEquivalent};
 ghost use Rattle.matroid_theory.specs.Order.{rep_cmp};
 ghost use Rattle.matroid_theory.specs.Level.{Family, Filters, IsLevel, IsListed, IsTry, IsCount};
 ghost use Rattle.matroid_theory.specs.Minor.{Matroid};
@@ -84,4 +87,34 @@ pub fn ranks()
         IsRankOf q r n A S k → IsRankOf q r n A S l → k ≡ l }
     ensures kept { (q r n : ℕ) (G H A : Matrix) (S : ℕ → Bool) (k : ℕ) → IsField q → AreInverse q r G H →
         IsRankOf q r n A S k ↔ IsRankOf q r n (product q r G A) S k }
+{}
+
+/// The identity is a move, and so are a move after a move and the inverse of a move.
+pub fn moves()
+    ensures identity { (mode : Mode) (S : Shape) → ((f : ℕ) → f < length S.factors → IsOrder (slice_index S.factors f)) →
+        (m : Move) × IsMove mode S m × ((M : Rep) → shape M ≡ S → IsShaped M → TakesTo M m M) }
+    ensures composite { (mode : Mode) (S : Shape) (a b : Move) →
+        ((f : ℕ) → f < length S.factors → IsOrder (slice_index S.factors f)) → IsMove mode S a → IsMove mode S b →
+        (c : Move) × IsMove mode S c ×
+        ((M N L : Rep) → shape M ≡ S → IsShaped M → TakesTo M a N → TakesTo N b L → TakesTo M c L) }
+    ensures inverse { (mode : Mode) (S : Shape) (a : Move) →
+        ((f : ℕ) → f < length S.factors → IsOrder (slice_index S.factors f)) → IsMove mode S a →
+        (c : Move) × IsMove mode S c × ((M N : Rep) → shape M ≡ S → IsShaped M → TakesTo M a N → TakesTo N c M) }
+{}
+
+/// Equivalence is reflexive, symmetric and transitive.
+pub fn equivalence()
+    ensures reflexive { (mode : Mode) (M : Rep) → IsShaped M → AreEquivalent mode M M }
+    ensures symmetric { (mode : Mode) (M N : Rep) → AreEquivalent mode M N → AreEquivalent mode N M }
+    ensures transitive { (mode : Mode) (M N L : Rep) →
+        AreEquivalent mode M N → AreEquivalent mode N L → AreEquivalent mode M L }
+{}
+
+/// A move carries the bases of each factor by its relabelling. Of two equivalent representations both agree, or neither,
+/// and both are simple, or neither.
+pub fn moves_carry_bases()
+    ensures bases { (mode : Mode) (M N : Rep) (m : Move) → IsShaped M → IsMove mode (shape M) m → TakesTo M m N →
+        (f : ℕ) → f < count M → (S : ℕ → Bool) → IsBasis M f S ↔ IsBasis N f (λ j. S (m.label j)) }
+    ensures agreement { (mode : Mode) (M N : Rep) → AreEquivalent mode M N → Agrees M ↔ Agrees N }
+    ensures simplicity { (mode : Mode) (M N : Rep) → AreEquivalent mode M N → IsSimple M ↔ IsSimple N }
 {}
