@@ -9,7 +9,7 @@ ghost use Rattle.matroid_theory.specs.Rep.{Rep, Shape, shape, count, IsShaped};
 ghost use Rattle.matroid_theory.specs.Matroid.{IsBasis, Agrees, IsSimple};
 ghost use Rattle.matroid_theory.specs.declared.Mode.{Mode};
 ghost use Rattle.matroid_theory.specs.Move.{Move, IsMove, TakesTo, AreEquivalent};
-ghost use Rattle.matroid_theory.specs.Order.{rep_cmp};
+ghost use Rattle.matroid_theory.specs.Order.{rep_cmp, IsForm};
 ghost use Rattle.matroid_theory.specs.Level.{Family, Filters, IsLevel, IsListed, IsTry, IsCount};
 ghost use Rattle.matroid_theory.specs.Minor.{Matroid};
 ghost use Rattle.matroid_theory.specs.Given.{Given, IsGivenBy};
@@ -117,4 +117,9 @@ pub fn moves_carry_bases()
         (f : ℕ) → f < count M → (S : ℕ → Bool) → IsBasis M f S ↔ IsBasis N f (λ j. S (m.label j)) }
     ensures agreement { (mode : Mode) (M N : Rep) → AreEquivalent mode M N → Agrees M ↔ Agrees N }
     ensures simplicity { (mode : Mode) (M N : Rep) → AreEquivalent mode M N → IsSimple M ↔ IsSimple N }
+{}
+
+/// A class of equivalent representations has at most one form.
+pub fn one_form()
+    ensures { (mode : Mode) (M N : Rep) → IsForm mode M → IsForm mode N → AreEquivalent mode M N → M ≡ N }
 {}
