@@ -24,3 +24,4 @@ pub mod Pairs
 pub mod Equivalence
 pub mod Carried
 pub mod Forms
+pub mod Standard
