@@ -23,3 +23,5 @@ pub mod MaskCounts
 pub mod Pairs
 pub mod Equivalence
 pub mod Carried
+pub mod Forms
+pub mod Standard

@@ -2,14 +2,15 @@
 ghost use Rattle.std.specs.Prelude.{◌≡◌, ◌<◌, ◌≤◌, ◌↔◌, ◌==◌, ◌&&◌, ◌||◌, not, ℕ, List, Bool, true, false, length, slice_index};
 ghost use Rattle.std.specs.declared.cmp.Ordering.{Ordering as Outcome};
 ghost use Rattle.std.specs.declared.cmp.Ordering.TheVariants.{Less as less, Equal as equal};
+ghost use Rattle.std.specs.Bool.{nat_lt};
 ghost use Rattle.std.specs.Ordering.{ordering_reverse};
-ghost use Rattle.matroid_theory.specs.Field.{IsOrder, IsField, IsSum, IsProduct, plus, times};
-ghost use Rattle.matroid_theory.specs.Matrix.{Matrix, AreInverse, IsIndependent, IsIndependentPart, IsRankOf, product, size_below};
-ghost use Rattle.matroid_theory.specs.Rep.{Rep, Shape, shape, count, IsShaped};
+ghost use Rattle.matroid_theory.specs.Field.{IsOrder, IsField, IsSum, IsProduct, plus, times, inverse, raised};
+ghost use Rattle.matroid_theory.specs.Matrix.{Matrix, AreInverse, IsIndependent, IsIndependentPart, IsRankOf, combination, product, size_below};
+ghost use Rattle.matroid_theory.specs.Rep.{Rep, Shape, shape, count, size, order, matrix, IsShaped, IsStandard};
 ghost use Rattle.matroid_theory.specs.Matroid.{IsBasis, Agrees, IsSimple};
 ghost use Rattle.matroid_theory.specs.declared.Mode.{Mode};
 ghost use Rattle.matroid_theory.specs.Move.{Move, IsMove, TakesTo, AreEquivalent};
-ghost use Rattle.matroid_theory.specs.Order.{rep_cmp};
+ghost use Rattle.matroid_theory.specs.Order.{rep_cmp, IsForm};
 ghost use Rattle.matroid_theory.specs.Level.{Family, Filters, IsLevel, IsListed, IsTry, IsCount};
 ghost use Rattle.matroid_theory.specs.Minor.{Matroid};
 ghost use Rattle.matroid_theory.specs.Given.{Given, IsGivenBy};
@@ -117,4 +118,30 @@ pub fn moves_carry_bases()
         (f : ℕ) → f < count M → (S : ℕ → Bool) → IsBasis M f S ↔ IsBasis N f (λ j. S (m.label j)) }
     ensures agreement { (mode : Mode) (M N : Rep) → AreEquivalent mode M N → Agrees M ↔ Agrees N }
     ensures simplicity { (mode : Mode) (M N : Rep) → AreEquivalent mode M N → IsSimple M ↔ IsSimple N }
+{}
+
+/// A class of equivalent representations has at most one form.
+pub fn one_form()
+    ensures { (mode : Mode) (M N : Rep) → IsForm mode M → IsForm mode N → AreEquivalent mode M N → M ≡ N }
+{}
+
+/// Every standard representation equivalent to one is made of an ordered basis of it, row scalars, column scalars and an
+/// order of the columns. Let a move take M of rank r to a standard N. In each factor the columns label 0, .., label (r - 1)
+/// of M, which are those whose place is below r, are a basis of M, each column of M has coordinates in this ordered basis,
+/// and the entry of N at row i of column k is the scalar of k times the inverse of the scalar of i times the raised
+/// coordinate i of column label k.
+pub fn standard_members()
+    ensures basis { (mode : Mode) (M N : Rep) (m : Move) → IsShaped M → IsStandard N → IsMove mode (shape M) m →
+        TakesTo M m N → (f : ℕ) → f < count M → IsBasis M f (λ j. nat_lt (m.place j) M.rank) }
+    ensures coordinates { (mode : Mode) (M N : Rep) (m : Move) → IsShaped M → IsStandard N → IsMove mode (shape M) m →
+        TakesTo M m N → (f : ℕ) → f < count M → (k : ℕ) → k < size M →
+        (c : ℕ → ℕ) × ((i : ℕ) → i < M.rank → c i < order M f) × ((i : ℕ) → i < M.rank →
+        combination (order M f) M.rank (λ i l. matrix M f i (m.label l)) c i ≡ matrix M f i (m.label k)) }
+    ensures entries { (mode : Mode) (M N : Rep) (m : Move) → IsShaped M → IsStandard N → IsMove mode (shape M) m →
+        TakesTo M m N → (f : ℕ) → f < count M → (k : ℕ) → k < size M → (c : ℕ → ℕ) →
+        ((i : ℕ) → i < M.rank →
+        combination (order M f) M.rank (λ i l. matrix M f i (m.label l)) c i ≡ matrix M f i (m.label k)) →
+        (i : ℕ) → i < M.rank →
+        matrix N f i k ≡ times (order M f) (m.scalar f k)
+        (times (order M f) (inverse (order M f) (m.scalar f i)) (raised (order M f) (m.power f) (c i))) }
 {}
