@@ -23,3 +23,6 @@ pub mod MaskCounts
 pub mod Pairs
 pub mod Equivalence
 pub mod Carried
+pub mod Columns
+pub mod Prefix
+pub mod Rest

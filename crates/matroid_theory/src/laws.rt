@@ -1,16 +1,16 @@
 //! Laws over the definitions, each the contract of a function with an empty body.
-ghost use Rattle.std.specs.Prelude.{◌≡◌, ◌<◌, ◌≤◌, ◌↔◌, ◌==◌, ◌&&◌, ◌||◌, not, ℕ, List, Bool, true, false, length, slice_index};
+ghost use Rattle.std.specs.Prelude.{◌≡◌, ◌+◌, ◌<◌, ◌≤◌, ◌↔◌, ◌==◌, ◌&&◌, ◌||◌, not, ℕ, List, Bool, true, false, length, slice_index};
 ghost use Rattle.std.specs.declared.cmp.Ordering.{Ordering as Outcome};
 ghost use Rattle.std.specs.declared.cmp.Ordering.TheVariants.{Less as less, Equal as equal};
 ghost use Rattle.std.specs.Ordering.{ordering_reverse};
 ghost use Rattle.matroid_theory.specs.Field.{IsOrder, IsField, IsSum, IsProduct, plus, times};
 ghost use Rattle.matroid_theory.specs.Matrix.{Matrix, AreInverse, IsIndependent, IsIndependentPart, IsRankOf, product, size_below};
-ghost use Rattle.matroid_theory.specs.Rep.{Rep, Shape, shape, count, IsShaped};
+ghost use Rattle.matroid_theory.specs.Rep.{Rep, Shape, shape, count, size, IsShaped};
 ghost use Rattle.matroid_theory.specs.Matroid.{IsBasis, Agrees, IsSimple};
 ghost use Rattle.matroid_theory.specs.declared.Mode.{Mode};
 ghost use Rattle.matroid_theory.specs.Move.{Move, IsMove, TakesTo, AreEquivalent};
-ghost use Rattle.matroid_theory.specs.Order.{rep_cmp};
-ghost use Rattle.matroid_theory.specs.Level.{Family, Filters, IsLevel, IsListed, IsTry, IsCount};
+ghost use Rattle.matroid_theory.specs.Order.{rep_cmp, IsForm};
+ghost use Rattle.matroid_theory.specs.Level.{Family, Filters, IsMember, IsLevel, IsListed, IsTry, IsCount, followed_by};
 ghost use Rattle.matroid_theory.specs.Minor.{Matroid};
 ghost use Rattle.matroid_theory.specs.Given.{Given, IsGivenBy};
 
@@ -117,4 +117,12 @@ pub fn moves_carry_bases()
         (f : ℕ) → f < count M → (S : ℕ → Bool) → IsBasis M f S ↔ IsBasis N f (λ j. S (m.label j)) }
     ensures agreement { (mode : Mode) (M N : Rep) → AreEquivalent mode M N → Agrees M ↔ Agrees N }
     ensures simplicity { (mode : Mode) (M N : Rep) → AreEquivalent mode M N → IsSimple M ↔ IsSimple N }
+{}
+
+/// Where the last column of a form of size above the rank is left out, a form is left, in each mode. A member of which it
+/// is left out stays one, where a basis is left.
+pub fn prefix()
+    ensures form { (mode : Mode) (P : Rep) (v : List ℕ) → P.rank ≤ size P → IsForm mode (followed_by P v) → IsForm mode P }
+    ensures member { (q : Family) (n : ℕ) (P : Rep) (v : List ℕ) (S : ℕ → Bool) → 0 < length q.factors → IsBasis P 0 S →
+        IsMember q (n + 1) (followed_by P v) → IsMember q n P }
 {}
