@@ -25,3 +25,6 @@ pub mod Equivalence
 pub mod Carried
 pub mod Forms
 pub mod Standard
+pub mod Columns
+pub mod Prefix
+pub mod Rest
