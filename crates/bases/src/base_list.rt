@@ -2,7 +2,7 @@
 ghost use Rattle.std.specs.Prelude.{◌≡◌, IfOk};
 ghost use Rattle.matroid_theory.specs.Rep.{size};
 ghost use Rattle.matroid_theory.specs.Minor.{AreBases};
-ghost use Rattle.bases.specs.Listed.{IsListed};
+ghost use Rattle.bases.specs.BaseLists.{IsBaseList};
 
 use crate::basis::is_basis;
 use field_tables::Mask;
@@ -21,13 +21,13 @@ pub struct BaseList {
 
 impl Model for BaseList {
     ghost use Rattle.matroid_theory.specs.Minor.{Matroid};
-    ghost use Rattle.bases.specs.Listed.{IsListed};
+    ghost use Rattle.bases.specs.BaseLists.{IsBaseList};
 
     ghost Value = { Matroid };
 
     ghost view = { λ s. record { rank = s.rank; size = s.size; bases = s.bases.items } };
 
-    ghost invariant = { λ s. IsListed (record { rank = s.rank; size = s.size; bases = s.bases.items }) };
+    ghost invariant = { λ s. IsBaseList (record { rank = s.rank; size = s.size; bases = s.bases.items }) };
 }
 
 impl BaseList {
@@ -59,7 +59,7 @@ impl BaseList {
     /// The number of elements, at most 16.
     pub fn size(&self) -> u8
         ensures value { result ≡ self.now.size }
-        ensures is_listed { IsListed self.now }
+        ensures is_base_list { IsBaseList self.now }
     {
         self.size
     }
