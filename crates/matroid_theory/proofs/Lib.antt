@@ -25,3 +25,4 @@ pub mod Equivalence
 pub mod Carried
 pub mod Forms
 pub mod Standard
+pub mod Built

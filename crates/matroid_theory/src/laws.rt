@@ -145,3 +145,9 @@ pub fn standard_members()
         matrix N f i k ≡ times (order M f) (m.scalar f k)
         (times (order M f) (inverse (order M f) (m.scalar f i)) (raised (order M f) (m.power f) (c i))) }
 {}
+
+/// Each representation of at least one factor, whose factors agree, is equivalent to a standard one.
+pub fn standard_exists()
+    ensures { (mode : Mode) (M : Rep) → IsShaped M → 0 < count M → Agrees M →
+        (N : Rep) × IsStandard N × AreEquivalent mode M N }
+{}
