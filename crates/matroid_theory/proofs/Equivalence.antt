@@ -47,7 +47,7 @@ module _ (q : ℕ) (F : IsField q) (r : ℕ) where
 
 -- ---- moves
 
-allowed_zero : (mode : Mode) → AllowsPower mode 0
+pub allowed_zero : (mode : Mode) → AllowsPower mode 0
 allowed_zero Linear = refl
 allowed_zero Semilinear = tt
 

@@ -28,3 +28,4 @@ pub mod Standard
 pub mod Columns
 pub mod Prefix
 pub mod Rest
+pub mod Built

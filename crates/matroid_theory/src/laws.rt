@@ -1,15 +1,15 @@
 //! Laws over the definitions, each the contract of a function with an empty body.
-ghost use Rattle.std.specs.Prelude.{◌≡◌, ◌+◌, ◌<◌, ◌≤◌, ◌↔◌, ◌==◌, ◌&&◌, ◌||◌, not, ℕ, List, Bool, true, false, length, slice_index};
+ghost use Rattle.std.specs.Prelude.{◌≡◌, ◌+◌, ◌<◌, ◌≤◌, ◌↔◌, ◌==◌, ◌&&◌, ◌||◌, not, ℕ, List, Bool, true, false, length, slice_index, ◌≢◌};
 ghost use Rattle.std.specs.declared.cmp.Ordering.{Ordering as Outcome};
 ghost use Rattle.std.specs.declared.cmp.Ordering.TheVariants.{Less as less, Equal as equal};
 ghost use Rattle.std.specs.Bool.{nat_lt};
 ghost use Rattle.std.specs.Ordering.{ordering_reverse};
-ghost use Rattle.matroid_theory.specs.Field.{IsOrder, IsField, IsSum, IsProduct, plus, times, inverse, raised};
+ghost use Rattle.matroid_theory.specs.Field.{IsOrder, IsField, IsSum, IsProduct, plus, times, inverse, degree, raised};
 ghost use Rattle.matroid_theory.specs.Matrix.{Matrix, AreInverse, IsIndependent, IsIndependentPart, IsRankOf, combination, product, size_below};
 ghost use Rattle.matroid_theory.specs.Rep.{Rep, Shape, shape, count, size, order, matrix, IsShaped, IsStandard};
 ghost use Rattle.matroid_theory.specs.Matroid.{IsBasis, Agrees, IsSimple};
 ghost use Rattle.matroid_theory.specs.declared.Mode.{Mode};
-ghost use Rattle.matroid_theory.specs.Move.{Move, IsMove, TakesTo, AreEquivalent};
+ghost use Rattle.matroid_theory.specs.Move.{Move, ArePermutation, AllowsPower, IsMove, TakesTo, AreEquivalent};
 ghost use Rattle.matroid_theory.specs.Order.{rep_cmp, IsForm};
 ghost use Rattle.matroid_theory.specs.Level.{Family, Filters, IsLevel, IsListed, IsTry, IsCount, IsMember, followed_by};
 ghost use Rattle.matroid_theory.specs.Minor.{Matroid};
@@ -152,4 +152,21 @@ pub fn prefix()
     ensures form { (mode : Mode) (P : Rep) (v : List ℕ) → P.rank ≤ size P → IsForm mode (followed_by P v) → IsForm mode P }
     ensures member { (q : Family) (n : ℕ) (P : Rep) (v : List ℕ) (S : ℕ → Bool) → 0 < length q.factors → IsBasis P 0 S →
         IsMember q (n + 1) (followed_by P v) → IsMember q n P }
+{}
+
+/// Each order of the columns of a representation M, of at least one factor, whose first rank columns are a basis in every
+/// factor is that of a move that takes M to a standard representation, with any nonzero scalars and any powers of the
+/// mode. So M is equivalent to a standard one if its factors agree.
+pub fn standard_exists()
+    ensures each { (mode : Mode) (M : Rep) (label place : ℕ → ℕ) (scalar : ℕ → ℕ → ℕ) (power : ℕ → ℕ) → IsShaped M →
+        0 < count M → ArePermutation (size M) label place →
+        ((f : ℕ) → f < count M → IsBasis M f (λ j. nat_lt (place j) M.rank)) →
+        ((f j : ℕ) → f < count M → j < size M → scalar f j < order M f) →
+        ((f j : ℕ) → f < count M → j < size M → scalar f j ≢ 0) →
+        ((f : ℕ) → f < count M → power f < degree (order M f)) →
+        ((f : ℕ) → f < count M → AllowsPower mode (power f)) →
+        (N : Rep) × (m : Move) × IsStandard N × IsMove mode (shape M) m × TakesTo M m N ×
+        (m.label ≡ label) × (m.scalar ≡ scalar) × (m.power ≡ power) }
+    ensures some { (mode : Mode) (M : Rep) → IsShaped M → 0 < count M → Agrees M →
+        (N : Rep) × IsStandard N × AreEquivalent mode M N }
 {}
