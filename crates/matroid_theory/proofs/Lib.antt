@@ -26,3 +26,6 @@ pub mod Carried
 pub mod Columns
 pub mod Prefix
 pub mod Rest
+pub mod Supports
+pub mod Normalised
+pub mod Parents
