@@ -29,3 +29,6 @@ pub mod Columns
 pub mod Prefix
 pub mod Rest
 pub mod Built
+pub mod Supports
+pub mod Normalised
+pub mod Parents

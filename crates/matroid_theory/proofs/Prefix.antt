@@ -8,7 +8,7 @@ use Rattle.std.specs.declared.cmp.Ordering.{Ordering}
 use Rattle.std.specs.declared.cmp.Ordering.TheVariants.{Less, Equal, Greater}
 use Rattle.matroid_theory.specs.Field.{IsOrder, IsField, times, raised}
 use Rattle.matroid_theory.specs.Matrix.{Matrix, combination}
-use Rattle.matroid_theory.specs.Rep.{Rep, Shape, shape, count, size, order, matrix, IsShaped, IsStandard}
+use Rattle.matroid_theory.specs.Rep.{Rep, Shape, shape, count, size, order, matrix, IsShaped}
 use Rattle.matroid_theory.specs.declared.Mode.{Mode}
 use Rattle.matroid_theory.specs.Move.{Move, IsMove, moved, AreEquivalent}
 use Rattle.matroid_theory.specs.Order.{IsForm}
@@ -16,7 +16,7 @@ use Rattle.matroid_theory.specs.Level.{followed_by}
 use Rattle.matroid_theory.proofs.FieldLaws.{field_laws}
 use Rattle.matroid_theory.proofs.Sums.{same_number, other_number, combination-same}
 use Rattle.matroid_theory.proofs.Columns.{column_with, column_with-at, column_with_codes}
-use Rattle.matroid_theory.proofs.Followed.{matrix_before, matrix_last, size_followed, shaped_pushed, shaped_before}
+use Rattle.matroid_theory.proofs.Followed.{matrix_before, matrix_last, size_followed, shaped_pushed, shaped_before, standard_followed, standard_before}
 
 -- the order of lists of columns whose first parts are as long
 then-assoc : (a b c : Ordering) → ordering_then (ordering_then a b) c ≡ ordering_then a (ordering_then b c)
@@ -35,10 +35,10 @@ slice_cmp-append R (x ∷ xs) b (y ∷ ys) d e =
 abbrev pub at_last : {X : Type 0} → ℕ → X → (ℕ → X) → ℕ → X
 at_last n x g j = cond (j == n) x (g j)
 
-at_last-before : {X : Type 0} (n : ℕ) (x : X) (g : ℕ → X) (j : ℕ) → j < n → at_last n x g j ≡ g j
+pub at_last-before : {X : Type 0} (n : ℕ) (x : X) (g : ℕ → X) (j : ℕ) → j < n → at_last n x g j ≡ g j
 at_last-before n x g j l = let ne : j ≢ n = omega arith in ap (λ b. cond b x (g j)) (other_number j n ne)
 
-at_last-own : {X : Type 0} (n : ℕ) (x : X) (g : ℕ → X) → at_last n x g n ≡ x
+pub at_last-own : {X : Type 0} (n : ℕ) (x : X) (g : ℕ → X) → at_last n x g n ≡ x
 at_last-own n x g = ap (λ b. cond b x (g n)) (same_number n)
 
 -- a permutation with one more number, which stays
@@ -152,18 +152,12 @@ module _ (mode : Mode) (P P' : Rep) (v : List ℕ) (whole : IsShaped (followed_b
           ∙ matrix_last P' last f i ∙ column_with-at P'.rank (count P') new_column f i (subst (λ r. i < r) (sym same_rank) m) (subst (λ fs. f < length fs) (sym same_factors) l)
           ∙ ap (moved (shape (followed_by P v)) (matrix (followed_by P v)) (extended (size P) e.move) f i) (sym o)
 
-  standard_whole : IsStandard P' → IsStandard (followed_by P' last)
-  standard_whole s = record {
-    room = (let k : size (followed_by P' last) ≡ suc (size P') = size_followed P' last in let r : P'.rank ≤ size P' = s.room in omega arith);
-    units = λ f i j l m n. (let r : P'.rank ≤ size P' = s.room in let b : j < size P' = omega arith in matrix_before P' last f i j b) ∙ s.units f i j l m n;
-  }
-
 -- where the last column of a form is left out, and there are still rank many columns, a form is left
 pub prefix_form : (mode : Mode) (P : Rep) (v : List ℕ) → P.rank ≤ size P → IsForm mode (followed_by P v) → IsForm mode P
 prefix_form mode P v room h = record {
   shaped = shaped_before P v whole;
-  standard = record { room = room; units = λ f i j l m n. sym (matrix_before P v f i j (omega arith)) ∙ (let s = h.standard in s.units f i j l m n) };
-  least = λ P' s e g. h.least (followed_by P' (last mode P P' v whole e)) (standard_whole mode P P' v whole e s) (equivalent_whole mode P P' v whole e)
+  standard = standard_before P v room h.standard;
+  least = λ P' s e g. h.least (followed_by P' (last mode P P' v whole e)) (standard_followed P' (last mode P P' v whole e) s) (equivalent_whole mode P P' v whole e)
       (slice_cmp-append (slice_cmp nat_cmp) P.columns (v ∷ []) P'.columns (last mode P P' v whole e ∷ []) (sym (same_size mode P P' v whole e))
       ∙ ap (λ (o : Ordering). ordering_then o (slice_cmp (slice_cmp nat_cmp) (v ∷ []) (last mode P P' v whole e ∷ []))) g);
 }

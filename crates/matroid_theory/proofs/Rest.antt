@@ -27,6 +27,22 @@ module _ (q : ℕ) (F : IsField q) where
         (λ i m. combination_last q F n A a 0 i ∙ ap (plus q (combination q n A a i)) (times_zero q F (A i n)) ∙ plus_zero_right q F (combination q n A a i) (sum_below-code q F n _) ∙ z i m) j (omega arith);
   }
 
+-- the numbers below r, among those below n
+pub size_front : (r n : ℕ) → r ≤ n → size_below n (λ j. nat_lt j r) ≡ r
+size_front r zero l = omega arith
+size_front r (suc n) l =
+    elim (cases_lt n r) [
+      | inl b ↦ (let e : suc n ≡ r = omega arith in size-same (suc n) (λ j. nat_lt j r) (λ _. true) (λ j m. lt-ltb j r (omega arith)) ∙ size_every (suc n) ∙ e)
+      | inr g ↦ size_stays n (λ j. nat_lt j r) (le-ltb n r g) ∙ size_front r n g
+    ]
+
+-- the unit columns of a standard representation are a basis
+pub units_basis : (P : Rep) → IsShaped P → IsStandard P → (f : ℕ) → f < count P → IsBasis P f (λ j. nat_lt j P.rank)
+units_basis P shaped s f l = record {
+  full = size_front P.rank (size P) s.room;
+  independent = units_independent (order P f) (field_laws (order P f) (shaped.orders f l)) P.rank (size P) (matrix P f) s.room (λ i j m n. s.units f i j l m n);
+}
+
 module _ (P : Rep) (v : List ℕ) (shaped : IsShaped (followed_by P v)) where
   field : (f : ℕ) → f < count P → IsField (order P f)
   field f l = field_laws (order P f) (shaped.orders f l)
@@ -63,21 +79,6 @@ module _ (P : Rep) (v : List ℕ) (shaped : IsShaped (followed_by P v)) where
     some = λ f l. (S, rest_same a 0 f pos l S b);
     same = rest_same a;
   }
-
-  -- the unit columns of a standard representation are a basis
-  pub units_basis : IsStandard P → (f : ℕ) → f < count P → IsBasis P f (λ j. nat_lt j P.rank)
-  units_basis s f l = record {
-    full = front P.rank (size P) s.room;
-    independent = units_independent (order P f) (field f l) P.rank (size P) (matrix P f) s.room (λ i j m n. s.units f i j l m n);
-  }
-    where
-      front : (r n : ℕ) → r ≤ n → size_below n (λ j. nat_lt j r) ≡ r
-      front r zero l = omega arith
-      front r (suc n) l =
-          elim (cases_lt n r) [
-            | inl b ↦ (let e : suc n ≡ r = omega arith in size-same (suc n) (λ j. nat_lt j r) (λ _. true) (λ j m. lt-ltb j r (omega arith)) ∙ size_every (suc n) ∙ e)
-            | inr g ↦ size_stays n (λ j. nat_lt j r) (le-ltb n r g) ∙ front r n g
-          ]
 
   rest_simple : IsSimple (followed_by P v) → IsSimple P
   rest_simple h f i j l m n =

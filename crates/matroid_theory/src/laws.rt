@@ -1,5 +1,5 @@
 //! Laws over the definitions, each the contract of a function with an empty body.
-ghost use Rattle.std.specs.Prelude.{◌≡◌, ◌+◌, ◌<◌, ◌≤◌, ◌↔◌, ◌==◌, ◌&&◌, ◌||◌, not, ℕ, List, Bool, true, false, length, slice_index, ◌≢◌};
+ghost use Rattle.std.specs.Prelude.{◌≡◌, ◌≢◌, ◌+◌, ◌<◌, ◌≤◌, ◌↔◌, ◌==◌, ◌&&◌, ◌||◌, not, ℕ, List, Bool, true, false, length, slice_index};
 ghost use Rattle.std.specs.declared.cmp.Ordering.{Ordering as Outcome};
 ghost use Rattle.std.specs.declared.cmp.Ordering.TheVariants.{Less as less, Equal as equal};
 ghost use Rattle.std.specs.Bool.{nat_lt};
@@ -11,7 +11,7 @@ ghost use Rattle.matroid_theory.specs.Matroid.{IsBasis, Agrees, IsSimple};
 ghost use Rattle.matroid_theory.specs.declared.Mode.{Mode};
 ghost use Rattle.matroid_theory.specs.Move.{Move, ArePermutation, AllowsPower, IsMove, TakesTo, AreEquivalent};
 ghost use Rattle.matroid_theory.specs.Order.{rep_cmp, IsForm};
-ghost use Rattle.matroid_theory.specs.Level.{Family, Filters, IsLevel, IsListed, IsTry, IsCount, IsMember, followed_by};
+ghost use Rattle.matroid_theory.specs.Level.{Family, Filters, IsMember, IsLevelForm, IsLevel, IsListed, IsNormalised, IsTry, IsCount, followed_by};
 ghost use Rattle.matroid_theory.specs.Minor.{Matroid};
 ghost use Rattle.matroid_theory.specs.Given.{Given, IsGivenBy};
 
@@ -146,12 +146,18 @@ pub fn standard_members()
         (times (order M f) (inverse (order M f) (m.scalar f i)) (raised (order M f) (m.power f) (c i))) }
 {}
 
-/// Where the last column of a form of size above the rank is left out, a form is left, in each mode. A member of which it
-/// is left out stays one, where a basis is left.
+/// Where the last column of a form of size above the rank is left out, a form is left, in each mode. The last column of a
+/// simple form whose factors agree is normalised. A member of which the last column is left out stays one, where a basis
+/// is left. So each form of a level of size above the rank comes from a try: a form of the level before and its last column.
 pub fn prefix()
     ensures form { (mode : Mode) (P : Rep) (v : List ℕ) → P.rank ≤ size P → IsForm mode (followed_by P v) → IsForm mode P }
+    ensures normalised { (mode : Mode) (P : Rep) (v : List ℕ) → 0 < count P → P.rank ≤ size P →
+        IsForm mode (followed_by P v) → Agrees (followed_by P v) → IsSimple (followed_by P v) →
+        IsNormalised P.factors P.rank v }
     ensures member { (q : Family) (n : ℕ) (P : Rep) (v : List ℕ) (S : ℕ → Bool) → 0 < length q.factors → IsBasis P 0 S →
         IsMember q (n + 1) (followed_by P v) → IsMember q n P }
+    ensures tries { (q : Family) (n : ℕ) (P : Rep) (v : List ℕ) → 0 < length q.factors → q.rank ≤ n →
+        IsLevelForm q (n + 1) (followed_by P v) → IsTry q n (P, v) }
 {}
 
 /// Each order of the columns of a representation M, of at least one factor, whose first rank columns are a basis in every
