@@ -6,7 +6,7 @@ mod moves;
 mod rep;
 
 pub use factors::Factors;
-pub use moves::Move;
+pub use moves::{Move, act};
 pub use rep::{ProductColumn, Rep, compare};
 
 #[cfg(test)]
