@@ -1,7 +1,7 @@
-ghost use Rattle.std.specs.Prelude.{◌≡◌, ◌<◌, ◌+◌, ◌*◌, ℕ, length, slice_index, slice_set};
+ghost use Rattle.std.specs.Prelude.{◌≡◌, ◌<◌, ◌≤◌, ◌+◌, ◌*◌, ℕ, length, replicate, slice_index, slice_set};
 ghost use Rattle.matroid_theory.specs.declared.Mode.TheVariants.{Linear as linear};
 ghost use Rattle.matroid_theory.specs.Field.{times};
-ghost use Rattle.matroid_theory.specs.Matrix.{sum_below};
+ghost use Rattle.matroid_theory.specs.Matrix.{sum_below, unit};
 ghost use Rattle.matroid_theory.specs.Rep.{count, size, matrix, shape, IsRep};
 ghost use Rattle.matroid_theory.specs.Move.{IsMove, TakesTo, moved, move_of, row_place, scalar_place};
 
@@ -35,6 +35,27 @@ impl Model for Move {
 }
 
 impl Move {
+    /// The move that changes nothing.
+    pub fn identity(rep: &Rep) -> Move
+        ensures shape { result.shape ≡ shape rep.now }
+        ensures valid { IsMove linear (shape rep.now) (move_of result) }
+        ensures takes { TakesTo rep.now (move_of result) rep.now }
+    {
+        let size = rep.size();
+        let rank = rep.rank();
+        let factors = rep.factors();
+        let count = factors.count();
+        Move {
+            rank: rank as u8,
+            size: size as u8,
+            rows: unit_rows(count, rank),
+            back: unit_rows(count, rank),
+            scalars: ones(count * size),
+            labels: numbers(size),
+            factors,
+        }
+    }
+
     /// Makes an entry of the factor's matrix the code, and that of its inverse the other code.
     pub fn set_rows(&mut self, factor: usize, row: usize, column: usize, code: u8, inverse_code: u8)
         requires factor { factor < length self.old.shape.factors }
@@ -179,4 +200,44 @@ fn row_times_column(field: Field, row: &[u8], column: &[u8]) -> u8
         sum = field.add(sum, field.mul(row[k], column[k]));
     }
     sum
+}
+
+/// The identity matrix of that rank, row by row, `count` times.
+fn unit_rows(count: usize, rank: usize) -> ArrayVec<u8, 108>
+    requires count { count ≤ 3 }
+    requires rank { rank ≤ 6 }
+    requires positive { 0 < rank }
+    ensures length { length result.items ≡ count * rank * rank }
+    ensures codes { (f i k : ℕ) → f < count → i < rank → k < rank → slice_index result.items ((f * rank + i) * rank + k) ≡ unit i k }
+{
+    let mut rows = ArrayVec::new();
+    for place in 0..count * rank * rank {
+        rows.push(u8::from(place / rank % rank == place % rank));
+    }
+    rows
+}
+
+/// The code 1 that many times.
+fn ones(length: usize) -> ArrayVec<u8, 48>
+    requires { length ≤ 48 }
+    ensures { result.items ≡ replicate length 1 }
+{
+    let mut list = ArrayVec::new();
+    for _ in 0..length {
+        list.push(1);
+    }
+    list
+}
+
+/// The numbers below this one.
+fn numbers(size: usize) -> ArrayVec<u8, 16>
+    requires { size ≤ 16 }
+    ensures length { length result.items ≡ size }
+    ensures entries { (j : ℕ) → j < size → slice_index result.items j ≡ j }
+{
+    let mut list = ArrayVec::new();
+    for j in 0..size {
+        list.push(j as u8);
+    }
+    list
 }
