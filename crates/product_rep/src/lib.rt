@@ -2,9 +2,11 @@
 #![tactic(auto)]
 
 mod factors;
+mod moves;
 mod rep;
 
 pub use factors::Factors;
+pub use moves::{Move, act};
 pub use rep::{ProductColumn, Rep, compare};
 
 #[cfg(test)]

@@ -93,6 +93,16 @@ fn orders_of_representations(rt: HostRuntime) -> Result<(), Fail> {
     Ok(())
 }
 
+#[test]
+fn moves_of_representations(rt: HostRuntime) -> Result<(), Fail> {
+    let mut rep = Rep::unit(Factors::of(&[2, 3]).ok_or("no factors")?, 3);
+    rep.push_column(&column(&[1, 1, 1, 1, 1, 2])?);
+    let image = act(&rep, &Move::identity(&rep));
+    assert_eq!(rt; image.size(), 4);
+    assert_eq!(rt; compare(&image, &rep), Ordering::Equal);
+    Ok(())
+}
+
 /// The column of these codes.
 fn column(codes: &[u8]) -> Result<ProductColumn, CapacityError>
     ensures { IfOk result (λ column. column.items ≡ codes.now) }

@@ -1,0 +1,59 @@
+use Rattle.std.proofs.Common.{◌≡◌, ◌<◌, ◌*◌, ◌+◌, ℕ, ◌≤◌, List, length, replicate, sym, ◌∙◌, ap, subst, slice_index}
+use Rattle.std.proofs.lemmas.List.{get_or-replicate, length-replicate}
+use Rattle.matroid_theory.specs.Matrix.{unit}
+use Rattle.matroid_theory.specs.Rep.{Rep, size, count}
+use Rattle.product_rep.proofs.PiecesLemmas.{place_below}
+use Rattle.product_rep.proofs.IdentityLemmas.{identity_valid, identity_takes}
+use Rattle.product_rep.proofs.moves.Move.identity.Goals as goal
+
+pub invariant_of-result : goal.invariant_of-result
+invariant_of-result c =
+    let e : c.count-count.result ≡ length c.factors-factors.result = c.count-count.ensures.count in
+    let h = c.size-size.ensures.is_rep in
+    record {
+      fields = c.count-count.ensures.are_factors;
+      rank_positive = subst (λ (r : ℕ). 0 < r) (sym c.rank-rank.ensures) h.rank_positive;
+      rank_most = subst (λ (r : ℕ). r ≤ 6) (sym c.rank-rank.ensures) h.rank_most;
+      size_most = subst (λ (n : ℕ). n ≤ 16) (sym c.size-size.ensures.value) h.size_most;
+      rows = c.unit_rows.ensures.length ∙ (λ u. e u * c.rank-rank.result * c.rank-rank.result);
+      back = c.unit_rows-2.ensures.length ∙ (λ u. e u * c.rank-rank.result * c.rank-rank.result);
+      scalars = ap (λ (xs : List ℕ). length xs) c.ones.ensures ∙ length-replicate (c.count-count.result * c.size-size.result) 1 ∙ (λ u. e u * c.size-size.result);
+      labels = c.numbers.ensures.length;
+    }
+
+-- what the function has, in the terms of the representation
+powers_are : (M : Rep) (fs : List ℕ) → fs ≡ M.factors → (f : ℕ) → f < count M → slice_index (replicate (length fs) 0) f ≡ 0
+powers_are M fs e f l = get_or-replicate (length fs) f 0 0 (subst (λ (fs : List ℕ). f < length fs) (sym e) l)
+
+rows_are : (M : Rep) (c r : ℕ) (xs : List ℕ) → c ≡ count M → r ≡ M.rank → ((f i k : ℕ) → f < c → i < r → k < r → slice_index xs ((f * r + i) * r + k) ≡ unit i k) → (f i k : ℕ) → f < count M → i < M.rank → k < M.rank → slice_index xs ((f * r + i) * r + k) ≡ unit i k
+rows_are M c r xs ce re h f i k l m o = h f i k (subst (λ (x : ℕ). f < x) (sym ce) l) (subst (λ (x : ℕ). i < x) (sym re) m) (subst (λ (x : ℕ). k < x) (sym re) o)
+
+scalars_are : (M : Rep) (c n : ℕ) (xs : List ℕ) → c ≡ count M → n ≡ size M → xs ≡ replicate (c * n) 1 → (f j : ℕ) → f < count M → j < size M → slice_index xs (f * n + j) ≡ 1
+scalars_are M c n xs ce ne e f j l m =
+    ap (λ (xs : List ℕ). slice_index xs (f * n + j)) e
+    ∙ get_or-replicate (c * n) (f * n + j) 1 0 (place_below c n f j (subst (λ (x : ℕ). f < x) (sym ce) l) (subst (λ (x : ℕ). j < x) (sym ne) m))
+
+labels_are : (M : Rep) (n : ℕ) (xs : List ℕ) → n ≡ size M → ((j : ℕ) → j < n → slice_index xs j ≡ j) → (j : ℕ) → j < size M → slice_index xs j ≡ j
+labels_are M n xs ne h j l = h j (subst (λ (x : ℕ). j < x) (sym ne) l)
+
+pub returns-clause-valid : goal.returns-clause-valid
+returns-clause-valid c =
+    let e : c.count-count.result ≡ count c.args.rep.now = c.count-count.ensures.count ∙ ap (λ (fs : List ℕ). length fs) c.factors-factors.ensures in
+    identity_valid c.args.rep.now
+    (record { shape = record { factors = c.factors-factors.result; rank = c.rank-rank.result; size = c.size-size.result }; powers = replicate (length c.factors-factors.result) 0; rows = c.unit_rows.result.items; back = c.unit_rows-2.result.items; scalars = c.ones.result.items; labels = c.numbers.result.items })
+    c.size-size.ensures.is_rep (powers_are c.args.rep.now _ c.factors-factors.ensures)
+    (rows_are c.args.rep.now c.count-count.result c.rank-rank.result c.unit_rows.result.items e c.rank-rank.ensures c.unit_rows.ensures.codes)
+    (scalars_are c.args.rep.now c.count-count.result c.size-size.result c.ones.result.items e c.size-size.ensures.value c.ones.ensures)
+    (labels_are c.args.rep.now c.size-size.result c.numbers.result.items c.size-size.ensures.value c.numbers.ensures.entries)
+    (rows_are c.args.rep.now c.count-count.result c.rank-rank.result c.unit_rows-2.result.items e c.rank-rank.ensures c.unit_rows-2.ensures.codes)
+    (c.numbers.ensures.length ∙ c.size-size.ensures.value)
+
+pub returns-clause-takes : goal.returns-clause-takes
+returns-clause-takes c =
+    let e : c.count-count.result ≡ count c.args.rep.now = c.count-count.ensures.count ∙ ap (λ (fs : List ℕ). length fs) c.factors-factors.ensures in
+    identity_takes c.args.rep.now
+    (record { shape = record { factors = c.factors-factors.result; rank = c.rank-rank.result; size = c.size-size.result }; powers = replicate (length c.factors-factors.result) 0; rows = c.unit_rows.result.items; back = c.unit_rows-2.result.items; scalars = c.ones.result.items; labels = c.numbers.result.items })
+    c.size-size.ensures.is_rep (powers_are c.args.rep.now _ c.factors-factors.ensures)
+    (rows_are c.args.rep.now c.count-count.result c.rank-rank.result c.unit_rows.result.items e c.rank-rank.ensures c.unit_rows.ensures.codes)
+    (scalars_are c.args.rep.now c.count-count.result c.size-size.result c.ones.result.items e c.size-size.ensures.value c.ones.ensures)
+    (labels_are c.args.rep.now c.size-size.result c.numbers.result.items c.size-size.ensures.value c.numbers.ensures.entries)
