@@ -11,6 +11,9 @@ pub mod Ranks
 pub mod Invertible
 pub mod Bases
 pub mod Units
+pub mod Standard
+pub mod Built
+pub mod Forms
 pub mod Followed
 pub mod Lists
 pub mod Levels
@@ -23,6 +26,3 @@ pub mod MaskCounts
 pub mod Pairs
 pub mod Equivalence
 pub mod Carried
-pub mod Forms
-pub mod Standard
-pub mod Built

@@ -111,15 +111,6 @@ pub fn equivalence()
         AreEquivalent mode M N → AreEquivalent mode N L → AreEquivalent mode M L }
 {}
 
-/// A move carries the bases of each factor by its relabelling. Of two equivalent representations both agree, or neither,
-/// and both are simple, or neither.
-pub fn moves_carry_bases()
-    ensures bases { (mode : Mode) (M N : Rep) (m : Move) → IsShaped M → IsMove mode (shape M) m → TakesTo M m N →
-        (f : ℕ) → f < count M → (S : ℕ → Bool) → IsBasis M f S ↔ IsBasis N f (λ j. S (m.label j)) }
-    ensures agreement { (mode : Mode) (M N : Rep) → AreEquivalent mode M N → Agrees M ↔ Agrees N }
-    ensures simplicity { (mode : Mode) (M N : Rep) → AreEquivalent mode M N → IsSimple M ↔ IsSimple N }
-{}
-
 /// A class of equivalent representations has at most one form.
 pub fn one_form()
     ensures { (mode : Mode) (M N : Rep) → IsForm mode M → IsForm mode N → AreEquivalent mode M N → M ≡ N }
@@ -161,4 +152,13 @@ pub fn standard_exists()
         (m.label ≡ label) × (m.scalar ≡ scalar) × (m.power ≡ power) }
     ensures some { (mode : Mode) (M : Rep) → IsShaped M → 0 < count M → Agrees M →
         (N : Rep) × IsStandard N × AreEquivalent mode M N }
+{}
+
+/// A move carries the bases of each factor by its relabelling. Of two equivalent representations both agree, or neither,
+/// and both are simple, or neither.
+pub fn moves_carry_bases()
+    ensures bases { (mode : Mode) (M N : Rep) (m : Move) → IsShaped M → IsMove mode (shape M) m → TakesTo M m N →
+        (f : ℕ) → f < count M → (S : ℕ → Bool) → IsBasis M f S ↔ IsBasis N f (λ j. S (m.label j)) }
+    ensures agreement { (mode : Mode) (M N : Rep) → AreEquivalent mode M N → Agrees M ↔ Agrees N }
+    ensures simplicity { (mode : Mode) (M N : Rep) → AreEquivalent mode M N → IsSimple M ↔ IsSimple N }
 {}
