@@ -25,10 +25,10 @@ pub mod Equivalence
 pub mod Carried
 pub mod Forms
 pub mod Standard
+pub mod Built
 pub mod Columns
 pub mod Prefix
 pub mod Rest
-pub mod Built
 pub mod Supports
 pub mod Normalised
 pub mod Parents

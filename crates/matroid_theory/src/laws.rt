@@ -146,20 +146,6 @@ pub fn standard_members()
         (times (order M f) (inverse (order M f) (m.scalar f i)) (raised (order M f) (m.power f) (c i))) }
 {}
 
-/// Where the last column of a form of size above the rank is left out, a form is left, in each mode. The last column of a
-/// simple form whose factors agree is normalised. A member of which the last column is left out stays one, where a basis
-/// is left. So each form of a level of size above the rank comes from a try: a form of the level before and its last column.
-pub fn prefix()
-    ensures form { (mode : Mode) (P : Rep) (v : List ℕ) → P.rank ≤ size P → IsForm mode (followed_by P v) → IsForm mode P }
-    ensures normalised { (mode : Mode) (P : Rep) (v : List ℕ) → 0 < count P → P.rank ≤ size P →
-        IsForm mode (followed_by P v) → Agrees (followed_by P v) → IsSimple (followed_by P v) →
-        IsNormalised P.factors P.rank v }
-    ensures member { (q : Family) (n : ℕ) (P : Rep) (v : List ℕ) (S : ℕ → Bool) → 0 < length q.factors → IsBasis P 0 S →
-        IsMember q (n + 1) (followed_by P v) → IsMember q n P }
-    ensures tries { (q : Family) (n : ℕ) (P : Rep) (v : List ℕ) → 0 < length q.factors → q.rank ≤ n →
-        IsLevelForm q (n + 1) (followed_by P v) → IsTry q n (P, v) }
-{}
-
 /// Each order of the columns of a representation M, of at least one factor, whose first rank columns are a basis in every
 /// factor is that of a move that takes M to a standard representation, with any nonzero scalars and any powers of the
 /// mode. So M is equivalent to a standard one if its factors agree.
@@ -175,4 +161,18 @@ pub fn standard_exists()
         (m.label ≡ label) × (m.scalar ≡ scalar) × (m.power ≡ power) }
     ensures some { (mode : Mode) (M : Rep) → IsShaped M → 0 < count M → Agrees M →
         (N : Rep) × IsStandard N × AreEquivalent mode M N }
+{}
+
+/// Where the last column of a form of size above the rank is left out, a form is left, in each mode. The last column of a
+/// simple form whose factors agree is normalised. A member of which the last column is left out stays one, where a basis
+/// is left. So each form of a level of size above the rank comes from a try: a form of the level before and its last column.
+pub fn prefix()
+    ensures form { (mode : Mode) (P : Rep) (v : List ℕ) → P.rank ≤ size P → IsForm mode (followed_by P v) → IsForm mode P }
+    ensures normalised { (mode : Mode) (P : Rep) (v : List ℕ) → 0 < count P → P.rank ≤ size P →
+        IsForm mode (followed_by P v) → Agrees (followed_by P v) → IsSimple (followed_by P v) →
+        IsNormalised P.factors P.rank v }
+    ensures member { (q : Family) (n : ℕ) (P : Rep) (v : List ℕ) (S : ℕ → Bool) → 0 < length q.factors → IsBasis P 0 S →
+        IsMember q (n + 1) (followed_by P v) → IsMember q n P }
+    ensures tries { (q : Family) (n : ℕ) (P : Rep) (v : List ℕ) → 0 < length q.factors → q.rank ≤ n →
+        IsLevelForm q (n + 1) (followed_by P v) → IsTry q n (P, v) }
 {}
