@@ -280,6 +280,24 @@ module _ (P : Rep) (v : List ℕ) (shaped : IsShaped (followed_by P v)) (st : Is
       zeros : (w : Lead P.rank (λ i. entry i 0)) (k f : ℕ) → k < w.at → f < count P → entry k f ≡ 0
       zeros w k f b l = same_support a k 0 f (let d : w.at < P.rank = w.below in omega arith) pos l (w.before k b)
 
+-- a last column that is a unit column is normalised
+unit_normalised : (P : Rep) (v : List ℕ) → IsShaped (followed_by P v) → IsStandard (followed_by P v) → size P < P.rank → IsNormalised P.factors P.rank v
+unit_normalised P v shaped st b = record {
+  is_column = column_last P v shaped;
+  lead = size P;
+  lead_below = b;
+  zeros = λ i f l m. code i f (omega arith) m ∙ ap (λ b. cond b 1 0) (other_number i (size P) (λ e. absurd (omega arith)));
+  ones = λ f m. code (size P) f b m ∙ ap (λ b. cond b 1 0) (same_number (size P));
+  support = λ i f g l m o e. code i g l o ∙ sym (code i f l m) ∙ e;
+}
+  where
+    code : (i f : ℕ) → i < P.rank → f < count P → slice_index v (i * count P + f) ≡ unit i (size P)
+    code i f l m = sym (matrix_last P v f i) ∙ st.units f i (size P) m l b
+
 -- the last column of a simple form is normalised
-pub last_normalised : (mode : Mode) (P : Rep) (v : List ℕ) → 0 < count P → P.rank ≤ size P → IsForm mode (followed_by P v) → Agrees (followed_by P v) → IsSimple (followed_by P v) → IsNormalised P.factors P.rank v
-last_normalised mode P v pos room h a simple = normalised P v h.shaped (standard_before P v room h.standard) mode h pos a simple
+pub last_normalised : (mode : Mode) (P : Rep) (v : List ℕ) → 0 < count P → IsForm mode (followed_by P v) → Agrees (followed_by P v) → IsSimple (followed_by P v) → IsNormalised P.factors P.rank v
+last_normalised mode P v pos h a simple =
+    elim (cases_lt (size P) P.rank) [
+      | inl b ↦ unit_normalised P v h.shaped h.standard b
+      | inr room ↦ normalised P v h.shaped (standard_before P v room h.standard) mode h pos a simple
+    ]

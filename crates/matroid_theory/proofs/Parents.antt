@@ -16,7 +16,7 @@ last_try q n P v some room h = record {
     member = rest_member q n P v (λ j. nat_lt j P.rank) some (units_basis P form.shaped form.standard 0 pos) h.member;
   };
   column = (let m = h.member in
-      subst (λ fs. IsNormalised fs q.rank v) m.same_factors (subst (λ r. IsNormalised P.factors r v) m.ranks (last_normalised q.mode P v pos enough h.form m.agrees m.simple)));
+      subst (λ fs. IsNormalised fs q.rank v) m.same_factors (subst (λ r. IsNormalised P.factors r v) m.ranks (last_normalised q.mode P v pos h.form m.agrees m.simple)));
   member = h.member;
 }
   where

@@ -168,9 +168,8 @@ pub fn standard_exists()
 /// is left. So each form of a level of size above the rank comes from a try: a form of the level before and its last column.
 pub fn prefix()
     ensures form { (mode : Mode) (P : Rep) (v : List ℕ) → P.rank ≤ size P → IsForm mode (followed_by P v) → IsForm mode P }
-    ensures normalised { (mode : Mode) (P : Rep) (v : List ℕ) → 0 < count P → P.rank ≤ size P →
-        IsForm mode (followed_by P v) → Agrees (followed_by P v) → IsSimple (followed_by P v) →
-        IsNormalised P.factors P.rank v }
+    ensures normalised { (mode : Mode) (P : Rep) (v : List ℕ) → 0 < count P → IsForm mode (followed_by P v) →
+        Agrees (followed_by P v) → IsSimple (followed_by P v) → IsNormalised P.factors P.rank v }
     ensures member { (q : Family) (n : ℕ) (P : Rep) (v : List ℕ) (S : ℕ → Bool) → 0 < length q.factors → IsBasis P 0 S →
         IsMember q (n + 1) (followed_by P v) → IsMember q n P }
     ensures tries { (q : Family) (n : ℕ) (P : Rep) (v : List ℕ) → 0 < length q.factors → q.rank ≤ n →
