@@ -4,25 +4,12 @@ use Rattle.std.proofs.lemmas.List.{take-append-drop}
 use Rattle.std.specs.Cmp.Lexicographic.{slice_cmp}
 use Rattle.std.specs.Ordering.{ordering_then, nat_cmp}
 use Rattle.std.specs.declared.cmp.Ordering.{Ordering}
-use Rattle.std.specs.declared.cmp.Ordering.TheVariants.{Less, Equal, Greater}
 use Rattle.matroid_theory.specs.Rep.{shape}
 use Rattle.matroid_theory.specs.Order.{rep_cmp}
+use Rattle.matroid_theory.proofs.Prefix.{slice_cmp-append}
 use Rattle.product_rep.specs.declared.rep.Rep.TheInside.{Inside}
 use Rattle.product_rep.specs.Pieces.{pieces, matrices, KeepsRep}
 use Rattle.product_rep.proofs.PiecesLemmas.{size-matrices}
-
-ordering_then-assoc : (a b c : Ordering) → ordering_then (ordering_then a b) c ≡ ordering_then a (ordering_then b c)
-ordering_then-assoc Less b c = refl
-ordering_then-assoc Equal b c = refl
-ordering_then-assoc Greater b c = refl
-
--- the order of joined lists whose first parts are as long
-slice_cmp-append : {A : Type 0} (R : A → A → Ordering) (a b c d : List A) → length a ≡ length c → slice_cmp R (a ++ b) (c ++ d) ≡ ordering_then (slice_cmp R a c) (slice_cmp R b d)
-slice_cmp-append R [] b [] d e = refl
-slice_cmp-append R [] b (y ∷ ys) d e = absurd (omega arith)
-slice_cmp-append R (x ∷ xs) b [] d e = absurd (omega arith)
-slice_cmp-append R (x ∷ xs) b (y ∷ ys) d e =
-    ap (ordering_then (R x y)) (slice_cmp-append R xs b ys d (omega arith)) ∙ sym (ordering_then-assoc (R x y) (slice_cmp R xs ys) (slice_cmp R b d))
 
 -- the order column by column is the order code by code
 slice_cmp-pieces : (R : ℕ → ℕ → Ordering) (w n : ℕ) (xs ys : List ℕ) → length xs ≡ n * w → length ys ≡ n * w → slice_cmp (slice_cmp R) (pieces w n xs) (pieces w n ys) ≡ slice_cmp R xs ys
