@@ -1,9 +1,11 @@
-ghost use Rattle.std.specs.Prelude.{◌≡◌, ◌<◌, ◌≤◌, ◌+◌, ◌*◌, ℕ, length, replicate, slice_index, slice_set};
+ghost use Rattle.std.specs.Prelude.{◌==◌, ◌↔◌, IsTrue, unwrap_or, ◌≡◌, ◌<◌, ◌≤◌, ◌+◌, ◌*◌, ℕ, length, replicate, slice_index, slice_set};
+ghost use Rattle.std.specs.List.{position};
+ghost use Rattle.product_rep.specs.Valid.{IsScalar, IsLabel};
 ghost use Rattle.matroid_theory.specs.declared.Mode.TheVariants.{Linear as linear};
 ghost use Rattle.matroid_theory.specs.Field.{times};
 ghost use Rattle.matroid_theory.specs.Matrix.{sum_below, unit};
 ghost use Rattle.matroid_theory.specs.Rep.{count, size, matrix, shape, IsRep};
-ghost use Rattle.matroid_theory.specs.Move.{IsMove, TakesTo, moved, move_of, row_place, scalar_place};
+ghost use Rattle.matroid_theory.specs.Move.{ArePermutation, IsMove, TakesTo, moved, move_of, row_place, scalar_place};
 
 use crate::{Factors, ProductColumn, Rep};
 use arrayvec::ArrayVec;
@@ -94,6 +96,71 @@ impl Move {
     {
         prove!(from < usize::from(self.size));
         self.labels[j] = from as u8;
+    }
+
+    /// Whether in the factor each scalar is a code other than 0.
+    fn has_scalars(&self, factor: usize) -> bool
+        requires { factor < length self.now.shape.factors }
+        ensures { IsTrue result ↔ ((j : ℕ) → j < self.now.shape.size → IsScalar self.now factor j) }
+    {
+        for j in 0..usize::from(self.size) {
+            if !self.has_scalar(factor, j) {
+                return false;
+            }
+        }
+        true
+    }
+
+    /// Whether in the factor the scalar of column `j` is a code other than 0.
+    fn has_scalar(&self, factor: usize, j: usize) -> bool
+        requires factor { factor < length self.now.shape.factors }
+        requires column { j < self.now.shape.size }
+        ensures { IsTrue result ↔ IsScalar self.now factor j }
+    {
+        let scalar = self.scalar(factor, j);
+        scalar != 0 && scalar < self.field(factor).order()
+    }
+
+    /// Whether the labels of the columns are a permutation.
+    fn has_labels(&self) -> bool
+        ensures { IsTrue result ↔ ArePermutation self.now.shape.size (move_of self.now).label (move_of self.now).place }
+    {
+        for j in 0..usize::from(self.size) {
+            if !self.has_label(j) {
+                return false;
+            }
+        }
+        true
+    }
+
+    /// Whether column `j` comes from one column and goes to one.
+    fn has_label(&self, j: usize) -> bool
+        requires { j < self.now.shape.size }
+        ensures { IsTrue result ↔ IsLabel self.now j }
+    {
+        let size = usize::from(self.size);
+        if self.label(j) >= size {
+            return false;
+        }
+        if self.place(j) >= size {
+            return false;
+        }
+        if self.place(self.label(j)) != j {
+            return false;
+        }
+        self.label(self.place(j)) == j
+    }
+
+    /// The first column that comes from column `j`, and 0 where there is none.
+    fn place(&self, j: usize) -> usize
+        ensures { result ≡ unwrap_or (position (λ l. l == j) self.now.labels) 0 }
+    {
+        for k in 0..usize::from(self.size) {
+            if self.label(k) == j {
+                return k;
+            }
+        }
+        0
     }
 
     /// The field of the factor.
