@@ -1,2 +1,3 @@
 pub mod PickedColumns
+pub mod Rising
 pub mod Walk

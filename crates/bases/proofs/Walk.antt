@@ -9,3 +9,11 @@ seen n s X set e m g l =
     let h : 1 * 2 ^ n % 4294967296 ≡ 2 ^ n = one_shl n 32 b in
     let k : 2 ^ n ≡ 2 ^ s = ap (λ x. 2 ^ x) e in
     omega arith
+
+-- the mask that the walk ends at
+pub end : (n s set : ℕ) → n ≡ s → s ≤ 16 → set ≤ 1 * 2 ^ n % 4294967296 → 1 * 2 ^ n % 4294967296 ≤ set → set ≡ 2 ^ s
+end n s set e m low high =
+    let b : n < 32 = omega arith in
+    let h : 1 * 2 ^ n % 4294967296 ≡ 2 ^ n = one_shl n 32 b in
+    let k : 2 ^ n ≡ 2 ^ s = ap (λ x. 2 ^ x) e in
+    omega arith

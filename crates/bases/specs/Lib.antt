@@ -1,1 +1,2 @@
+pub mod BaseLists
 pub mod Picked

@@ -1,9 +1,11 @@
-//! The bases of a representation, whether its factors agree, and whether it is simple.
+//! The bases of a representation and their list, whether its factors agree, and whether it is simple.
 #![tactic(auto)]
 
+mod base_list;
 mod basis;
 mod simple;
 
+pub use base_list::BaseList;
 pub use basis::{agree, is_basis};
 pub use simple::is_simple;
 

@@ -67,3 +67,31 @@ fn zero_columns_and_other_factors(rt: HostRuntime) -> Result<(), Fail> {
     }
     Ok(())
 }
+
+// The bases of the Fano plane are the triples of its 7 points but for its 7 lines, those of K4 the triples of its 6 edges
+// but for its 4 triangles, and those of a line of four points all its pairs.
+#[test]
+fn lists_of_bases(rt: HostRuntime) -> Result<(), Fail> {
+    let alloc = rt.alloc();
+    for (rep, rank, count) in [
+        (
+            unit_and!([2], 3, [1, 1, 0], [1, 0, 1], [0, 1, 1], [1, 1, 1]),
+            3,
+            28,
+        ),
+        (unit_and!([2], 3, [0, 1, 1], [1, 0, 1], [1, 1, 0]), 3, 16),
+        (unit_and!([3], 2, [1, 1], [1, 2]), 2, 6),
+    ] {
+        let list = BaseList::of(alloc, &rep)?;
+        assert_eq!(rt; list.rank(), rank, "at {count}");
+        assert_eq!(rt; usize::from(list.size()), rep.size(), "at {count}");
+        assert_eq!(rt; list.bases().len(), count);
+        assert_eq!(rt;
+            list.bases().first(),
+            Some(&((1 << rank) - 1)),
+            "at {count}"
+        );
+        assert!(rt; list.bases().is_sorted(), "at {count}");
+    }
+    Ok(())
+}

@@ -26,10 +26,10 @@ use Rattle.matroid_theory.proofs.Levels.{columns_total}
 columns_positive : (k r c : ℕ) → k < r * c → 0 < c
 columns_positive k r c l = elim (cases_lt 0 c) [ inl b ↦ b | inr g ↦ (let e : c ≡ 0 = omega arith in let z : r * c ≡ r * 0 = ap (λ c. r * c) e in absurd (omega arith)) ]
 
-row_below : (k c r : ℕ) → 0 < c → k < r * c → k / c < r
+pub row_below : (k c r : ℕ) → 0 < c → k < r * c → k / c < r
 row_below k c r p l = grind (arith, rows)
 
-whole : (k c : ℕ) → 0 < c → k / c * c + k % c ≡ k
+pub whole : (k c : ℕ) → 0 < c → k / c * c + k % c ≡ k
 whole k c p = omega arith
 
 -- representations of one shape with the same codes are equal

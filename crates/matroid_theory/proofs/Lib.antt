@@ -21,3 +21,14 @@ pub mod Examples
 pub mod Agreement
 pub mod MaskCounts
 pub mod Pairs
+pub mod Equivalence
+pub mod Carried
+pub mod Forms
+pub mod Standard
+pub mod Built
+pub mod Columns
+pub mod Prefix
+pub mod Rest
+pub mod Supports
+pub mod Normalised
+pub mod Parents

@@ -1,0 +1,35 @@
+-- A form of a level of size above the rank is a form of the level before and a normalised column after it, so a try.
+use Rattle.std.proofs.Common.{◌≡◌, ℕ, suc, ◌+◌, ◌<◌, ◌≤◌, sym, subst, arith, List, length}
+use Rattle.std.specs.Bool.{nat_lt}
+use Rattle.matroid_theory.specs.Rep.{Rep, count, size}
+use Rattle.matroid_theory.specs.Order.{IsForm}
+use Rattle.matroid_theory.specs.Level.{Family, IsLevelForm, IsNormalised, IsTry, followed_by}
+use Rattle.matroid_theory.proofs.Followed.{size_followed}
+use Rattle.matroid_theory.proofs.Prefix.{prefix_form}
+use Rattle.matroid_theory.proofs.Rest.{units_basis, rest_member}
+use Rattle.matroid_theory.proofs.Normalised.{last_normalised}
+
+pub last_try : (q : Family) (n : ℕ) (P : Rep) (v : List ℕ) → 0 < length q.factors → q.rank ≤ n → IsLevelForm q (n + 1) (followed_by P v) → IsTry q n (P, v)
+last_try q n P v some room h = record {
+  parent = record {
+    form = form;
+    member = rest_member q n P v (λ j. nat_lt j P.rank) some (units_basis P form.shaped form.standard 0 pos) h.member;
+  };
+  column = (let m = h.member in
+      subst (λ fs. IsNormalised fs q.rank v) m.same_factors (subst (λ r. IsNormalised P.factors r v) m.ranks (last_normalised q.mode P v pos h.form m.agrees m.simple)));
+  member = h.member;
+}
+  where
+    pos : 0 < count P
+    pos = let m = h.member in subst (λ fs. 0 < length fs) (sym m.same_factors) some
+
+    enough : P.rank ≤ size P
+    enough =
+        let m = h.member in
+        let k : size (followed_by P v) ≡ suc (size P) = size_followed P v in
+        let e : size (followed_by P v) ≡ n + 1 = m.sizes in
+        let r : P.rank ≡ q.rank = m.ranks in
+        omega arith
+
+    form : IsForm q.mode P
+    form = prefix_form q.mode P v enough h.form
