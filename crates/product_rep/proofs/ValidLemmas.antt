@@ -1,5 +1,5 @@
 -- What makes a table a move.
-use Rattle.std.proofs.Common.{◌≡◌, ◌<◌, ◌≤◌, ◌+◌, ◌*◌, ◌↔◌, ℕ, Bool, IsTrue, List, length, replicate, sym, ◌∙◌, ap, subst, arith, slice_index}
+use Rattle.std.proofs.Common.{◌≡◌, ◌<◌, ◌≤◌, ◌+◌, ◌*◌, ◌↔◌, ℕ, Bool, IsTrue, List, length, replicate, sym, subst, arith, slice_index}
 use Rattle.std.proofs.lemmas.List.{get_or-replicate}
 use Rattle.matroid_theory.specs.declared.Mode.TheVariants.{Linear}
 use Rattle.matroid_theory.specs.Field.{degree}

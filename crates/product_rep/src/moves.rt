@@ -110,7 +110,9 @@ impl Move {
     fn has_shape(&self, rep: &Rep) -> bool
         ensures { IsTrue result ↔ (self.now.shape ≡ shape rep.now) }
     {
-        self.factors.same(&rep.factors()) && usize::from(self.rank) == rep.rank() && usize::from(self.size) == rep.size()
+        self.factors.same(&rep.factors())
+            && usize::from(self.rank) == rep.rank()
+            && usize::from(self.size) == rep.size()
     }
 
     /// Whether this is a move of representations of its own shape.
@@ -148,7 +150,13 @@ impl Move {
         ensures { IsTrue result ↔
             AreInverseCodes (slice_index self.now.shape.factors factor) self.now.shape.rank ((move_of self.now).rows factor) ((move_of self.now).back factor) }
     {
-        are_inverse(self.field(factor), self.rows.as_slice(), self.back.as_slice(), usize::from(self.rank), factor)
+        are_inverse(
+            self.field(factor),
+            self.rows.as_slice(),
+            self.back.as_slice(),
+            usize::from(self.rank),
+            factor,
+        )
     }
 
     /// Whether in the factor each scalar is a code other than 0.
@@ -360,7 +368,15 @@ fn has_codes(field: Field, rows: &[u8], rank: usize, factor: usize) -> bool
 }
 
 /// The entry at row `i`, column `j` of the product of the factor's matrices in two lists.
-fn product_entry(field: Field, left: &[u8], right: &[u8], rank: usize, factor: usize, i: usize, j: usize) -> u8
+fn product_entry(
+    field: Field,
+    left: &[u8],
+    right: &[u8],
+    rank: usize,
+    factor: usize,
+    i: usize,
+    j: usize,
+) -> u8
     requires left { HasBlock rank factor left.now }
     requires right { HasBlock rank factor right.now }
     requires left_codes { AreCodes field rank (block rank factor left.now) }
@@ -372,13 +388,26 @@ fn product_entry(field: Field, left: &[u8], right: &[u8], rank: usize, factor: u
     field.laws();
     let mut sum = 0;
     for k in 0..rank {
-        sum = field.add(sum, field.mul(entry(left, rank, factor, i, k), entry(right, rank, factor, k, j)));
+        sum = field.add(
+            sum,
+            field.mul(
+                entry(left, rank, factor, i, k),
+                entry(right, rank, factor, k, j),
+            ),
+        );
     }
     sum
 }
 
 /// Whether row `i` of the product of the factor's matrices in two lists is that of the identity matrix.
-fn has_unit_row(field: Field, left: &[u8], right: &[u8], rank: usize, factor: usize, i: usize) -> bool
+fn has_unit_row(
+    field: Field,
+    left: &[u8],
+    right: &[u8],
+    rank: usize,
+    factor: usize,
+    i: usize,
+) -> bool
     requires left { HasBlock rank factor left.now }
     requires right { HasBlock rank factor right.now }
     requires left_codes { AreCodes field rank (block rank factor left.now) }
