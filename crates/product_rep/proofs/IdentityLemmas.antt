@@ -44,6 +44,13 @@ place-at xs j i l e n = found (position_or_len (λ l. l == j) xs) (position_or_l
     found : (p : ℕ) → p ≡ i → unwrap_or (cond (nat_lt p (length xs)) (Some p) None) 0 ≡ i
     found p e = grind (arith, common_steps)
 
+-- a number that is none of the list's
+pub place-none : (xs : List ℕ) (j : ℕ) → ((k : ℕ) → k < length xs → slice_index xs k ≢ j) → unwrap_or (position (λ l. l == j) xs) 0 ≡ 0
+place-none xs j n = found (position_or_len (λ l. l == j) xs) (position_or_len_is (λ l. l == j) xs (length xs) 0 (omega arith) (λ k b. other_number (slice_index xs k) j (n k b)) (λ d. absurd (omega arith)))
+  where
+    found : (p : ℕ) → p ≡ length xs → unwrap_or (cond (nat_lt p (length xs)) (Some p) None) 0 ≡ 0
+    found p e = grind (arith, common_steps)
+
 -- the product of two identity matrices
 unit-product : (q r : ℕ) → IsField q → (A B : Matrix) → ((i k : ℕ) → i < r → k < r → A i k ≡ unit i k) → ((i k : ℕ) → i < r → k < r → B i k ≡ unit i k) → (i j : ℕ) → i < r → j < r → product q r A B i j ≡ unit i j
 unit-product q r F A B a b i j l m =

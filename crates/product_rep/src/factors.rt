@@ -1,4 +1,4 @@
-ghost use Rattle.std.specs.Prelude.{◌≡◌, ◌<◌, ◌↔◌, length, IsSome, IfSome, slice_index};
+ghost use Rattle.std.specs.Prelude.{◌≡◌, ◌<◌, ◌↔◌, length, IsTrue, IsSome, IfSome, slice_index};
 ghost use Rattle.matroid_theory.specs.Field.{IsFactors};
 
 use arrayvec::ArrayVec;
@@ -58,6 +58,13 @@ impl Factors {
             Some(field) => field,
             None => unreachable!(),
         }
+    }
+
+    /// Whether these are the same factors in the same order.
+    pub fn same(&self, other: &Factors) -> bool
+        ensures { IsTrue result ↔ (self.now ≡ other.now) }
+    {
+        self.orders.as_slice() == other.orders.as_slice()
     }
 
     /// The same factors.

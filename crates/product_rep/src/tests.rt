@@ -103,6 +103,26 @@ fn moves_of_representations(rt: HostRuntime) -> Result<(), Fail> {
     Ok(())
 }
 
+#[test]
+fn moves_that_are_none(rt: HostRuntime) -> Result<(), Fail> {
+    let rep = Rep::unit(Factors::of(&[2, 3]).ok_or("no factors")?, 3);
+    let mut scaled = Move::identity(&rep);
+    assert!(rt; scaled.valid(&rep));
+    scaled.set_scalar(1, 2, 0);
+    assert!(rt; !scaled.valid(&rep));
+    let mut sheared = Move::identity(&rep);
+    sheared.set_rows(1, 0, 2, 1, 1);
+    assert!(rt; !sheared.valid(&rep));
+    sheared.set_rows(1, 0, 2, 1, 2);
+    assert!(rt; sheared.valid(&rep));
+    let mut relabelled = Move::identity(&rep);
+    relabelled.set_label(0, 1);
+    assert!(rt; !relabelled.valid(&rep));
+    relabelled.set_label(1, 0);
+    assert!(rt; relabelled.valid(&rep));
+    Ok(())
+}
+
 /// The column of these codes.
 fn column(codes: &[u8]) -> Result<ProductColumn, CapacityError>
     ensures { IfOk result (λ column. column.items ≡ codes.now) }
