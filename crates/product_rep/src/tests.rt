@@ -1,4 +1,5 @@
-ghost use Rattle.std.specs.Prelude.{◌≡◌, IfOk};
+ghost use Rattle.std.specs.Prelude.{◌≡◌, IfOk, IfSome};
+ghost use Rattle.matroid_theory.specs.Rep.{shape};
 
 use super::*;
 use arrayvec::CapacityError;
@@ -97,9 +98,21 @@ fn orders_of_representations(rt: HostRuntime) -> Result<(), Fail> {
 fn moves_of_representations(rt: HostRuntime) -> Result<(), Fail> {
     let mut rep = Rep::unit(Factors::of(&[2, 3]).ok_or("no factors")?, 3);
     rep.push_column(&column(&[1, 1, 1, 1, 1, 2])?);
-    let image = act(&rep, &Move::identity(&rep));
-    assert_eq!(rt; image.size(), 4);
-    assert_eq!(rt; compare(&image, &rep), Ordering::Equal);
+    let mut step = Move::identity(&rep);
+    step.set_rows(1, 0, 2, 1, 2);
+    step.set_scalar(1, 3, 2);
+    step.set_label(0, 1);
+    step.set_label(1, 0);
+    let image = moved(&rep, &step).ok_or("no move")?;
+    assert_eq!(rt; image.column(0).as_slice(), &[0, 0, 1, 1, 0, 0][..]);
+    assert_eq!(rt; image.column(2).as_slice(), &[0, 1, 0, 0, 1, 1][..]);
+    assert_eq!(rt; image.column(3).as_slice(), &[1, 0, 1, 2, 1, 1][..]);
+    let mut back = step;
+    back.set_rows(1, 0, 2, 2, 1);
+    let restored = moved(&image, &back).ok_or("no move")?;
+    assert_eq!(rt; compare(&restored, &rep), Ordering::Equal);
+    let same = moved(&rep, &Move::identity(&rep)).ok_or("no move")?;
+    assert_eq!(rt; compare(&same, &rep), Ordering::Equal);
     Ok(())
 }
 
@@ -121,6 +134,17 @@ fn moves_that_are_none(rt: HostRuntime) -> Result<(), Fail> {
     relabelled.set_label(1, 0);
     assert!(rt; relabelled.valid(&rep));
     Ok(())
+}
+
+/// What the move makes of the representation, if it is a move for it.
+fn moved(rep: &Rep, step: &Move) -> Option<Rep>
+    ensures { IfSome result (λ image. shape image ≡ shape rep.now) }
+{
+    if step.valid(rep) {
+        Some(act(rep, step))
+    } else {
+        None
+    }
 }
 
 /// The column of these codes.
