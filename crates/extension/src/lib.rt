@@ -1,0 +1,2 @@
+//! The columns by which a representation can be extended.
+#![tactic(auto)]
