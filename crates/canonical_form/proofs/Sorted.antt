@@ -43,7 +43,7 @@ module _ {X : Type 0} (R : X → X → Ordering) (o : IsTotalOrder R) where
   at_most_turned x y t e = true≢false (ap is_lt (sym (o.antisymm y x ∙ ap ordering_reverse e)) ∙ t)
 
   -- no element is above a later one
-  pub sorted_pairs : (xs : List X) → IsSorted R xs → (i j : ℕ) (d : X) → i ≤ j → j < length xs → R (get_or xs i d) (get_or xs j d) ≢ Greater
+  sorted_pairs : (xs : List X) → IsSorted R xs → (i j : ℕ) (d : X) → i ≤ j → j < length xs → R (get_or xs i d) (get_or xs j d) ≢ Greater
   sorted_pairs xs s i j d l m = at_most_turned (get_or xs i d) (get_or xs j d) (sorted_far (λ x y. is_lt (R x y)) (ranks_by o (λ x. x)) xs s i j d l m)
 
 -- ---- places
