@@ -1,0 +1,3 @@
+pub mod Sorted
+pub mod Scaled
+pub mod Least
