@@ -411,7 +411,6 @@ module _ (forms : Entry → Bool) where
       let same : column_count q.rank q.factors ≡ column_count b.0 b.1 = ap (λ (r : ℕ). column_count r q.factors) ranks ∙ ap (column_count b.0) fields in
       let few = a.limits.columns in
       omega (arith, same, few, b.6, b.7)
-  not_both text q refusal.NotBuilt a b = b
 
   -- a line has one fault after given entries
   fault_same : (said : List Entry) (words : List (List ℕ)) (f g : Fault) → HasFault forms said words f → HasFault forms said words g → f ≡ g
@@ -470,7 +469,6 @@ module _ (forms : Entry → Bool) where
   stage text (refusal.Rank v) h = OutOf v h.0 h.1 h.2 (BadRank h.3 refl)
   stage text (refusal.Size v) h = OutOf h.0 h.1 v h.2 (BadSize h.3 h.4 refl)
   stage text (refusal.TooWide c) h = OutOf h.0 h.1 h.2 h.3 (Wide h.4 h.5 (ap refusal.TooWide h.6))
-  stage text refusal.NotBuilt h = absurd h
 
   line_none : (text : List ℕ) (n : ℕ) (fault : Fault) (entries : List Entry) → FirstFault forms text n fault → NoFault forms text entries → ⊥
   line_none text n fault entries b a = no_fault _ b.before b.line b.after entries b.said fault b.split a.said a.in_order b.says b.counts b.wrong

@@ -71,4 +71,3 @@ HasRefusal forms text (refusal.Missing word) = (entries : List Entry) × NoFault
 HasRefusal forms text (refusal.Rank v) = (factors : List ℕ) × (size : ℕ) × HasValues forms text v factors size × (IsRank v → ⊥)
 HasRefusal forms text (refusal.Size v) = (rank : ℕ) × (factors : List ℕ) × HasValues forms text rank factors v × IsRank rank × (IsSize rank v → ⊥)
 HasRefusal forms text (refusal.TooWide c) = (rank : ℕ) × (factors : List ℕ) × (size : ℕ) × HasValues forms text rank factors size × IsRank rank × IsSize rank size × (c ≡ column_count rank factors) × (most_columns < c)
-HasRefusal forms text refusal.NotBuilt = ⊥

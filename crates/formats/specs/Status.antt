@@ -30,7 +30,6 @@ refused_text (refusal.Size v) = codes "macek: refused 6: size " ++ decimal v ++ 
 refused_text (refusal.TooWide c) = codes "macek: refused 7: " ++ decimal c ++ codes " columns are more than 1000000\n"
 refused_text (refusal.TooManyForbidden n) = codes "macek: refused 8: line " ++ decimal n ++ codes " is the ninth forbid line\n"
 refused_text (refusal.ForbidTooBig n) = codes "macek: refused 9: line " ++ decimal n ++ codes " has more than 10 elements\n"
-refused_text refusal.NotBuilt = codes "macek: refused 10: not built yet\n"
 
 unfoldable pub refusal_text : Status → List ℕ
 refusal_text Done = []

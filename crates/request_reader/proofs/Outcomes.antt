@@ -1,5 +1,5 @@
 -- What entries without a filter ask for, and how a text is accepted or refused by its values.
-use Rattle.std.proofs.Common.{◌≡◌, ◌∙◌, ℕ, ◌==◌, inl, inr, Bool, false, List, [], ◌∷◌, Option, None, Some, refl, sym, ap, subst}
+use Rattle.std.proofs.Common.{◌≡◌, ◌∙◌, ℕ, ◌==◌, Bool, false, List, [], ◌∷◌, Option, None, Some, refl, sym, ap, subst}
 use Rattle.std.specs.Prelude.{IsTrue, filter_map, option_to_list, Result, Ok, Err, IfOk, IfErr, if◌then◌else◌}
 use Rattle.std.specs.List.{AllByRecursion, list_any, cons_option}
 use Rattle.formats.specs.declared.refusal.PrintMode.TheVariants.{Forms, Counts}
@@ -99,19 +99,15 @@ stands text rank factors size h limits = record {
 
 -- what the limits say of the values is said of the text
 late : (text : List ℕ) (rank : ℕ) (factors : List ℕ) (size : ℕ) (why : Refusal) → HasValues forms_now text rank factors size → IsLate rank factors size why → IsRefused text why
-late text rank factors size (refusal.Rank v) h l = inl (factors, size, subst (λ (n : ℕ). HasValues forms_now text n factors size) (sym l.0) h, subst (λ (n : ℕ). IsRank n → ⊥) (sym l.0) l.1)
-late text rank factors size (refusal.Size v) h l = inl (rank, factors, subst (λ (n : ℕ). HasValues forms_now text rank factors n) (sym l.0) h, l.1, subst (λ (n : ℕ). IsSize rank n → ⊥) (sym l.0) l.2)
-late text rank factors size (refusal.TooWide c) h l = inl (rank, factors, size, h, l.1, l.2, l.0, l.3)
-late text rank factors size refusal.NotBuilt h l = inr (refl, record { request = plain_request factors rank size; stands = stands text rank factors size h l.0; above = l.1 })
+late text rank factors size (refusal.Rank v) h l = (factors, size, subst (λ (n : ℕ). HasValues forms_now text n factors size) (sym l.0) h, subst (λ (n : ℕ). IsRank n → ⊥) (sym l.0) l.1)
+late text rank factors size (refusal.Size v) h l = (rank, factors, subst (λ (n : ℕ). HasValues forms_now text rank factors n) (sym l.0) h, l.1, subst (λ (n : ℕ). IsSize rank n → ⊥) (sym l.0) l.2)
+late text rank factors size (refusal.TooWide c) h l = (rank, factors, size, h, l.1, l.2, l.0, l.3)
 late text rank factors size _ h l = absurd l
 
 -- the answer where all values are there
-pub accepted : (text : List ℕ) (values : Values) (rank : ℕ) (factors : List ℕ) (size : ℕ) (result : Result Request Refusal) → AreSaid text values → values.rank ≡ Some rank → values.factors ≡ Some factors → values.size ≡ Some size → IfOk result (λ request. request ≡ plain_request factors rank size) → IfOk result (λ request. IsWithinLimits request) → IfOk result (λ request. request.size ≡ request.rank) → IfOk result (λ request. IsAccepted text request)
-accepted text values rank factors size (Ok request) said r f s is limits one = record {
-  stands = subst (λ (q : Request). StandsFor forms_now text q) (sym is) (stands text rank factors size (has_values text values rank factors size said r f s) (subst IsWithinLimits is limits));
-  one_level = one;
-}
-accepted text values rank factors size (Err why) said r f s is limits one = tt
+pub accepted : (text : List ℕ) (values : Values) (rank : ℕ) (factors : List ℕ) (size : ℕ) (result : Result Request Refusal) → AreSaid text values → values.rank ≡ Some rank → values.factors ≡ Some factors → values.size ≡ Some size → IfOk result (λ request. request ≡ plain_request factors rank size) → IfOk result (λ request. IsWithinLimits request) → IfOk result (λ request. IsAccepted text request)
+accepted text values rank factors size (Ok request) said r f s is limits = subst (λ (q : Request). StandsFor forms_now text q) (sym is) (stands text rank factors size (has_values text values rank factors size said r f s) (subst IsWithinLimits is limits))
+accepted text values rank factors size (Err why) said r f s is limits = tt
 
 pub refused : (text : List ℕ) (values : Values) (rank : ℕ) (factors : List ℕ) (size : ℕ) (result : Result Request Refusal) → AreSaid text values → values.rank ≡ Some rank → values.factors ≡ Some factors → values.size ≡ Some size → IfErr result (λ why. IsLate rank factors size why) → IfErr result (λ why. IsRefused text why)
 refused text values rank factors size (Ok request) said r f s l = tt

@@ -61,11 +61,10 @@ impl Request {
     }
 }
 
-/// The request for these values, where they are within the limits and it can be listed.
+/// The request for these values, where they are within the limits.
 pub fn request_for(rank: u32, factors: Factors, size: u32) -> Result<Request, Refusal>
     ensures request { IfOk result (λ request. request ≡ plain_request factors rank size) }
     ensures limits { IfOk result (λ request. IsWithinLimits request) }
-    ensures one_level { IfOk result (λ request. request.size ≡ request.rank) }
     ensures refused { IfErr result (λ why. IsLate rank factors size why) }
 {
     if rank == 0 || rank > MOST_RANK {
@@ -78,9 +77,6 @@ pub fn request_for(rank: u32, factors: Factors, size: u32) -> Result<Request, Re
     let columns = column_count(rank, &factors);
     if columns > MOST_COLUMNS {
         return Err(Refusal::TooWide(columns));
-    }
-    if size > rank {
-        return Err(Refusal::NotBuilt);
     }
     Ok(Request {
         factors,

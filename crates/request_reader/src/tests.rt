@@ -106,7 +106,6 @@ fn texts_that_are_refused(rt: HostRuntime) {
             &b"rank 6\nfield 9 x 9 x 9\nsize 6\n"[..],
             Refusal::TooWide(35_598_707_465_734),
         ),
-        (&b"rank 3\nfield 2 x 3\nsize 4\n"[..], Refusal::NotBuilt),
         (&[b'#'; 65_536][..], Refusal::Missing(Word::Rank)),
         (&[b'#'; 65_537][..], Refusal::TooLong),
     ];
@@ -123,14 +122,15 @@ fn texts_that_are_refused(rt: HostRuntime) {
 #[test]
 fn texts_that_are_accepted(rt: HostRuntime) {
     let table = [
-        (&b"rank 6\nfield 9\nsize 6\n"[..], 6, 9),
-        (&b"rank 2\r\nfield 3\nsize 2"[..], 2, 3),
+        (&b"rank 6\nfield 9\nsize 6\n"[..], 6, 6, 9),
+        (&b"rank 2\r\nfield 3\nsize 7"[..], 2, 7, 3),
+        (&b"size 16\nrank 1\nfield 2\n"[..], 1, 16, 2),
     ];
-    for (text, rank, order) in table {
+    for (text, rank, size, order) in table {
         match read_request(text) {
             Ok(request) => {
                 assert_eq!(rt; request.rank(), rank);
-                assert_eq!(rt; request.size(), rank);
+                assert_eq!(rt; request.size(), size);
                 assert_eq!(rt; request.factors().count(), 1);
                 assert_eq!(rt; request.factors().field(0).order(), order);
             }

@@ -6,7 +6,7 @@ ghost use Rattle.formats.specs.Levels.{columns_of, columns_of_factor};
 ghost use Rattle.formats.specs.Listing.{factor_text};
 ghost use Rattle.formats.specs.Listing as listing;
 
-use crate::lister::line::{Line, push_bytes};
+use crate::line::{Line, push_bytes};
 use arrayvec::ArrayVec;
 use field_tables::Column;
 use product_rep::Rep;

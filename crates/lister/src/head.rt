@@ -3,7 +3,7 @@ ghost use Rattle.formats.specs.Lines.{line_of_words};
 ghost use Rattle.formats.specs.Entry.{FieldIs, spelling};
 ghost use Rattle.formats.specs.Listing as listing;
 
-use crate::lister::line::{Head, push_line};
+use crate::line::{Head, push_line};
 use arrayvec::ArrayVec;
 use itoa::Buffer;
 use product_rep::Factors;

@@ -2,9 +2,9 @@ use Rattle.std.proofs.Common.{◌≡◌, ◌∙◌, ap, arith, map}
 use Rattle.std.specs.List.{join_with_byte}
 use Rattle.formats.specs.Listing.{factor_text}
 use Rattle.formats.specs.Levels.{columns_of_factor}
-use Rattle.macek_run.proofs.Forms.{factor_from_words}
-use Rattle.macek_run.proofs.lister.form.push_factor.Goals as goal
-use Rattle.macek_run.proofs.lister.form.push_factor.Goals.{then-factor-gt0, else-factor-gt0}
+use Rattle.lister.proofs.Forms.{factor_from_words}
+use Rattle.lister.proofs.form.push_factor.Goals as goal
+use Rattle.lister.proofs.form.push_factor.Goals.{then-factor-gt0, else-factor-gt0}
 
 pub returns-clause-first : goal.returns-clause-first
 returns-clause-first c = λ none.

@@ -4,8 +4,8 @@ use Rattle.matroid_theory.specs.Rep.{count}
 use Rattle.formats.specs.Lines.{joined}
 use Rattle.formats.specs.Listing.{factor_text, form_text}
 use Rattle.formats.specs.Levels.{columns_of_factor}
-use Rattle.macek_run.proofs.Forms.{factors_more, factors_all}
-use Rattle.macek_run.proofs.lister.form.form_text.Goals as goal
+use Rattle.lister.proofs.Forms.{factors_more, factors_all}
+use Rattle.lister.proofs.form.form_text.Goals as goal
 
 pub loop-factor-preserved : goal.loop-factor-preserved
 loop-factor-preserved c = record {

@@ -3,7 +3,7 @@ use Rattle.std.specs.List.{range_with_len}
 use Rattle.formats.specs.Lines.{joined}
 use Rattle.formats.specs.Levels.{columns_of_factor}
 use Rattle.formats.specs.Listing.{factor_text}
-use Rattle.macek_run.proofs.lister.form.form_text.Given as goal
+use Rattle.lister.proofs.form.form_text.Given as goal
 
 abbrev pub invariant-loop-factor : goal.invariant-loop-factor
 invariant-loop-factor l = record {

@@ -1,6 +1,6 @@
 use Rattle.std.proofs.Common.{◌≡◌, take}
 use Rattle.formats.specs.Entry.{column_word}
-use Rattle.macek_run.proofs.lister.form.column_word.Given as goal
+use Rattle.lister.proofs.form.column_word.Given as goal
 
 abbrev pub invariant-loop-code : goal.invariant-loop-code
 invariant-loop-code l = l.word.items ≡ column_word (take l.code-index l.column.items)

@@ -1,7 +1,7 @@
 ghost use Rattle.std.specs.Prelude.{◌≡◌};
 ghost use Rattle.formats.specs.Listing as listing;
 
-use crate::lister::line::{Line, line_of};
+use crate::line::{Line, line_of};
 use itoa::Buffer;
 
 /// The line of a level: its size, how many forms it has, how many of them are listed, and its number of tries.

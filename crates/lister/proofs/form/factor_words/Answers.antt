@@ -3,8 +3,8 @@ use Rattle.std.proofs.lemmas.List.{map_push, length-map}
 use Rattle.std.proofs.lemmas.List.FromFn.{length-map-range_with_len, map-range_with_len_more}
 use Rattle.matroid_theory.specs.Rep.{column_of}
 use Rattle.formats.specs.Entry.{column_word}
-use Rattle.macek_run.proofs.Forms.{HasDigits, column_digits}
-use Rattle.macek_run.proofs.lister.form.factor_words.Goals as goal
+use Rattle.lister.proofs.Forms.{HasDigits, column_digits}
+use Rattle.lister.proofs.form.factor_words.Goals as goal
 
 pub column_word-requires : goal.column_word-requires
 column_word-requires c =
