@@ -1,5 +1,5 @@
 -- A request has one listing.
-use Rattle.std.proofs.Common.{◌≡◌, ◌∙◌, ℕ, zero, suc, ◌+◌, ◌-◌, ◌≤◌, List, [], ◌∷◌, map, length, Option, None, Some, refl, sym, ap, subst, arith}
+use Rattle.std.proofs.Common.{◌≡◌, ◌∙◌, ℕ, zero, suc, ◌+◌, ◌-◌, ◌≤◌, List, [], ◌∷◌, ◌++◌, map, length, Option, None, Some, refl, sym, ap, subst, arith}
 use Rattle.std.specs.Prelude.{option_to_list}
 use Rattle.std.specs.List.{AllByRecursion, range_with_len}
 use Rattle.matroid_theory.specs.Minor.{Matroid}
@@ -9,7 +9,7 @@ use Rattle.matroid_theory.proofs.Levels.{rising_list_unique, count_unique}
 use Rattle.matroid_theory.proofs.GivenLemmas.{given_unique}
 use Rattle.formats.specs.Request.{Request}
 use Rattle.formats.specs.Listing.{LevelEntry, listing_blocks, text_of_blocks}
-use Rattle.formats.specs.Levels.{AreGivenBy, Grows, Keeps, HasTries, IsLevelEntry, AreLevels, IsListing, columns_of}
+use Rattle.formats.specs.Levels.{AreGivenBy, Grows, Keeps, HasTries, IsLevelEntry, AreFirstLevels, AreLevels, IsListing, columns_of}
 
 -- matroids that are given so are one list
 given_same : (gs : List Given) (xs ys : List Matroid) → AreGivenBy gs xs → AreGivenBy gs ys → xs ≡ ys
@@ -84,9 +84,33 @@ entries_same q a (suc n) (x ∷ xs) (y ∷ ys) low e f h g =
     let rest : xs ≡ ys = entries_same q (a + 1) n xs ys (omega arith) more others h.1 g.1 in
     λ i. first i ∷ rest i
 
+-- the first levels from a size on begin any longer list of them
+front_of_entries : (q : Request) (a m n : ℕ) (xs ys : List LevelEntry) → q.rank ≤ a → m ≤ n → map (λ l. l.size) xs ≡ range_with_len a m → map (λ l. l.size) ys ≡ range_with_len a n → AllByRecursion (IsLevelEntry q) xs → AllByRecursion (IsLevelEntry q) ys → (zs : List LevelEntry) × (ys ≡ xs ++ zs)
+front_of_entries q a zero n [] ys low most e f h g = (ys, refl)
+front_of_entries q a zero n (x ∷ xs) ys low most e f h g = cc (e)
+front_of_entries q a (suc m) n [] ys low most e f h g = cc (e)
+front_of_entries q a (suc m) zero (x ∷ xs) ys low most e f h g = absurd (omega arith)
+front_of_entries q a (suc m) (suc n) (x ∷ xs) [] low most e f h g = cc (f)
+front_of_entries q a (suc m) (suc n) (x ∷ xs) (y ∷ ys) low most e f h g =
+    let here : x.size ≡ a = cc (e) in
+    let there : y.size ≡ a = cc (f) in
+    let more : map (λ l. l.size) xs ≡ range_with_len (a + 1) m = cc (e) in
+    let others : map (λ l. l.size) ys ≡ range_with_len (a + 1) n = cc (f) in
+    let first : x ≡ y = entry_same q x y (here ∙ sym there) (omega arith) h.0 g.0 in
+    let rest = front_of_entries q (a + 1) m n xs ys (omega arith) (omega arith) more others h.1 g.1 in
+    (rest.0, λ i. sym first i ∷ rest.1 i)
+
+-- first levels of a request begin its list of levels
+pub first_of_levels : (q : Request) (xs ys : List LevelEntry) → AreFirstLevels q xs → AreLevels q ys → (zs : List LevelEntry) × (ys ≡ xs ++ zs)
+first_of_levels q xs ys a b =
+    let most : length xs ≤ length ys = omega (arith, a.at_most, b.are_all) in
+    front_of_entries q q.rank (length xs) (length ys) xs ys (omega arith) most a.sizes b.are_first.sizes a.each b.are_first.each
+
 -- a request has one list of levels
 levels_same : (q : Request) (xs ys : List LevelEntry) → AreLevels q xs → AreLevels q ys → xs ≡ ys
-levels_same q xs ys a b = entries_same q q.rank (q.size + 1 - q.rank) xs ys (omega arith) a.sizes b.sizes a.each b.each
+levels_same q xs ys a b =
+    let same : map (λ l. l.size) ys ≡ range_with_len q.rank (length xs) = b.are_first.sizes ∙ ap (range_with_len q.rank) (b.are_all ∙ sym a.are_all) in
+    entries_same q q.rank (length xs) xs ys (omega arith) a.are_first.sizes same a.are_first.each b.are_first.each
 
 -- a request has one listing
 pub listing_same : (q : Request) (text other : List ℕ) → IsListing q text → IsListing q other → text ≡ other

@@ -1,5 +1,5 @@
 -- What a request grows and lists, in the words of the mathematics, and which text is its listing.
-use Rattle.std.specs.Prelude.{◌≡◌, ℕ, ◌+◌, ◌-◌, ◌<◌, List, [], ◌∷◌, map, length, option_to_list}
+use Rattle.std.specs.Prelude.{◌≡◌, ℕ, ◌+◌, ◌<◌, ◌≤◌, List, [], ◌∷◌, ◌++◌, map, length, option_to_list}
 use Rattle.std.specs.List.{AllByRecursion, range_with_len}
 use Rattle.matroid_theory.specs.declared.Mode.TheVariants.{Linear}
 use Rattle.matroid_theory.specs.Rep.{Rep, count, size, column_of}
@@ -8,7 +8,7 @@ use Rattle.matroid_theory.specs.Given.{Given, IsGivenBy}
 use Rattle.matroid_theory.specs.Level.{Family, Filters, IsLevel, IsListed, IsTry, IsCount}
 use Rattle.formats.specs.Request.{Request}
 use Rattle.formats.specs.Minors.{given_as}
-use Rattle.formats.specs.Listing.{Form, LevelEntry, listing_blocks, text_of_blocks}
+use Rattle.formats.specs.Listing.{Form, LevelEntry, level_count, listing_blocks, text_of_blocks, IsCutOff}
 
 -- the columns of one factor, and of each
 abbrev pub columns_of_factor : Rep → ℕ → List (List ℕ)
@@ -58,13 +58,39 @@ pub record IsLevelEntry (q : Request) (entry : LevelEntry) : Type 0 where
   pub listed_are : entry.listed ≡ map columns_of shown
   pub tries : HasTries family entry.size entry.tried
 
--- These are the levels of a request, from its rank up to its size.
-pub record AreLevels (q : Request) (levels : List LevelEntry) : Type 0 where
-  pub sizes : map (λ l. l.size) levels ≡ range_with_len q.rank (q.size + 1 - q.rank)
+-- These are the first levels of a request: one for each size from its rank on, and none above its size.
+pub record AreFirstLevels (q : Request) (levels : List LevelEntry) : Type 0 where
+  pub sizes : map (λ l. l.size) levels ≡ range_with_len q.rank (length levels)
+  pub at_most : length levels ≤ level_count q
   pub each : AllByRecursion (IsLevelEntry q) levels
+
+-- These are all of its levels.
+pub record AreLevels (q : Request) (levels : List LevelEntry) : Type 0 where
+  pub are_first : AreFirstLevels q levels
+  pub are_all : length levels ≡ level_count q
 
 -- The text is the listing of the request.
 pub record IsListing (q : Request) (text : List ℕ) : Type 0 where
   pub levels : List LevelEntry
   pub are : AreLevels q levels
   pub is : text ≡ text_of_blocks (listing_blocks q levels)
+
+-- The text is the listing up to so many levels, each of them whole, where that isn't all.
+pub record IsListingUpTo (q : Request) (whole : ℕ) (text : List ℕ) : Type 0 where
+  pub levels : List LevelEntry
+  pub are : AreFirstLevels q levels
+  pub count : whole ≡ length levels
+  pub not_all : whole < level_count q
+  pub is : text ≡ text_of_blocks (listing_blocks q levels)
+
+-- The text is the listing cut off in a level or in the end line, after so many whole levels. The levels behind the cut needn't be known.
+pub record IsCutListing (q : Request) (whole : ℕ) (text : List ℕ) : Type 0 where
+  pub levels : List LevelEntry
+  pub are : AreFirstLevels q levels
+  pub cut : IsCutOff (listing_blocks q levels) whole text
+
+-- The text is a front of the other, and not all of it.
+pub record IsProperFront (text whole : List ℕ) : Type 0 where
+  pub rest : List ℕ
+  pub split : whole ≡ text ++ rest
+  pub proper : 0 < length rest

@@ -1,5 +1,5 @@
 -- The listing of a request, in blocks of pieces.
-use Rattle.std.specs.Prelude.{◌≡◌, ℕ, ◌<◌, List, [], ◌∷◌, ◌++◌, map, length, codes, decimal, option_to_list, Bool, true, false, flat_map}
+use Rattle.std.specs.Prelude.{◌≡◌, ℕ, ◌+◌, ◌-◌, ◌<◌, ◌==◌, List, [], ◌∷◌, ◌++◌, map, length, codes, decimal, option_to_list, Bool, true, false, flat_map}
 use Rattle.std.specs.List.{concat, join_with_byte}
 use Rattle.formats.specs.declared.refusal.PrintMode.{PrintMode}
 use Rattle.formats.specs.declared.refusal.PrintMode.TheVariants.{Forms, Counts}
@@ -55,13 +55,22 @@ form_pieces Counts forms = []
 abbrev pub level_pieces : PrintMode → LevelEntry → List (List ℕ)
 level_pieces print l = level_text l.size l.classes (length l.listed) l.tried ∷ form_pieces print l.listed
 
--- The pieces in blocks, one for each level, and the end. The head goes with the first.
+-- how many levels a request has: one for each size from its rank on
+abbrev pub level_count : Request → ℕ
+level_count q = q.size + 1 - q.rank
+
 abbrev pub with_front : List ℕ → List (List (List ℕ)) → List (List (List ℕ))
 with_front piece [] = []
 with_front piece (block ∷ blocks) = (piece ∷ block) ∷ blocks
 
+-- the block of the end line, where all levels are there
+abbrev pub end_blocks : Bool → List (List (List ℕ))
+end_blocks true = (end_text ∷ []) ∷ []
+end_blocks false = []
+
+-- The pieces of a listing in blocks, one for each of its first levels, and the end after all of them. The head goes with the first level.
 abbrev pub listing_blocks : Request → List LevelEntry → List (List (List ℕ))
-listing_blocks q levels = with_front (head_text q) (map (level_pieces q.print) levels ++ (end_text ∷ []) ∷ [])
+listing_blocks q levels = with_front (head_text q) (map (level_pieces q.print) levels ++ end_blocks (length levels == level_count q))
 
 abbrev pub text_of_blocks : List (List (List ℕ)) → List ℕ
 text_of_blocks blocks = flat_map concat blocks
@@ -78,14 +87,3 @@ pub record IsCutOff (blocks : List (List (List ℕ))) (whole : ℕ) (text : List
   pub cut : concat block ≡ part ++ rest
   pub proper : 0 < length rest
   pub is : text ≡ text_of_blocks before ++ part
-
--- The text ends where a piece ends: so many blocks are whole, and of the next some pieces, but not all.
-pub record EndsAtPiece (blocks : List (List (List ℕ))) (whole : ℕ) (text : List ℕ) : Type 0 where
-  pub before : List (List (List ℕ))
-  pub pieces : List (List ℕ)
-  pub piece : List ℕ
-  pub rest : List (List ℕ)
-  pub after : List (List (List ℕ))
-  pub split : blocks ≡ before ++ (pieces ++ piece ∷ rest) ∷ after
-  pub count : whole ≡ length before
-  pub is : text ≡ text_of_blocks before ++ concat pieces

@@ -6,8 +6,6 @@ use Rattle.formats.specs.Entry.{Entry}
 use Rattle.formats.specs.Request.{Request, StandsFor}
 use Rattle.formats.specs.Refusal.{HasRefusal}
 use Rattle.formats.specs.Words.{Piece, AsksForText}
-use Rattle.formats.specs.Listing.{LevelEntry, listing_blocks}
-use Rattle.formats.specs.Levels.{AreLevels}
 
 -- The words and the source ask for a request.
 pub record Asks (forms : Entry → Bool) (MayStand : Piece → Type 0) (words : List (List ℕ)) (left : Option (List ℕ)) (request : Request) : Type 0 where
@@ -21,10 +19,8 @@ pub record AsksForRefused (forms : Entry → Bool) (MayStand : Piece → Type 0)
   pub asked : AsksForText MayStand words left text
   pub refused : HasRefusal forms text refusal
 
--- The sink gained what `Part` allows of the listing of the request: of its blocks, and of the bytes that were written.
-pub record GainsOf (q : Request) (before after : Option (List ℕ)) (Part : List (List (List ℕ)) → List ℕ → Type 0) : Type 0 where
-  pub levels : List LevelEntry
-  pub are_levels : AreLevels q levels
+-- The sink gained bytes for which `Part` holds.
+pub record Gains (before after : Option (List ℕ)) (Part : List ℕ → Type 0) : Type 0 where
   pub written : List ℕ
   pub gained : Appends before after written
-  pub part : Part (listing_blocks q levels) written
+  pub part : Part written

@@ -1,7 +1,7 @@
 use Rattle.std.proofs.Common.{◌≡◌, drop, map}
 use Rattle.std.specs.List.{concat}
 use Rattle.outside.proofs.Known.{IsPartWritten}
-use Rattle.macek_run.proofs.run.write_block.Given as goal
+use Rattle.macek_run.proofs.write.write_block.Given as goal
 
 -- what was written so far, with the pieces that are left, is all of the pieces
 abbrev pub invariant-loop-piece : goal.invariant-loop-piece
