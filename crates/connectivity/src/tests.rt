@@ -52,24 +52,15 @@ fn fano_plane(rt: HostRuntime) -> Result<(), Fail> {
     Ok(())
 }
 
-// A single coloop has no two sides.
+// A single coloop, which has no two sides, and one beside a triangle.
 #[test]
-fn one_coloop(rt: HostRuntime) -> Result<(), Fail> {
-    let rep = unit_and!(2, 1);
-    assert!(rt; agree(&rep));
-    assert!(rt; connected(&rep));
-    assert!(rt; three_connected(&rep));
-    assert!(rt; !cosimple(&rep));
-    Ok(())
-}
-
-#[test]
-fn coloop_beside_a_line(rt: HostRuntime) -> Result<(), Fail> {
-    let rep = unit_and!(2, 3, [1, 1, 0]);
-    assert!(rt; agree(&rep));
-    assert!(rt; !connected(&rep));
-    assert!(rt; !three_connected(&rep));
-    assert!(rt; !cosimple(&rep));
+fn coloops(rt: HostRuntime) -> Result<(), Fail> {
+    for (rep, want) in [(unit_and!(2, 1), true), (unit_and!(2, 3, [1, 1, 0]), false)] {
+        assert!(rt; agree(&rep));
+        assert_eq!(rt; connected(&rep), want, "at {}", rep.size());
+        assert_eq!(rt; three_connected(&rep), want, "at {}", rep.size());
+        assert!(rt; !cosimple(&rep), "at {}", rep.size());
+    }
     Ok(())
 }
 
