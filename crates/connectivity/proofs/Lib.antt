@@ -1,0 +1,3 @@
+pub mod LeftOut
+pub mod SideLemmas
+pub mod SplitLemmas
