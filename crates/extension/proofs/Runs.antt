@@ -18,9 +18,6 @@ use Rattle.extension.specs.Admissible.{IsAdmissible, IsNextColumn, IsLastColumn,
 laws : IsTotalOrder (slice_cmp nat_cmp)
 laws = nat_list_cmp_total
 
-self_not_less : (v : List ℕ) → ¬ (slice_cmp nat_cmp v v ≡ Less)
-self_not_less v l = let e : slice_cmp nat_cmp v v ≡ Equal = tied_itself laws v in cc
-
 -- of two lists one is below the other, or they are the same
 below_or_not : (v w : List ℕ) → (slice_cmp nat_cmp v w ≡ Less) ⊎ (slice_cmp nat_cmp w v ≢ Greater)
 below_or_not v w = elim (slice_cmp nat_cmp v w) as (λ o. slice_cmp nat_cmp v w ≡ o → (o ≡ Less) ⊎ (slice_cmp nat_cmp w v ≢ Greater)) [
