@@ -1,0 +1,12 @@
+pub mod Leads
+pub mod Least
+pub mod Made
+pub mod Orders
+pub mod Others
+pub mod Picks
+pub mod Places
+pub mod Scaled
+pub mod SearchSteps
+pub mod Sorted
+pub mod StandardLemmas
+pub mod Whole

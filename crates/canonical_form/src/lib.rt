@@ -1,2 +1,16 @@
 //! The form of a class: the least standard representation that is equivalent to a given one.
+//!
+//! This is the plain program. It goes through each ordered basis and each choice of row scalars, and keeps the least of the
+//! standard representations that it meets. It takes no memory.
 #![tactic(auto)]
+
+mod columns;
+mod coordinates;
+mod form;
+mod scalars;
+mod search;
+
+pub use form::least_form;
+
+#[cfg(test)]
+mod tests;

@@ -1,5 +1,7 @@
 -- The columns that may follow a representation, and how they are gone through.
-use Rattle.std.specs.Prelude.{ℕ, ◌≡◌, ◌≢◌, List}
+use Rattle.std.specs.Prelude.{ℕ, ◌+◌, ◌*◌, ◌^◌, ◌≡◌, ◌≢◌, ◌↔◌, List, [], ◌∷◌, length, Option, Some, None}
+use Rattle.std.specs.List.{AllPairs, Contains}
+use Rattle.arrayvec.specs.ArrayVec.{ArrayVec}
 use Rattle.std.specs.Cmp.Lexicographic.{slice_cmp}
 use Rattle.std.specs.Ordering.{nat_cmp}
 use Rattle.std.specs.declared.cmp.Ordering.TheVariants.{Less, Greater}
@@ -27,3 +29,23 @@ pub record IsNextColumn (columns : ColumnsAfter) (v : List ℕ) : Type 0 where
 -- no admissible column comes after the last one
 abbrev pub IsLastColumn : ColumnsAfter → Type 0
 IsLastColumn columns = (w : List ℕ) → IsAdmissible columns.parent w → ¬ (slice_cmp nat_cmp columns.last w ≡ Less)
+
+-- what a step makes of the columns: it gives the next column, which becomes the last one, or there is none and nothing changes
+abbrev pub GivesNext : ColumnsAfter → Option (ArrayVec ℕ) → ColumnsAfter → Type 0
+GivesNext before None after = IsLastColumn before × (after ≡ before)
+GivesNext before (Some v) after = IsNextColumn before v.items × (after ≡ record { parent = before.parent; last = v.items })
+
+-- the strictly rising list of exactly the admissible columns up to the last one
+pub record AreColumnsUpTo (M : Rep) (last : List ℕ) (vs : List (List ℕ)) : Type 0 where
+  pub rising : AllPairs (λ v w. slice_cmp nat_cmp v w ≡ Less) vs
+  pub exact : (w : List ℕ) → Contains vs w ↔ (IsAdmissible M w × (slice_cmp nat_cmp w last ≢ Greater))
+
+-- the strictly rising list of exactly the admissible columns
+pub record AreColumns (M : Rep) (vs : List (List ℕ)) : Type 0 where
+  pub rising : AllPairs (λ v w. slice_cmp nat_cmp v w ≡ Less) vs
+  pub exact : (w : List ℕ) → Contains vs w ↔ IsAdmissible M w
+
+-- the number whose decimal digits the codes are
+abbrev pub value : List ℕ → ℕ
+value [] = 0
+value (code ∷ codes) = code * 10 ^ length codes + value codes

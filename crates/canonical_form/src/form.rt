@@ -1,0 +1,47 @@
+ghost use Rattle.std.specs.Prelude.{◌≡◌, ◌<◌, ◌≤◌, length};
+ghost use Rattle.matroid_theory.specs.declared.Mode.TheVariants.{Linear as linear};
+ghost use Rattle.matroid_theory.specs.Rep.{shape, IsShaped, IsStandard};
+ghost use Rattle.matroid_theory.specs.Matroid.{Agrees};
+ghost use Rattle.matroid_theory.specs.Move.{AreEquivalent};
+ghost use Rattle.matroid_theory.specs.Order.{IsForm};
+ghost use Rattle.canonical_form.specs.Search.{later, AreOfClass};
+
+use crate::columns::{ColumnNumbers, Columns};
+use crate::search::try_bases;
+use product_rep::Rep;
+
+/// The form of the class of a representation whose factors agree: of the standard representations that are equivalent to it by
+/// linear moves, the one that is not above any other.
+pub fn least_form(rep: &Rep) -> Rep
+    requires { Agrees rep.now }
+    ensures form { IsForm linear result }
+    ensures equivalent { AreEquivalent linear rep.now result }
+{
+    // The proof learns here that this is a representation.
+    rep.size();
+    let mut best = None;
+    try_bases(rep, ColumnNumbers::new(), &mut best);
+    match best {
+        Some(columns) => standard(rep, &columns),
+        None => unreachable!(),
+    }
+}
+
+/// The standard representation of that shape with these later columns.
+fn standard(rep: &Rep, columns: &Columns) -> Rep
+    requires { AreOfClass rep.now columns.now }
+    ensures shape { shape result ≡ shape rep.now }
+    ensures shaped { IsShaped result }
+    ensures standard { IsStandard result }
+    ensures later { later result ≡ columns.now }
+{
+    // The proof learns here that the rank is a small number.
+    rep.size();
+    let mut form = Rep::unit(rep.factors(), rep.rank() as u8);
+    for column in columns.as_slice() {
+        form.push_column(column);
+    }
+    // The proof learns here that the codes are in range.
+    form.size();
+    form
+}

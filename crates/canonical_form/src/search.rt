@@ -1,0 +1,43 @@
+// The search through the ordered bases.
+ghost use Rattle.std.specs.Prelude.{◌≡◌, ◌<◌, ◌≤◌, ℕ, List, IfSome, length};
+ghost use Rattle.canonical_form.specs.Search.{AreIndependentColumns, AreOfClass, IsOrderedBasis};
+ghost use Rattle.canonical_form.specs.Found.{IsAtMost, CoversBases};
+
+use crate::columns::{ColumnNumbers, Columns, followed_by};
+use crate::coordinates::{are_independent, other_coordinates};
+use crate::scalars::{Frame, try_scalars};
+use product_rep::{ProductColumn, Rep};
+
+/// Keeps the least of what is found with the ordered bases that begin with these columns.
+pub fn try_bases(rep: &Rep, columns: ColumnNumbers, best: &mut Option<Columns>)
+    requires independent { AreIndependentColumns rep.now columns.items }
+    requires few { length columns.items ≤ rep.now.rank }
+    requires sound { IfSome best.old (AreOfClass rep.now) }
+    ensures sound { IfSome best.new (AreOfClass rep.now) }
+    ensures lower { (columns : List (List ℕ)) → IsAtMost best.old columns → IsAtMost best.new columns }
+    ensures covers { CoversBases rep.now columns.items best.new }
+{
+    if columns.len() == rep.rank() {
+        try_basis(rep, columns, best);
+        return;
+    }
+    for j in 0..rep.size() {
+        let longer = followed_by(&columns, j as u8);
+        if are_independent(rep, longer.as_slice()) {
+            try_bases(rep, longer, best);
+        }
+    }
+}
+
+/// Keeps the least of what is found with this ordered basis.
+fn try_basis(rep: &Rep, basis: ColumnNumbers, best: &mut Option<Columns>)
+    requires basis { IsOrderedBasis rep.now basis.items }
+    requires sound { IfSome best.old (AreOfClass rep.now) }
+    ensures sound { IfSome best.new (AreOfClass rep.now) }
+    ensures lower { (columns : List (List ℕ)) → IsAtMost best.old columns → IsAtMost best.new columns }
+    ensures covers { CoversBases rep.now basis.items best.new }
+{
+    let coordinates = other_coordinates(rep, basis.as_slice());
+    let frame = Frame { basis, coordinates };
+    try_scalars(rep, &frame, &ProductColumn::new(), best);
+}

@@ -1,0 +1,91 @@
+-- The columns that the steps have given so far, and those of a whole run.
+use Rattle.std.proofs.Common.{◌≡◌, ◌≢◌, ◌⊎◌, ℕ, ◌+◌, ◌*◌, ◌<◌, refl, sym, ◌∙◌, ap, subst, arith, List, [], ◌∷◌, ◌++◌, length, get_or, inl, inr}
+use Rattle.std.specs.List.{Contains}
+use Rattle.std.specs.Cmp.{IsTotalOrder}
+use Rattle.std.specs.Cmp.Lexicographic.{slice_cmp}
+use Rattle.std.specs.Ordering.{nat_cmp, ordering_reverse}
+use Rattle.std.specs.declared.cmp.Ordering.TheVariants.{Less, Equal, Greater}
+use Rattle.std.proofs.lemmas.Cmp.{nat_list_cmp_total, tied_itself}
+use Rattle.std.proofs.lemmas.List.Elements.{Contains-append_left, Contains-push, Contains-push_cases, Contains-get_or}
+use Rattle.std.proofs.lemmas.List.Quantifiers.{all_pairs_push}
+use Rattle.std.proofs.lemmas.Nat.{mul-add-lt}
+use Rattle.std.proofs.lemmas.Map.Lookups.{exact_bytes}
+use Rattle.matroid_theory.specs.Rep.{Rep, count}
+use Rattle.extension.specs.Admissible.{IsAdmissible, IsNextColumn, IsLastColumn, AreColumnsUpTo, AreColumns}
+
+laws : IsTotalOrder (slice_cmp nat_cmp)
+laws = nat_list_cmp_total
+
+self_not_less : (v : List ℕ) → ¬ (slice_cmp nat_cmp v v ≡ Less)
+self_not_less v l = let e : slice_cmp nat_cmp v v ≡ Equal = tied_itself laws v in cc
+
+-- of two lists one is below the other, or they are the same
+below_or_not : (v w : List ℕ) → (slice_cmp nat_cmp v w ≡ Less) ⊎ (slice_cmp nat_cmp w v ≢ Greater)
+below_or_not v w = elim (slice_cmp nat_cmp v w) as (λ o. slice_cmp nat_cmp v w ≡ o → (o ≡ Less) ⊎ (slice_cmp nat_cmp w v ≢ Greater)) [
+  | Less ↦ (λ _. inl refl)
+  | Equal ↦ (λ e. inr (λ g. let s : v ≡ w = exact_bytes v w e in let t : slice_cmp nat_cmp v v ≡ Greater = subst (λ (x : List ℕ). slice_cmp nat_cmp x v ≡ Greater) (sym s) g in let k : slice_cmp nat_cmp v v ≡ Equal = tied_itself laws v in cc))
+  | Greater ↦ (λ e. inr (λ g. let k : slice_cmp nat_cmp w v ≡ ordering_reverse (slice_cmp nat_cmp v w) = laws.antisymm w v in let m : Greater ≡ Less = sym g ∙ k ∙ ap ordering_reverse e in cc))
+] refl
+
+less_not_greater : (v w : List ℕ) → slice_cmp nat_cmp v w ≡ Less → slice_cmp nat_cmp v w ≢ Greater
+less_not_greater v w l g = cc
+
+-- what isn't above a list that is below another is below it too
+below_of : (w u v : List ℕ) → slice_cmp nat_cmp w u ≢ Greater → slice_cmp nat_cmp u v ≡ Less → slice_cmp nat_cmp w v ≡ Less
+below_of w u v n l = elim (slice_cmp nat_cmp w u) as (λ o. slice_cmp nat_cmp w u ≡ o → slice_cmp nat_cmp w v ≡ Less) [
+  | Less ↦ (λ e. laws.trans w u v e l)
+  | Equal ↦ (λ e. subst (λ (x : List ℕ). slice_cmp nat_cmp x v ≡ Less) (sym (exact_bytes w u e)) l)
+  | Greater ↦ (λ e. absurd (n e))
+] refl
+
+-- two lists of which neither is above the other are the same
+turned : (v w : List ℕ) → slice_cmp nat_cmp v w ≢ Greater → slice_cmp nat_cmp w v ≢ Greater → v ≡ w
+turned v w a b = elim (slice_cmp nat_cmp v w) as (λ o. slice_cmp nat_cmp v w ≡ o → v ≡ w) [
+  | Less ↦ (λ e. absurd (b (laws.antisymm w v ∙ ap ordering_reverse e)))
+  | Equal ↦ exact_bytes v w
+  | Greater ↦ (λ e. absurd (a e))
+] refl
+
+-- a list of a code or more is above the empty one
+nothing : (w : List ℕ) → 0 < length w → ¬ (slice_cmp nat_cmp w [] ≢ Greater)
+nothing [] l n = absurd (omega arith)
+nothing (x ∷ xs) l n = n refl
+
+-- before the first step
+pub columns_start : (M : Rep) → 0 < count M → AreColumnsUpTo M [] []
+columns_start M pos = record {
+  rising = λ i j d l m. absurd (omega arith);
+  exact = λ w. (
+    (λ h. absurd (let l = h.1 in omega arith)),
+    (λ (a, g). absurd (nothing w (some w a) g)),
+  );
+}
+  where
+    some : (w : List ℕ) → IsAdmissible M w → 0 < length w
+    some w a = let n = a.normalised in let c = n.is_column in let b : n.lead * count M + 0 < count M * M.rank = mul-add-lt n.lead (count M) 0 M.rank n.lead_below pos in let e : length w ≡ M.rank * count M = c.rows in omega arith
+
+-- a step adds its column at the end
+pub columns_step : (M : Rep) (last v : List ℕ) (vs : List (List ℕ)) → AreColumnsUpTo M last vs → IsNextColumn (record { parent = M; last = last }) v → AreColumnsUpTo M v (vs ++ v ∷ [])
+columns_step M last v vs h n = record {
+  rising = all_pairs_push (λ v w. slice_cmp nat_cmp v w ≡ Less) vs v h.rising (λ k d l. below_of (get_or vs k d) last v (((h.exact (get_or vs k d)).0 (Contains-get_or vs k d l)).1) n.after);
+  exact = λ w. (
+    (λ c. elim (Contains-push_cases vs v w c) [
+      | inl b ↦ (let p = (h.exact w).0 b in (p.0, less_not_greater w v (below_of w last v p.1 n.after)))
+      | inr e ↦ subst (λ (w : List ℕ). IsAdmissible M w × (slice_cmp nat_cmp w v ≢ Greater)) e (n.admissible, (λ g. let k : slice_cmp nat_cmp v v ≡ Equal = tied_itself laws v in cc))
+    ]),
+    (λ (a, g). elim (below_or_not last w) [
+      | inl l ↦ (let e : v ≡ w = turned v w (n.first w a l) g in subst (λ (w : List ℕ). Contains (vs ++ v ∷ []) w) e (Contains-push vs v))
+      | inr b ↦ Contains-append_left vs (v ∷ []) w ((h.exact w).1 (a, b))
+    ]),
+  );
+}
+
+-- where no column is left, these are all
+pub columns_end : (M : Rep) (last : List ℕ) (vs : List (List ℕ)) → AreColumnsUpTo M last vs → IsLastColumn (record { parent = M; last = last }) → AreColumns M vs
+columns_end M last vs h e = record {
+  rising = h.rising;
+  exact = λ w. (
+    (λ c. ((h.exact w).0 c).0),
+    (λ a. (h.exact w).1 (a, elim (below_or_not last w) [ inl l ↦ absurd (e w a l) | inr b ↦ b ])),
+  );
+}

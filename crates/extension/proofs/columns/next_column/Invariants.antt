@@ -1,0 +1,19 @@
+use Rattle.std.proofs.Common.{◌≡◌, ◌-◌, ◌^◌, ℕ, List}
+use Rattle.std.specs.Cmp.Lexicographic.{slice_cmp}
+use Rattle.std.specs.Ordering.{nat_cmp}
+use Rattle.std.specs.declared.cmp.Ordering.TheVariants.{Less}
+use Rattle.extension.specs.Admissible.{IsAdmissible, value}
+use Rattle.extension.specs.Steps.{IsStart}
+use Rattle.extension.proofs.columns.next_column.Given as goal
+
+-- no admissible column lies between the last one and this one
+abbrev pub invariant-loop-column : goal.invariant-loop-column
+invariant-loop-column l =
+    record {
+      start : IsStart l.rep.factors l.rep.rank l.before.items;
+      after : (w : List ℕ) → slice_cmp nat_cmp l.before.items w ≡ Less → slice_cmp nat_cmp l.last.items w ≡ Less;
+      none : (w : List ℕ) → IsAdmissible l.rep w → slice_cmp nat_cmp l.last.items w ≡ Less → slice_cmp nat_cmp l.before.items w ≡ Less;
+    }
+
+abbrev pub decreases-loop-column : goal.decreases-loop-column
+decreases-loop-column l = 10 ^ 18 - value l.before.items

@@ -1,0 +1,92 @@
+ghost use Rattle.std.specs.Prelude.{◌≡◌, ◌<◌, ◌-◌, ◌^◌, [], MatchOption};
+ghost use Rattle.std.specs.Iterator.{at_most};
+ghost use Rattle.matroid_theory.specs.Rep.{size, IsRep, IsStandard};
+ghost use Rattle.matroid_theory.specs.Matroid.{Agrees, IsSimple};
+ghost use Rattle.extension.specs.Admissible.{IsNextColumn, IsLastColumn, GivesNext, value};
+ghost use Rattle.extension.specs.Steps.{IsStart, KeepsColumns};
+
+use crate::admissible::is_admissible;
+use crate::normalised::following;
+use product_rep::{ProductColumn, Rep};
+use std::marker::Model;
+
+/// The columns by which a standard simple representation whose factors agree, of fewer than 16 columns, can be extended:
+/// in rising order and each once, exactly the normalised columns such that the representation followed by the column is
+/// simple and its factors agree. Contracts see the representation and the last column that was given.
+#[derive(Drop)]
+pub struct Columns {
+    rep: Rep,
+    last: ProductColumn,
+}
+
+impl Model for Columns {
+    ghost use Rattle.extension.specs.Admissible.{ColumnsAfter};
+    ghost use Rattle.extension.specs.Steps.{KeepsColumns};
+
+    ghost Value = { ColumnsAfter };
+
+    ghost view = { λ columns. record { parent = columns.rep; last = columns.last.items } };
+
+    ghost invariant = { λ columns. KeepsColumns (record { parent = columns.rep; last = columns.last.items }) };
+}
+
+impl Columns {
+    /// All columns by which the representation can be extended.
+    pub fn of(rep: &Rep) -> Columns
+        requires standard { IsStandard rep.now }
+        requires simple { IsSimple rep.now }
+        requires agrees { Agrees rep.now }
+        requires room { size rep.now < 16 }
+        ensures { result ≡ record { parent = rep.now; last = [] } }
+    {
+        // The proof learns here that the representation is in range.
+        rep.size();
+        Columns {
+            rep: rep.copy(),
+            last: ProductColumn::new(),
+        }
+    }
+}
+
+impl Iterator for Columns {
+    type Item = ProductColumn;
+
+    ghost next_gives = { GivesNext };
+
+    ghost remaining = { λ columns. at_most (10 ^ 18 - value columns.last) };
+
+    fn next(&mut self) -> Option<ProductColumn> {
+        let column = next_column(&self.rep, &self.last)?;
+        self.last = copy_of(&column);
+        Some(column)
+    }
+}
+
+/// The first admissible column after the last one.
+fn next_column(rep: &Rep, last: &ProductColumn) -> Option<ProductColumn>
+    requires { KeepsColumns (record { parent = rep.now; last = last.now.items }) }
+    ensures { MatchOption result (IsLastColumn (record { parent = rep.now; last = last.now.items }))
+        (λ v. IsNextColumn (record { parent = rep.now; last = last.now.items }) v.items) }
+{
+    let factors = rep.factors();
+    let rank = rep.rank();
+    let mut before = copy_of(last);
+    while let Some(column) = following(&factors, rank, before.as_slice()) {
+        if is_admissible(rep, &column) {
+            return Some(column);
+        }
+        before = column;
+    }
+    None
+}
+
+/// The same column.
+fn copy_of(column: &ProductColumn) -> ProductColumn
+    ensures { result.items ≡ column.now.items }
+{
+    let mut copy = ProductColumn::new();
+    for code in column.as_slice() {
+        copy.push(*code);
+    }
+    copy
+}

@@ -1,0 +1,35 @@
+-- The forms of the extensions of a representation by one column.
+use Rattle.std.specs.Prelude.{◌≡◌, ◌⊎◌, ◌↔◌, ℕ, ◌<◌, List}
+use Rattle.std.specs.List.{Contains}
+use Rattle.matroid_theory.specs.declared.Mode.TheVariants.{Linear}
+use Rattle.matroid_theory.specs.Rep.{Rep, size, IsStandard}
+use Rattle.matroid_theory.specs.Matroid.{Agrees, IsSimple}
+use Rattle.matroid_theory.specs.Move.{AreEquivalent}
+use Rattle.matroid_theory.specs.Order.{IsForm}
+use Rattle.matroid_theory.specs.Level.{followed_by}
+use Rattle.extension.specs.Admissible.{IsAdmissible}
+
+abbrev pub rep_of : List ℕ → ℕ → List (List ℕ) → Rep
+rep_of factors rank columns = record { factors = factors; rank = rank; columns = columns }
+
+-- the new lists are the old ones and this one
+abbrev pub Adds : List (List (List ℕ)) → List (List (List ℕ)) → List (List ℕ) → Type 0
+Adds old new columns = (other : List (List ℕ)) → Contains new other ↔ (Contains old other ⊎ (other ≡ columns))
+
+-- what a representation is asked to be before it is extended
+pub record IsParent (P : Rep) : Type 0 where
+  pub standard : IsStandard P
+  pub simple : IsSimple P
+  pub agrees : Agrees P
+  pub room : size P < 16
+
+-- these are the columns of the form of P followed by v
+pub record IsChild (P : Rep) (v : List ℕ) (columns : List (List ℕ)) : Type 0 where
+  pub form : IsForm Linear (rep_of P.factors P.rank columns)
+  pub equivalent : AreEquivalent Linear (followed_by P v) (rep_of P.factors P.rank columns)
+
+-- the new lists are the old ones and the columns of the forms of all extensions of P
+pub record AddsChildren (P : Rep) (old new : List (List (List ℕ))) : Type 0 where
+  pub kept : (columns : List (List ℕ)) → Contains old columns → Contains new columns
+  pub sound : (columns : List (List ℕ)) → Contains new columns → Contains old columns ⊎ ((v : List ℕ) × IsAdmissible P v × IsChild P v columns)
+  pub complete : (v : List ℕ) → IsAdmissible P v → (columns : List (List ℕ)) × Contains new columns × IsChild P v columns

@@ -1,0 +1,70 @@
+// Forms in a list.
+ghost use Rattle.std.specs.Prelude.{◌≡◌, [], ◌∷◌, ◌++◌, length, slice_get, OnOk, OnErr, IfErr};
+ghost use Rattle.std.specs.Option.{option_copied};
+
+use product_rep::Rep;
+use std::alloc::{AllocError, Global};
+use std::marker::Model;
+
+/// Forms, in a list. Contracts see a list of representations.
+#[derive(Drop)]
+pub struct FormList {
+    forms: Vec<Rep>,
+}
+
+impl Model for FormList {
+    ghost use Rattle.std.specs.Prelude.{List};
+    ghost use Rattle.matroid_theory.specs.Rep.{Rep as Matrices};
+
+    ghost Value = { List Matrices };
+
+    ghost view = { λ s. s.forms.items };
+}
+
+impl FormList {
+    /// The list of no form. It takes no memory.
+    pub fn new(alloc: Global) -> FormList
+        ensures { result ≡ [] }
+    {
+        FormList {
+            forms: Vec::new(alloc),
+        }
+    }
+
+    /// The number of forms.
+    pub fn len(&self) -> usize
+        ensures { result ≡ length self.now }
+    {
+        self.forms.len()
+    }
+
+    /// Form `i`, counted from 0, where there are so many.
+    pub fn get(&self, i: usize) -> Option<&Rep>
+        ensures { option_copied result ≡ slice_get self.now i }
+    {
+        self.forms.get(i)
+    }
+
+    /// Adds a form at the end.
+    ///
+    /// # Errors
+    ///
+    /// `AllocError` where there was no memory. The list is then as it was, and the form comes back.
+    pub fn push(&mut self, form: Rep) -> Result<(), (AllocError, Rep)>
+        ensures pushed { OnOk result (self.new ≡ self.old ++ form ∷ []) }
+        ensures unchanged { OnErr result (self.new ≡ self.old) }
+        ensures handed_back { IfErr result (λ e. e.1 ≡ form) }
+    {
+        match self.forms.push(form) {
+            Ok(()) => Ok(()),
+            Err(refused) => Err((AllocError, refused.value)),
+        }
+    }
+
+    /// The forms.
+    pub(crate) fn as_slice(&self) -> &[Rep]
+        ensures { result.now ≡ self.now }
+    {
+        &self.forms
+    }
+}

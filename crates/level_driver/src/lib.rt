@@ -1,0 +1,19 @@
+//! Grows the levels of a request, one from the other.
+//!
+//! The first level is the unit columns alone. Each later one has the forms of its tries: a form of the level before,
+//! followed by a column by which it can be extended.
+#![tactic(auto)]
+
+mod filter;
+mod form_list;
+mod found;
+mod growth;
+mod level;
+
+pub use filter::passes;
+pub use form_list::FormList;
+pub use growth::grow_alone;
+pub use level::{Level, first_level};
+
+#[cfg(test)]
+mod tests;

@@ -1,0 +1,54 @@
+use super::*;
+use request_reader::read_request;
+use std::alloc::Global;
+use std::test::Fail;
+
+// The number of forms and of tries of each size that the request asks for.
+fn counts(alloc: Global, text: &str) -> Result<Vec<(usize, u128)>, Fail> {
+    let request = read_request(text.as_bytes()).ok().ok_or("refused")?;
+    let mut level = first_level(alloc, &request)?;
+    let mut counts = Vec::new(alloc);
+    counts.push((level.forms.len(), level.tried))?;
+    for _ in request.rank()..request.size() {
+        level = grow_alone(alloc, &request, &level.forms)?;
+        counts.push((level.forms.len(), level.tried))?;
+    }
+    Ok(counts)
+}
+
+#[test]
+fn forms_and_tries_of_each_size(rt: HostRuntime) -> Result<(), Fail> {
+    let table = [
+        (
+            "rank 3\nfield 2\nsize 7\n",
+            &[(1, 0), (2, 4), (1, 6), (1, 2), (1, 1)][..],
+        ),
+        (
+            "rank 3\nfield 2 x 3\nsize 7\n",
+            &[(1, 0), (2, 10), (1, 9), (1, 2), (0, 0)][..],
+        ),
+        (
+            "rank 2\nfield 4 x 4\nsize 5\n",
+            &[(1, 0), (1, 9), (2, 4), (2, 2)][..],
+        ),
+    ];
+    for (text, want) in table {
+        assert_eq!(rt; counts(rt.alloc(), text)?.as_slice(), want, "at {text:?}");
+    }
+    Ok(())
+}
+
+// The least form of each size is listed, and a place past the last form has none.
+#[test]
+fn forms_by_their_places(rt: HostRuntime) -> Result<(), Fail> {
+    let request = read_request(b"rank 2\nfield 3\nsize 2\n")
+        .ok()
+        .ok_or("refused")?;
+    let level = first_level(rt.alloc(), &request)?;
+    assert!(rt; level.forms.get(0).is_some());
+    assert!(rt; level.forms.get(1).is_none());
+    if level.forms.len() > 0 {
+        assert!(rt; passes(&request, &level.forms, 0)?);
+    }
+    Ok(())
+}
