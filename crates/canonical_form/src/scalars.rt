@@ -1,9 +1,9 @@
 // The search through the row scalars for one ordered basis.
-ghost use Rattle.std.specs.Prelude.{◌≡◌, ◌≢◌, ◌⊎◌, ◌<◌, ◌≤◌, ◌+◌, ◌*◌, ℕ, List, [], ◌∷◌, ◌++◌, IfSome, length, slice_index};
+ghost use Rattle.std.specs.Prelude.{◌≡◌, ◌≢◌, ◌⊎◌, ◌<◌, ◌+◌, ◌*◌, ℕ, List, IfSome, slice_index};
 ghost use Rattle.matroid_theory.specs.Field.{times};
-ghost use Rattle.matroid_theory.specs.Rep.{Rep as Matrices, count, order, size, IsProductColumn};
+ghost use Rattle.matroid_theory.specs.Rep.{count, order, IsProductColumn};
 ghost use Rattle.canonical_form.specs.Search.{AreOfClass, AreOtherCoordinates, AreScalars, IsCandidate, IsOrderedBasis, IsScaled};
-ghost use Rattle.canonical_form.specs.Found.{lists, IsAtMost, CoversScalars, AreFirstScalars};
+ghost use Rattle.canonical_form.specs.Found.{IsAtMost, CoversScalars, AreFirstScalars};
 
 use crate::columns::{ColumnNumbers, Columns, followed_by};
 use arrayvec::ArrayVec;
@@ -24,7 +24,7 @@ pub fn try_scalars(rep: &Rep, frame: &Frame, scalars: &ProductColumn, best: &mut
     requires scalars { AreFirstScalars rep.now scalars.now.items }
     requires sound { IfSome best.old (AreOfClass rep.now) }
     ensures sound { IfSome best.new (AreOfClass rep.now) }
-    ensures lower { (columns : List (List ℕ)) → IsAtMost best.old columns → IsAtMost best.new columns }
+    ensures lower { (others : List (List ℕ)) → IsAtMost best.old others → IsAtMost best.new others }
     ensures covers { CoversScalars rep.now frame.now.basis.items scalars.now.items best.new }
 {
     // The proof learns here that this is a representation.
@@ -36,7 +36,7 @@ pub fn try_scalars(rep: &Rep, frame: &Frame, scalars: &ProductColumn, best: &mut
         keep_less(best, candidate(rep, frame, scalars));
         return;
     }
-    // The scalars of row 0 are 1, as the scalars of the columns make up for others.
+    // Row 0 keeps the scalars 1: the scalars of the columns make up for any other choice.
     let end = if place < count {
         2
     } else {

@@ -1,5 +1,5 @@
 // The search through the ordered bases.
-ghost use Rattle.std.specs.Prelude.{◌≡◌, ◌<◌, ◌≤◌, ℕ, List, IfSome, length};
+ghost use Rattle.std.specs.Prelude.{◌≤◌, ℕ, List, IfSome, length};
 ghost use Rattle.canonical_form.specs.Search.{AreIndependentColumns, AreOfClass, IsOrderedBasis};
 ghost use Rattle.canonical_form.specs.Found.{IsAtMost, CoversBases};
 
@@ -14,7 +14,7 @@ pub fn try_bases(rep: &Rep, columns: ColumnNumbers, best: &mut Option<Columns>)
     requires few { length columns.items ≤ rep.now.rank }
     requires sound { IfSome best.old (AreOfClass rep.now) }
     ensures sound { IfSome best.new (AreOfClass rep.now) }
-    ensures lower { (columns : List (List ℕ)) → IsAtMost best.old columns → IsAtMost best.new columns }
+    ensures lower { (others : List (List ℕ)) → IsAtMost best.old others → IsAtMost best.new others }
     ensures covers { CoversBases rep.now columns.items best.new }
 {
     if columns.len() == rep.rank() {
@@ -34,7 +34,7 @@ fn try_basis(rep: &Rep, basis: ColumnNumbers, best: &mut Option<Columns>)
     requires basis { IsOrderedBasis rep.now basis.items }
     requires sound { IfSome best.old (AreOfClass rep.now) }
     ensures sound { IfSome best.new (AreOfClass rep.now) }
-    ensures lower { (columns : List (List ℕ)) → IsAtMost best.old columns → IsAtMost best.new columns }
+    ensures lower { (others : List (List ℕ)) → IsAtMost best.old others → IsAtMost best.new others }
     ensures covers { CoversBases rep.now basis.items best.new }
 {
     let coordinates = other_coordinates(rep, basis.as_slice());
