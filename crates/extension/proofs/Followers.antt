@@ -2,9 +2,8 @@
 use Rattle.std.proofs.Common.{◌≡◌, ◌≢◌, ◌↔◌, ℕ, suc, ◌+◌, ◌^◌, ◌<◌, ◌≤◌, refl, sym, ◌∙◌, ap, subst, arith, add-one, List, [], ◌∷◌, ◌++◌, Bool, true, false, ◌||◌, map, inl, inr}
 use Rattle.std.specs.Bool.{◌==◌}
 use Rattle.std.specs.List.{range_with_len}
-use Rattle.std.proofs.lemmas.Bool.{cases_lt, cases_eq, cases_Bool}
+use Rattle.std.proofs.lemmas.Bool.{cases_lt, cases_Bool}
 use mathlib.Core.Bool.{true≢false}
-use Rattle.std.proofs.lemmas.Nat.Bits.{bit_at-pow_same, bit_at-pow_other}
 use Rattle.arrayvec.specs.ArrayVec.{ArrayVec}
 use Rattle.matroid_theory.specs.Matrix.{size_below, IsIndependent}
 use Rattle.matroid_theory.specs.Rep.{Rep, size, count, order, matrix, column_of, IsShaped, IsStandard, IsRep, IsProductColumn}
@@ -61,19 +60,6 @@ module _ (M : Rep) (v : List ℕ) where
             ∙ p.columns j l (sym (new_before S j l) ∙ t)
             ∙ (λ i. map (λ r. sym (matrix_before M v f r j l) i) (range_with_len 0 M.rank));
       }))
-
-  -- the mask of one column stands for the pair of it and the new one
-  one_member : (j k : ℕ) → members (2 ^ j) k ≡ (k == j)
-  one_member j k = elim (cases_eq k j) [
-    | inl e ↦ ap (members (2 ^ j)) e ∙ ap (λ x. x == 1) (bit_at-pow_same j) ∙ sym (same_number j) ∙ ap (λ x. x == j) (sym e)
-    | inr n ↦ ap (λ x. x == 1) (bit_at-pow_other j k n) ∙ sym (other_number k j n)
-  ]
-
-  pub one_is_pair : (f j : ℕ) → IsIndependentIn (followed_by M v) f (with_new M (members (2 ^ j))) ↔ IsIndependentIn (followed_by M v) f (pair (size M) j)
-  one_is_pair f j = (
-    IsIndependent-same (order M f) M.rank (size (followed_by M v)) (matrix (followed_by M v) f) (with_new M (members (2 ^ j))) (pair (size M) j) (λ k _ i. (k == size M) || one_member j k i),
-    IsIndependent-same (order M f) M.rank (size (followed_by M v)) (matrix (followed_by M v) f) (pair (size M) j) (with_new M (members (2 ^ j))) (λ k _ i. (k == size M) || sym (one_member j k) i),
-  )
 
   -- ---- when it is simple
 

@@ -69,6 +69,15 @@ module _ (factors : List ℕ) (fs : IsFactors factors) (rank : ℕ) where
     ])
   ]
 
+  -- the lead of a normalised column
+  pub lead_of : (v : List ℕ) (lead : ℕ) → IsNormalised factors rank v → IsLead count rank v lead → (lead < rank) × ((f : ℕ) → f < count → slice_index v (lead * count + f) ≡ 1)
+  lead_of v lead n h = elim (cases_lt lead rank) [
+    | inl b ↦ (b, (let x = has_lead v lead (inr n) h in x.ones b))
+    | inr g ↦ (let m : lead ≤ rank = h.most in let l : n.lead < rank = n.lead_below in
+        let z : slice_index v (n.lead * count + 0) ≡ 0 = ap (slice_index v) (sym (row_place n.lead)) ∙ h.zeros n.lead (omega arith) in
+        let o : slice_index v (n.lead * count + 0) ≡ 1 = n.ones 0 fs.some in absurd (omega arith))
+  ]
+
   -- the code at a place, by its row and its factor
   at_place : (v : List ℕ) (p : ℕ) → slice_index v (p / count * count + p % count) ≡ slice_index v p
   at_place v p = ap (slice_index v) (whole p count fs.some)

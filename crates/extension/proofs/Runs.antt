@@ -1,6 +1,7 @@
 -- The columns that the steps have given so far, and those of a whole run.
-use Rattle.std.proofs.Common.{◌≡◌, ◌≢◌, ◌⊎◌, ℕ, ◌+◌, ◌*◌, ◌<◌, refl, sym, ◌∙◌, ap, subst, arith, List, [], ◌∷◌, ◌++◌, length, get_or, inl, inr}
+use Rattle.std.proofs.Common.{map, append_assoc, append-nil, ◌≡◌, ◌≢◌, ◌⊎◌, ℕ, ◌+◌, ◌*◌, ◌<◌, refl, sym, ◌∙◌, ap, subst, arith, List, [], ◌∷◌, ◌++◌, length, get_or, inl, inr}
 use Rattle.std.specs.List.{Contains}
+use Rattle.std.specs.Iterator.{Yields, Drains}
 use Rattle.std.specs.Cmp.{IsTotalOrder}
 use Rattle.std.specs.Cmp.Lexicographic.{slice_cmp}
 use Rattle.std.specs.Ordering.{nat_cmp, ordering_reverse}
@@ -10,14 +11,12 @@ use Rattle.std.proofs.lemmas.List.Elements.{Contains-append_left, Contains-push,
 use Rattle.std.proofs.lemmas.List.Quantifiers.{all_pairs_push}
 use Rattle.std.proofs.lemmas.Nat.{mul-add-lt}
 use Rattle.std.proofs.lemmas.Map.Lookups.{exact_bytes}
+use Rattle.arrayvec.specs.ArrayVec.{ArrayVec}
 use Rattle.matroid_theory.specs.Rep.{Rep, count}
-use Rattle.extension.specs.Admissible.{IsAdmissible, IsNextColumn, IsLastColumn, AreColumnsUpTo, AreColumns}
+use Rattle.extension.specs.Admissible.{IsAdmissible, IsNextColumn, IsLastColumn, GivesNext, AreColumnsUpTo, AreColumns, ColumnsAfter}
 
 laws : IsTotalOrder (slice_cmp nat_cmp)
 laws = nat_list_cmp_total
-
-self_not_less : (v : List ℕ) → ¬ (slice_cmp nat_cmp v v ≡ Less)
-self_not_less v l = let e : slice_cmp nat_cmp v v ≡ Equal = tied_itself laws v in cc
 
 -- of two lists one is below the other, or they are the same
 below_or_not : (v w : List ℕ) → (slice_cmp nat_cmp v w ≡ Less) ⊎ (slice_cmp nat_cmp w v ≢ Greater)
@@ -89,3 +88,21 @@ columns_end M last vs h e = record {
     (λ a. (h.exact w).1 (a, elim (below_or_not last w) [ inl l ↦ absurd (e w a l) | inr b ↦ b ])),
   );
 }
+
+-- ---- runs
+
+-- the calls give their columns at the end of those before
+yields_columns : (given : List (ArrayVec ℕ)) (s t : ColumnsAfter) (vs : List (List ℕ)) → Yields GivesNext s given t → AreColumnsUpTo s.parent s.last vs → AreColumnsUpTo t.parent t.last (vs ++ map (λ v. v.items) given)
+yields_columns [] s t vs e h = subst (λ (t : ColumnsAfter). AreColumnsUpTo t.parent t.last (vs ++ [])) e (subst (λ (vs : List (List ℕ)). AreColumnsUpTo s.parent s.last vs) (sym (append-nil vs)) h)
+yields_columns (v ∷ given) s t vs (j, (n, e), rest) h =
+    subst (λ (xs : List (List ℕ)). AreColumnsUpTo t.parent t.last xs) (append_assoc vs (v.items ∷ []) (map (λ v. v.items) given))
+    (yields_columns given j t (vs ++ v.items ∷ []) rest (subst (λ (j : ColumnsAfter). AreColumnsUpTo j.parent j.last (vs ++ v.items ∷ [])) (sym e) (columns_step s.parent s.last v.items vs h n)))
+
+yields_parent : (given : List (ArrayVec ℕ)) (s t : ColumnsAfter) → Yields GivesNext s given t → t.parent ≡ s.parent
+yields_parent [] s t e = ap (λ (t : ColumnsAfter). t.parent) (sym e)
+yields_parent (v ∷ given) s t (j, (n, e), rest) = yields_parent given j t rest ∙ ap (λ (t : ColumnsAfter). t.parent) e
+
+pub whole_run : (M : Rep) (given : List (ArrayVec ℕ)) → 0 < count M → Drains GivesNext (record { parent = M; last = [] }) given → AreColumns M (map (λ v. v.items) given)
+whole_run M given pos (u, (t, y, (e, _))) =
+    subst (λ (M : Rep). AreColumns M (map (λ v. v.items) given)) (yields_parent given (record { parent = M; last = [] }) t y)
+    (columns_end t.parent t.last (map (λ v. v.items) given) (yields_columns given (record { parent = M; last = [] }) t [] y (columns_start M pos)) e)

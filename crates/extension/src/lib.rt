@@ -7,6 +7,7 @@
 
 mod admissible;
 mod columns;
+pub mod laws;
 mod normalised;
 mod picked;
 

@@ -21,7 +21,7 @@ pub fn following(factors: &Factors, rank: usize, column: &[u8]) -> Option<Produc
 }
 
 /// The first row that isn't zero, or the rank where there is none: a row is zero where its first code is.
-fn lead(column: &[u8], count: usize, rank: usize) -> usize
+pub fn lead(column: &[u8], count: usize, rank: usize) -> usize
     requires count { count ≤ 3 }
     requires rank { rank ≤ 6 }
     ensures { IsLead count rank column.now result }

@@ -38,7 +38,7 @@ fn picked(rep: &Rep, factor: usize, set: Mask) -> ArrayVec<Column, 16>
 }
 
 /// One factor of the column.
-fn part(rep: &Rep, column: &ProductColumn, factor: usize) -> Column
+pub fn part(rep: &Rep, column: &ProductColumn, factor: usize) -> Column
     requires is_rep { IsRep rep.now }
     requires factor { factor < count rep.now }
     requires column { IsProductColumn rep.now.factors rep.now.rank column.now.items }

@@ -1,31 +1,36 @@
-use Rattle.std.proofs.Common.{◌≡◌, ◌↔◌, ◌<◌, ◌*◌, ◌^◌, ◌%◌, ℕ, Bool, true, List, arith, sym, ◌∙◌, subst, refl}
+use Rattle.std.proofs.Common.{◌≡◌, ◌<◌, ℕ, List, arith, sym, ◌∙◌, ap, subst, refl}
+use Rattle.std.specs.List.{slice_index}
 use Rattle.std.proofs.lemmas.Bool.{false≢true}
-use Rattle.std.proofs.lemmas.Nat.{one_shl}
-use Rattle.matroid_theory.specs.Rep.{Rep, size}
-use Rattle.matroid_theory.specs.Matroid.{members, IsIndependentIn}
+use Rattle.matroid_theory.specs.Rep.{size}
+use Rattle.matroid_theory.specs.Matroid.{IsIndependentIn}
 use Rattle.matroid_theory.specs.Level.{followed_by}
 use Rattle.matroid_theory.proofs.Agreement.{one_more}
 use Rattle.matroid_theory.proofs.Pairs.{pair}
-use Rattle.extension.specs.Steps.{with_new}
-use Rattle.extension.proofs.Followers.{one_is_pair}
+use Rattle.extension.proofs.Parallel.{new_rows, new_column, old_column, multiple_parallel, apart_parallel}
 use Rattle.extension.proofs.admissible.is_apart_in.Goals as goal
 
--- the answer at the mask of one column is that at the pair of it and the new one
-at_one : (M : Rep) (v : List ℕ) (f j : ℕ) (b : Bool) → j < 16 → ((b ≡ true) ↔ IsIndependentIn (followed_by M v) f (with_new M (members (1 * 2 ^ j % 65536)))) → ((b ≡ true) ↔ IsIndependentIn (followed_by M v) f (pair (size M) j))
-at_one M v f j b l h =
-    let k : (b ≡ true) ↔ IsIndependentIn (followed_by M v) f (with_new M (members (2 ^ j))) = subst (λ (x : ℕ). (b ≡ true) ↔ IsIndependentIn (followed_by M v) f (with_new M (members x))) (one_shl j 16 l) h in
-    let p : IsIndependentIn (followed_by M v) f (with_new M (members (2 ^ j))) ↔ IsIndependentIn (followed_by M v) f (pair (size M) j) = one_is_pair M v f j in
-    (λ t. p.0 (k.0 t), λ d. k.1 (p.1 d))
+-- the order of the factor, as the function reads it
+the_order : (q f : ℕ) (fs gs : List ℕ) → q ≡ slice_index gs f → gs ≡ fs → q ≡ slice_index fs f
+the_order q f fs gs e d = e ∙ ap (λ (fs : List ℕ). slice_index fs f) d
 
-pub returns-then-not-is_independent_with : goal.returns-then-not-is_independent_with
-returns-then-not-is_independent_with c =
-    let h : (c.is_independent_with.result ≡ true) ↔ IsIndependentIn (followed_by c.args.rep.now c.args.column.now.items) c.args.factor (pair (size c.args.rep.now) c.loop-j.j) = at_one c.args.rep.now c.args.column.now.items c.args.factor c.loop-j.j c.is_independent_with.result (omega arith) c.is_independent_with.ensures in
-    (λ t. absurd (false≢true t), λ d. absurd (false≢true (sym c.if-not-is_independent_with.true ∙ h.1 (d c.loop-j.j (omega arith)))))
+pub is_multiple-requires-clause-lead : goal.is_multiple-requires-clause-lead
+is_multiple-requires-clause-lead c = subst (λ (n : ℕ). c.args.lead < n) (sym (new_rows c.args.rep.now c.args.column.now.items c.requires.is_rep c.requires.room c.requires.column c.args.factor c.requires.factor c.field-field.result (the_order c.field-field.result c.args.factor c.args.rep.now.factors c.factors.result c.field-field.ensures c.factors.ensures) c.as_slice-in-loop-j.result.now (c.as_slice-in-loop-j.ensures.value ∙ c.part-part.ensures))) c.requires.lead
+
+pub is_multiple-requires-clause-column : goal.is_multiple-requires-clause-column
+is_multiple-requires-clause-column c = old_column c.args.rep.now c.args.column.now.items c.requires.is_rep c.requires.room c.requires.column c.args.factor c.requires.factor c.field-field.result (the_order c.field-field.result c.args.factor c.args.rep.now.factors c.factors.result c.field-field.ensures c.factors.ensures) c.as_slice-in-loop-j.result.now (c.as_slice-in-loop-j.ensures.value ∙ c.part-part.ensures) c.loop-j.j (let e : c.size-j-end.result ≡ size c.args.rep.now = c.size-j-end.ensures.value in omega arith) c.as_slice.result.now (c.as_slice.ensures.value ∙ c.factor_column.ensures)
+
+pub is_multiple-requires-clause-of : goal.is_multiple-requires-clause-of
+is_multiple-requires-clause-of c = new_column c.args.rep.now c.args.column.now.items c.requires.is_rep c.requires.room c.requires.column c.args.factor c.requires.factor c.field-field.result (the_order c.field-field.result c.args.factor c.args.rep.now.factors c.factors.result c.field-field.ensures c.factors.ensures) c.as_slice-in-loop-j.result.now (c.as_slice-in-loop-j.ensures.value ∙ c.part-part.ensures)
+
+pub returns-then-is_multiple : goal.returns-then-is_multiple
+returns-then-is_multiple c = (
+  λ t. absurd (false≢true t),
+  λ h. absurd (multiple_parallel c.args.rep.now c.args.column.now.items c.requires.is_rep c.requires.room c.requires.column c.args.factor c.requires.factor c.field-field.result (the_order c.field-field.result c.args.factor c.args.rep.now.factors c.factors.result c.field-field.ensures c.factors.ensures) c.as_slice-in-loop-j.result.now (c.as_slice-in-loop-j.ensures.value ∙ c.part-part.ensures) c.loop-j.j (let e : c.size-j-end.result ≡ size c.args.rep.now = c.size-j-end.ensures.value in omega arith) c.as_slice.result.now (c.as_slice.ensures.value ∙ c.factor_column.ensures) c.args.lead c.requires.lead c.requires.one (c.is_multiple.ensures.0 c.if-is_multiple.true) (h c.loop-j.j (let e : c.size-j-end.result ≡ size c.args.rep.now = c.size-j-end.ensures.value in omega arith))),
+)
 
 pub loop-j-preserved : goal.loop-j-preserved
-loop-j-preserved c =
-    let h : (c.is_independent_with.result ≡ true) ↔ IsIndependentIn (followed_by c.args.rep.now c.args.column.now.items) c.args.factor (pair (size c.args.rep.now) c.loop-j.j) = at_one c.args.rep.now c.args.column.now.items c.args.factor c.loop-j.j c.is_independent_with.result (omega arith) c.is_independent_with.ensures in
-    one_more c.loop-j.j (λ j. IsIndependentIn (followed_by c.args.rep.now c.args.column.now.items) c.args.factor (pair (size c.args.rep.now) j)) c.loop-j.invariant (h.0 c.if-not-is_independent_with.false)
+loop-j-preserved c = one_more c.loop-j.j (λ j. IsIndependentIn (followed_by c.args.rep.now c.args.column.now.items) c.args.factor (pair (size c.args.rep.now) j)) c.loop-j.invariant
+    (apart_parallel c.args.rep.now c.args.column.now.items c.requires.is_rep c.requires.room c.requires.column c.args.factor c.requires.factor c.field-field.result (the_order c.field-field.result c.args.factor c.args.rep.now.factors c.factors.result c.field-field.ensures c.factors.ensures) c.as_slice-in-loop-j.result.now (c.as_slice-in-loop-j.ensures.value ∙ c.part-part.ensures) c.loop-j.j (let e : c.size-j-end.result ≡ size c.args.rep.now = c.size-j-end.ensures.value in omega arith) c.as_slice.result.now (c.as_slice.ensures.value ∙ c.factor_column.ensures) c.args.lead c.requires.lead c.requires.one (λ m. false≢true (sym c.if-is_multiple.false ∙ c.is_multiple.ensures.1 m)))
 
 pub returns : goal.returns
 returns c = (λ _ j l. c.loop-j.invariant j (let e : c.size-j-end.result ≡ size c.args.rep.now = c.size-j-end.ensures.value in omega arith), λ _. refl)
