@@ -16,6 +16,7 @@ use Rattle.matroid_theory.proofs.Equivalence.{equivalent-symmetric}
 use Rattle.matroid_theory.proofs.Forms.{one_form}
 use Rattle.matroid_theory.proofs.Parents.{last_try}
 use Rattle.formats.specs.Request.{Request, IsWithinLimits}
+use Rattle.request_reader.specs.Plain.{plain_request}
 use Rattle.formats.specs.Entry.{Minor}
 use Rattle.formats.specs.Minors.{given_as}
 use Rattle.formats.specs.Levels.{AreGivenBy, Grows}
@@ -117,12 +118,6 @@ module _ (q : Request) (unforbidden : q.forbid ≡ []) (family : Family) (grows 
       found_each : 0 < length q.factors → q.rank ≤ n → (M : Rep) → IsLevelForm family (n + 1) M → Contains (map (rep_of q.factors q.rank) found) M
       found_each some room M f = subst (Contains (map (rep_of q.factors q.rank) found)) is (Contains-map (rep_of q.factors q.rank) found made.0 made.1)
         where
-          P : Rep
-          P = record M { columns = take n M.columns }
-
-          v : List ℕ
-          v = get_or M.columns n []
-
           split : M ≡ followed_by (record M { columns = take n M.columns }) (get_or M.columns n [])
           split =
               let m = f.member in
@@ -181,8 +176,11 @@ grows_alone q unforbidden = record {
   forbids = subst (λ (minors : List Minor). AreGivenBy (map given_as minors) []) (sym unforbidden) tt;
 }
 
--- a level of such a request that isn't its last
-module _ (q : Request) (unforbidden : q.forbid ≡ []) (limits : IsWithinLimits q) (n : ℕ) (parents : List Rep) (h : IsParentLevel q n parents) where
+-- a level of a plain request that isn't its last
+module _ (q : Request) (plain : q ≡ plain_request q.factors q.rank q.size) (limits : IsWithinLimits q) (n : ℕ) (parents : List Rep) (h : IsParentLevel q n parents) where
+  unforbidden : q.forbid ≡ []
+  unforbidden = ap (λ (q : Request). q.forbid) plain
+
   its_level : IsLevel (alone q) n parents
   its_level = h.level (alone q) (grows_alone q unforbidden)
 

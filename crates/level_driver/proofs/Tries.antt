@@ -3,7 +3,7 @@ use Rattle.std.proofs.Common.{◌≡◌, ◌⊎◌, ◌↔◌, ℕ, ◌+◌, ◌
 use Rattle.std.specs.List.{Contains, AllPairs}
 use Rattle.std.specs.declared.cmp.Ordering.TheVariants.{Less}
 use Rattle.std.proofs.lemmas.List.{take_more, take_all, get_or-take, length-take-le}
-use Rattle.std.proofs.lemmas.List.Elements.{Contains-append_left, Contains-push, Contains-push_cases}
+use Rattle.std.proofs.lemmas.List.Elements.{Contains-get_or, Contains-append_left, Contains-push, Contains-push_cases}
 use Rattle.matroid_theory.specs.Rep.{Rep}
 use Rattle.matroid_theory.specs.Order.{rep_cmp}
 use Rattle.matroid_theory.specs.Level.{IsCount}
@@ -30,12 +30,6 @@ grown_none found empty = subst (HasGrown [] 0) (sym empty) record {
 }
 
 module _ (parents : List Rep) (P : Rep) (new_one : ¬ (Contains parents P)) where
-  more : List Rep
-  more = parents ++ P ∷ []
-
-  of_last : Rep × List ℕ → Type 0
-  of_last try = (v : List ℕ) × IsAdmissible P v × ((P, v) ≡ try)
-
   two_kinds : (try : Rep × List ℕ) → IsExtension (parents ++ P ∷ []) try ↔ (IsExtension parents try ⊎ ((v : List ℕ) × IsAdmissible P v × ((P, v) ≡ try)))
   two_kinds try = (there, back)
     where
@@ -88,5 +82,15 @@ grown_step parents rising i P l is tried k found new h count adds =
     (grown_more (take i parents) P (not_before parents rising i P l is) tried k found new h count adds)
 
 -- all parents
-pub grown_all : (parents : List Rep) (i tried : ℕ) (found : List (List (List ℕ))) → length parents ≤ i → HasGrown (take i parents) tried found → HasGrown parents tried found
-grown_all parents i tried found l h = subst (λ (done : List Rep). HasGrown done tried found) (take_all i parents l) h
+pub grown_all : (parents items : List Rep) (i tried : ℕ) (found : List (List (List ℕ))) → items ≡ parents → length items ≤ i → HasGrown (take i parents) tried found → HasGrown parents tried found
+grown_all parents items i tried found same l h = subst (λ (done : List Rep). HasGrown done tried found) (take_all i parents (subst (λ (xs : List Rep). length xs ≤ i) same l)) h
+
+-- the item of a loop over the parents is one of them, at its place
+pub item_below : (parents items : List Rep) (i : ℕ) → items ≡ parents → i < length items → i < length parents
+item_below parents items i same l = subst (λ (xs : List Rep). i < length xs) same l
+
+pub item_at : (parents items : List Rep) (i : ℕ) (P : Rep) → items ≡ parents → P ≡ get_or items i P → P ≡ get_or parents i P
+item_at parents items i P same is = is ∙ ap (λ (xs : List Rep). get_or xs i P) same
+
+pub item_in : (parents items : List Rep) (i : ℕ) (P : Rep) → items ≡ parents → i < length items → P ≡ get_or items i P → Contains parents P
+item_in parents items i P same l is = subst (Contains parents) (sym (item_at parents items i P same is)) (Contains-get_or parents i P (item_below parents items i same l))
