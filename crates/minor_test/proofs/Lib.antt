@@ -1,0 +1,6 @@
+pub mod TableBits
+pub mod Images
+pub mod Embeddings
+pub mod NextImage
+pub mod Contracted
+pub mod Covered

@@ -1,0 +1,47 @@
+-- What the search for a minor goes through: a contracted set, and images of the first elements.
+use Rattle.std.specs.Prelude.{ℕ, ◌<◌, ◌≤◌, ◌≡◌, ◌+◌, ◌^◌, ◌||◌, ◌↔◌, Bool, true, IsTrue, List, [], ◌∷◌, ◌++◌, length, slice_index, bit_or}
+use Rattle.matroid_theory.specs.Matrix.{size_below}
+use Rattle.matroid_theory.specs.Rep.{Rep, size}
+use Rattle.matroid_theory.specs.Matroid.{members}
+use Rattle.matroid_theory.specs.Minor.{Matroid, image, IsMinorBy}
+use Rattle.minor_test.specs.declared.search.Tables.{Tables}
+use Rattle.minor_test.specs.declared.search.Images.{Images}
+use Rattle.minor_test.specs.Tables.{has, HasBases, HasMasks}
+
+-- N with its first k elements alone, and the bases that lie within them
+abbrev pub first : Matroid → ℕ → Matroid
+first N k = record N { size = k }
+
+-- f gives the first elements these images
+abbrev pub BeginsWith : List ℕ → (ℕ → ℕ) → Type 0
+BeginsWith images f = (x : ℕ) → x < length images → f x ≡ slice_index images x
+
+-- the tables of the bases of both
+pub record AreTables (N : Matroid) (M : Rep) (tables : Tables) : Type 0 where
+  pub minor : HasMasks N.bases tables.minor.words
+  pub whole : HasBases M tables.whole.words
+
+-- f(X) together with C, for X a set of numbers below n
+abbrev pub image_with : ℕ → (ℕ → ℕ) → (ℕ → Bool) → (ℕ → Bool) → ℕ → Bool
+image_with n f C X j = image n f X j || C j
+
+-- images of the first n elements: with C they are an embedding of these, and the masks of C and what has been reached are right
+pub record AreImagesOf (N : Matroid) (M : Rep) (C n : ℕ) (images : Images) : Type 0 where
+  pub few : n ≤ N.size
+  pub embedding : IsMinorBy (first N n) M (slice_index images.list.items) (members C)
+  pub used_below : images.used < 2 ^ size M
+  pub used : (j : ℕ) → j < size M → members images.used j ≡ image_with n (slice_index images.list.items) (members C) (λ _. true) j
+  pub sets : length images.sets.items ≡ 2 ^ n
+  pub sets_below : (X : ℕ) → X < 2 ^ n → slice_index images.sets.items X < 2 ^ size M
+  pub sets_are : (X : ℕ) → X < 2 ^ n → (j : ℕ) → j < size M → members (slice_index images.sets.items X) j ≡ image_with n (slice_index images.list.items) (members C) (members X) j
+
+abbrev pub AreImages : Matroid → Rep → ℕ → Images → Type 0
+AreImages N M C images = AreImagesOf N M C (length images.list.items) images
+
+-- the next element may have this image
+abbrev pub IsNext : Matroid → Rep → ℕ → List ℕ → ℕ → Type 0
+IsNext N M C images j = IsMinorBy (first N (length images + 1)) M (slice_index (images ++ j ∷ [])) (members C)
+
+-- each set of the first elements and the next is a basis exactly where its image with the contracted set is one
+abbrev pub CarriesNext : Tables → List ℕ → ℕ → Type 0
+CarriesNext tables sets j = (X : ℕ) → X < length sets → has tables.minor.words (length sets + X) ≡ has tables.whole.words (bit_or (slice_index sets X) (2 ^ j))
