@@ -1,9 +1,7 @@
 -- Sets that may be contracted.
-use Rattle.std.proofs.Common.{◌≡◌, ◌↔◌, ℕ, zero, suc, ◌+◌, ◌^◌, ◌<◌, ◌≤◌, refl, sym, ◌∙◌, ap, subst, arith, lit<, Bool, true, false, ◌||◌, List, [], ◌∷◌, length, IsTrue, slice_index, bit_or, max}
-use Rattle.std.specs.List.{Contains}
+use Rattle.std.proofs.Common.{◌≡◌, ℕ, zero, suc, ◌+◌, ◌^◌, ◌<◌, refl, sym, ◌∙◌, ap, subst, arith, lit<, Bool, true, false, ◌||◌, List, [], length, IsTrue, slice_index, bit_or, max}
 use Rattle.std.specs.Bool.{◌==◌}
 use Rattle.std.specs.Int.{bit_at}
-use Rattle.std.proofs.lemmas.Bool.{cases_Bool}
 use Rattle.std.proofs.lemmas.List.Elements.{Contains-get_or}
 use Rattle.std.proofs.lemmas.Nat.{or_lt}
 use Rattle.std.proofs.lemmas.Nat.Bits.{bit_at_or, bit_at-lt}
@@ -15,7 +13,7 @@ use Rattle.matroid_theory.proofs.Masks.{mask, mask-below, members-mask, IsBasis-
 use Rattle.named_matroids.specs.SmallMatroids.{IsSmallMatroid}
 use Rattle.minor_test.specs.declared.search.Tables.{Tables}
 use Rattle.minor_test.specs.declared.search.Images.{Images}
-use Rattle.minor_test.specs.Tables.{has, HasBases, HasMasks}
+use Rattle.minor_test.specs.Tables.{has}
 use Rattle.minor_test.specs.Searches.{first, AreTables, AreImagesOf, image_with}
 use Rattle.minor_test.proofs.Embeddings.{narrower, none_embedded}
 use Rattle.minor_test.proofs.NextImage.{same_from_iff}
@@ -70,9 +68,9 @@ module _ (N : Matroid) (M : Rep) (C : ℕ) (below : C < 2 ^ size M) (tables : Ta
       same_from_iff (has tables.minor.words 0) (has tables.whole.words C) (t.minor.exact 0 (lit< tt)) (t.whole.exact C below) (e.bases 0 (lit< tt))
 
   -- so with none of the elements the search may begin
-  pub begins : (images : Images) → images.list.items ≡ [] → images.used ≡ C → images.sets.items ≡ C ∷ []
-      → N.rank + size_below (size M) (members C) ≡ M.rank → has tables.minor.words 0 ≡ has tables.whole.words C → AreImagesOf N M C (length images.list.items) images
-  begins images el eu es r e = subst (λ (n : ℕ). AreImagesOf N M C n images) (sym (ap (λ (xs : List ℕ). length xs) el)) (record {
+  pub begins : (images : Images) (sets : List ℕ) → images.list.items ≡ [] → images.used ≡ C → slice_index sets 0 ≡ C
+      → N.rank + size_below (size M) (members C) ≡ M.rank → has tables.minor.words 0 ≡ has tables.whole.words C → AreImagesOf N M C (length images.list.items) images sets
+  begins images sets el eu es r e = subst (λ (n : ℕ). AreImagesOf N M C n images sets) (sym (ap (λ (xs : List ℕ). length xs) el)) (record {
     few = omega arith;
     embedding = none_embedded N M (slice_index images.list.items) (members C) r (
       (λ p. (t.whole.exact C below).0 (sym e ∙ (t.minor.exact 0 (lit< tt)).1 p)),
@@ -80,7 +78,9 @@ module _ (N : Matroid) (M : Rep) (C : ℕ) (below : C < 2 ^ size M) (tables : Ta
     );
     used_below = subst (λ (x : ℕ). x < 2 ^ size M) (sym eu) below;
     used = λ j _. ap (λ x. members x j) eu;
-    sets = ap (λ (xs : List ℕ). length xs) es;
-    sets_below = λ X l. subst (λ (xs : List ℕ). slice_index xs X < 2 ^ size M) (sym es) (let z : 0 ≡ X = omega arith in subst (λ (x : ℕ). slice_index (C ∷ []) x < 2 ^ size M) z below);
-    sets_are = λ X l j _. ap (λ (xs : List ℕ). members (slice_index xs X) j) es ∙ (let z : X ≡ 0 = omega arith in ap (λ x. members (slice_index (C ∷ []) x) j) z);
+    sets_below = λ X l. subst (λ (x : ℕ). x < 2 ^ size M) (sym (first_set X l)) below;
+    sets_are = λ X l j _. ap (λ x. members x j) (first_set X l);
   })
+    where
+      first_set : (X : ℕ) → X < 1 → slice_index sets X ≡ C
+      first_set X l = let z : X ≡ 0 = omega arith in ap (slice_index sets) z ∙ es

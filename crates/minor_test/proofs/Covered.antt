@@ -1,8 +1,8 @@
 -- What a search with these images covers.
-use Rattle.std.proofs.Common.{◌≡◌, ◌≢◌, ℕ, zero, suc, ◌+◌, ◌<◌, ◌≤◌, refl, sym, ◌∙◌, ap, subst, arith, add-one, inl, inr, List, [], ◌∷◌, ◌++◌, length, length-append, slice_index}
+use Rattle.std.proofs.Common.{◌≡◌, ℕ, ◌+◌, ◌<◌, sym, ◌∙◌, ap, arith, inl, inr, List, [], ◌∷◌, ◌++◌, length, length-append, slice_index}
 use Rattle.std.proofs.lemmas.Bool.{cases_lt}
 use Rattle.std.proofs.lemmas.List.{get_or_append_left, get_or-append-add}
-use Rattle.matroid_theory.specs.Rep.{Rep, size}
+use Rattle.matroid_theory.specs.Rep.{Rep}
 use Rattle.matroid_theory.specs.Matroid.{members}
 use Rattle.matroid_theory.specs.Minor.{Matroid, IsMinorBy}
 use Rattle.minor_test.specs.Searches.{first, BeginsWith, IsNext}

@@ -1,17 +1,17 @@
 -- Embeddings of the first elements of a matroid.
-use Rattle.std.proofs.Common.{◌≡◌, ◌≢◌, ◌↔◌, ℕ, zero, suc, ◌+◌, ◌-◌, ◌*◌, ◌^◌, ◌<◌, ◌≤◌, refl, sym, ◌∙◌, ap, subst, arith, Bool, true, false, inl, inr, ◌||◌, List, [], ◌∷◌, ◌++◌, length, add-one, lit<}
-use Rattle.std.specs.List.{Contains, slice_index}
+use Rattle.std.proofs.Common.{◌≡◌, ◌≢◌, ◌↔◌, ℕ, suc, ◌+◌, ◌-◌, ◌^◌, ◌<◌, ◌≤◌, refl, sym, ◌∙◌, ap, subst, arith, Bool, true, false, inl, inr, ◌||◌, List, [], ◌∷◌, ◌++◌, lit<}
+use Rattle.std.specs.List.{Contains}
 use Rattle.std.specs.Bool.{◌==◌}
-use Rattle.std.proofs.lemmas.Bool.{cases_lt, cases_eq}
+use Rattle.std.proofs.lemmas.Bool.{cases_lt}
 use Rattle.std.proofs.Math.Nat.{pow-le-pow_right, two-pow-succ}
-use Rattle.std.proofs.lemmas.Nat.Bits.{bit_at_above, bit_at_cat_low, bit_at_cat_high}
+use Rattle.std.proofs.lemmas.Nat.Bits.{bit_at_above}
 use Rattle.matroid_theory.specs.Matrix.{size_below}
 use Rattle.matroid_theory.specs.Rep.{Rep, size}
 use Rattle.matroid_theory.specs.Matroid.{members, IsBasis}
 use Rattle.matroid_theory.specs.Minor.{Matroid, image, IsMinorBy}
 use Rattle.matroid_theory.proofs.Masks.{mask, members-mask, size-same, IsBasis-same}
 use Rattle.matroid_theory.proofs.Bases.{size_most}
-use Rattle.minor_test.specs.Searches.{first, BeginsWith, image_with, IsNext}
+use Rattle.minor_test.specs.Searches.{first, BeginsWith, image_with}
 use Rattle.minor_test.proofs.Images.{image-same, image_narrower, size_image_with}
 
 -- no embedding begins with these images and this one

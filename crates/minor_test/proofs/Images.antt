@@ -1,9 +1,9 @@
 -- The image of a set.
-use Rattle.std.proofs.Common.{◌≡◌, ◌≢◌, ℕ, zero, suc, ◌+◌, ◌^◌, ◌<◌, ◌≤◌, refl, sym, ◌∙◌, ap, arith, Bool, true, false, inl, inr, ◌||◌, ◌&&◌}
+use Rattle.std.proofs.Common.{◌≡◌, ◌≢◌, ℕ, zero, suc, ◌+◌, ◌<◌, ◌≤◌, refl, sym, ◌∙◌, ap, arith, Bool, true, false, inl, inr, ◌||◌, ◌&&◌}
 use Rattle.std.specs.Bool.{◌==◌}
-use Rattle.std.proofs.lemmas.Bool.{cases_lt, cases_eq, cases_Bool, and_left, and_right, or_from}
+use Rattle.std.proofs.lemmas.Bool.{cases_lt, cases_eq, and_left, and_right}
 use Rattle.matroid_theory.specs.Matrix.{size_below}
-use Rattle.matroid_theory.specs.Minor.{any_below, image}
+use Rattle.matroid_theory.specs.Minor.{image}
 use Rattle.matroid_theory.proofs.Sums.{same_number, other_number}
 use Rattle.matroid_theory.proofs.Masks.{size-same}
 use Rattle.matroid_theory.proofs.Bases.{with_element, size_with}

@@ -1,10 +1,9 @@
 -- Sets of masks as tables of bits.
-use Rattle.std.specs.Prelude.{ℕ, ◌<◌, ◌≡◌, ◌^◌, ◌/◌, ◌%◌, ◌==◌, ◌↔◌, Bool, List, IsTrue, slice_index}
+use Rattle.std.specs.Prelude.{ℕ, ◌<◌, ◌^◌, ◌/◌, ◌%◌, ◌==◌, ◌↔◌, Bool, List, IsTrue, slice_index}
 use Rattle.std.specs.List.{Contains}
 use Rattle.std.specs.Int.{bit_at}
 use Rattle.matroid_theory.specs.Rep.{Rep, size}
 use Rattle.matroid_theory.specs.Matroid.{members, IsBasis}
-use Rattle.matroid_theory.specs.Minor.{Matroid}
 
 -- whether a mask is in the table: 64 masks to a word, bit by bit
 abbrev pub has : List ℕ → ℕ → Bool

@@ -1,9 +1,9 @@
 // The search for the images of the elements, with one set contracted.
-ghost use Rattle.std.specs.Prelude.{◌≡◌, ◌<◌, ◌≤◌, ◌+◌, ◌*◌, ◌^◌, ◌↔◌, ℕ, [], ◌∷◌, ◌++◌, IsTrue, IsNone, IfSome, length, map, slice_index, bit_or};
-ghost use Rattle.matroid_theory.specs.Rep.{size, IsRep};
+ghost use Rattle.std.specs.Prelude.{◌≡◌, ◌<◌, ◌≤◌, ◌+◌, ◌^◌, ◌↔◌, ℕ, [], ◌∷◌, ◌++◌, IsTrue, IsNone, IfSome, length, slice_index, bit_or};
+ghost use Rattle.matroid_theory.specs.Rep.{size};
 ghost use Rattle.matroid_theory.specs.Matroid.{members};
 ghost use Rattle.matroid_theory.specs.Minor.{IsMinorBy};
-ghost use Rattle.minor_test.specs.Searches.{first, BeginsWith, AreTables, AreImages, IsNext, CarriesNext};
+ghost use Rattle.minor_test.specs.Searches.{AgreeBelow, AreImages, AreTables, BeginsWith, CarriesNext, IsNext};
 
 use crate::table::Table;
 use arrayvec::ArrayVec;
@@ -24,30 +24,34 @@ pub struct Images {
     pub list: ArrayVec<u8, 10>,
     /// The images and the contracted set.
     pub used: Mask,
-    /// For each set of the first elements, in the order of their masks: their images and the contracted set.
-    pub sets: ArrayVec<Mask, 1024>,
 }
 
 /// Images of all elements that begin with these and are an embedding with this set contracted.
+///
+/// For each set of the first elements, in the order of their masks, `sets` has their images and the contracted set. What
+/// comes after them is written over.
 pub fn complete(
     rep: &Rep,
     minor: &Minor,
     tables: &Tables,
     contracted: Mask,
     images: &Images,
+    sets: &mut [Mask],
 ) -> Option<ArrayVec<u8, 10>>
     requires tables { AreTables minor.now rep.now tables.now }
-    requires images { AreImages minor.now rep.now contracted images.now }
+    requires images { AreImages minor.now rep.now contracted images.now sets.old }
+    requires sets { length sets.old ≡ 1024 }
     ensures found { IfSome result (λ list. IsMinorBy minor.now rep.now (slice_index list.items) (members contracted)) }
     ensures none { IsNone result → (f : ℕ → ℕ) → BeginsWith images.now.list.items f → ¬ (IsMinorBy minor.now rep.now f (members contracted)) }
+    ensures kept { AgreeBelow (2 ^ length images.now.list.items) sets.old sets.new }
 {
     if images.list.len() == minor.size() {
         return Some(copied(&images.list));
     }
     for image in 0..rep.size() {
-        if is_next(rep, minor, tables, contracted, images, image) {
-            let longer = followed_by(rep, minor, contracted, images, image);
-            let found = complete(rep, minor, tables, contracted, &longer);
+        if is_next(rep, minor, tables, contracted, images, sets, image) {
+            let longer = followed_by(rep, minor, contracted, images, sets, image);
+            let found = complete(rep, minor, tables, contracted, &longer, sets);
             if found.is_some() {
                 return found;
             }
@@ -63,10 +67,12 @@ fn is_next(
     tables: &Tables,
     contracted: Mask,
     images: &Images,
+    sets: &[Mask],
     image: usize,
 ) -> bool
     requires tables { AreTables minor.now rep.now tables.now }
-    requires images { AreImages minor.now rep.now contracted images.now }
+    requires images { AreImages minor.now rep.now contracted images.now sets.now }
+    requires sets { length sets.now ≡ 1024 }
     requires room { length images.now.list.items < minor.now.size }
     requires image { image < size rep.now }
     ensures { IsTrue result ↔ IsNext minor.now rep.now contracted images.now.list.items image }
@@ -74,14 +80,25 @@ fn is_next(
     // The proof learns here how many elements there may be.
     rep.size();
     minor.size();
-    images.used >> image & 1 == 0 && carries_next(tables, images.sets.as_slice(), image)
+    let count = set_count(images);
+    images.used >> image & 1 == 0 && carries_next(tables, &sets[..count], image)
 }
 
-/// Whether each set of the first elements and the next is a basis exactly where its image with the contracted set is one.
+/// The number of sets of the first elements.
+fn set_count(images: &Images) -> usize
+    requires { length images.now.list.items < 10 }
+    ensures value { result ≡ 2 ^ length images.now.list.items }
+    ensures few { result ≤ 512 }
+{
+    1 << images.list.len()
+}
+
+/// Whether each of the sets of elements with the next element is a basis exactly where its image with the contracted set is
+/// one.
 fn carries_next(tables: &Tables, sets: &[Mask], image: usize) -> bool
     requires image { image < 16 }
     requires few { length sets.now ≤ 512 }
-    ensures { IsTrue result ↔ CarriesNext tables.now sets.now image }
+    ensures { IsTrue result ↔ CarriesNext tables.now (length sets.now) sets.now image }
 {
     let next = sets.len() as Mask;
     for (place, set) in sets.iter().enumerate() {
@@ -92,65 +109,47 @@ fn carries_next(tables: &Tables, sets: &[Mask], image: usize) -> bool
     true
 }
 
-/// No image, with this set contracted.
-pub fn none(contracted: Mask) -> Images
-    ensures list { result.list.items ≡ [] }
-    ensures used { result.used ≡ contracted }
-    ensures sets { result.sets.items ≡ contracted ∷ [] }
-{
-    let mut sets = ArrayVec::new();
-    sets.push(contracted);
-    Images {
-        list: ArrayVec::new(),
-        used: contracted,
-        sets,
-    }
-}
-
 /// These images, and one for the next element.
-fn followed_by(rep: &Rep, minor: &Minor, contracted: Mask, images: &Images, image: usize) -> Images
-    requires images { AreImages minor.now rep.now contracted images.now }
+fn followed_by(
+    rep: &Rep,
+    minor: &Minor,
+    contracted: Mask,
+    images: &Images,
+    sets: &mut [Mask],
+    image: usize,
+) -> Images
+    requires images { AreImages minor.now rep.now contracted images.now sets.old }
+    requires sets { length sets.old ≡ 1024 }
     requires room { length images.now.list.items < minor.now.size }
     requires image { image < size rep.now }
     requires next { IsNext minor.now rep.now contracted images.now.list.items image }
     ensures list { result.list.items ≡ images.now.list.items ++ image ∷ [] }
-    ensures images { AreImages minor.now rep.now contracted result }
+    ensures images { AreImages minor.now rep.now contracted result sets.new }
+    ensures kept { AgreeBelow (2 ^ length images.now.list.items) sets.old sets.new }
 {
     // The proof learns here how many elements there may be.
     rep.size();
     minor.size();
+    add_next(sets, set_count(images), image);
     let mut list = copied(&images.list);
     list.push(image as u8);
     Images {
         list,
         used: images.used | 1 << image,
-        sets: with_next(images.sets.as_slice(), image),
     }
 }
 
-/// The sets, and then each with this element too.
-fn with_next(sets: &[Mask], element: usize) -> ArrayVec<Mask, 1024>
+/// After the first sets writes each of them again, with this element too.
+fn add_next(sets: &mut [Mask], count: usize, element: usize)
     requires element { element < 16 }
-    requires few { length sets.now ≤ 512 }
-    ensures { result.items ≡ sets.now ++ map (λ set. bit_or set (2 ^ element)) sets.now }
+    requires few { count ≤ 512 }
+    requires room { length sets.old ≡ 1024 }
+    ensures kept { AgreeBelow count sets.old sets.new }
+    ensures added { (X : ℕ) → X < count → slice_index sets.new (count + X) ≡ bit_or (slice_index sets.old X) (2 ^ element) }
 {
-    let mut all = copied_slice(sets);
-    for set in sets {
-        all.push(*set | 1 << element);
+    for place in 0..count {
+        sets[count + place] = sets[place] | 1 << element;
     }
-    all
-}
-
-/// The sets in a vector.
-fn copied_slice(sets: &[Mask]) -> ArrayVec<Mask, 1024>
-    requires { length sets.now ≤ 1024 }
-    ensures { result.items ≡ sets.now }
-{
-    let mut all = ArrayVec::new();
-    for set in sets {
-        all.push(*set);
-    }
-    all
 }
 
 /// The same images.

@@ -1,4 +1,4 @@
-ghost use Rattle.std.specs.Prelude.{◌≡◌, ◌<◌, ◌≤◌, ◌+◌, ◌^◌, ◌↔◌, ℕ, IsTrue, IsNone, IfSome, slice_index, bit_or};
+ghost use Rattle.std.specs.Prelude.{◌≡◌, ◌<◌, ◌≤◌, ◌+◌, ◌^◌, ◌↔◌, ℕ, IsTrue, IsNone, IfSome, length, slice_index, bit_or};
 ghost use Rattle.matroid_theory.specs.Rep.{size};
 ghost use Rattle.matroid_theory.specs.Matroid.{members, Agrees};
 ghost use Rattle.matroid_theory.specs.Matrix.{size_below};
@@ -6,7 +6,7 @@ ghost use Rattle.matroid_theory.specs.Minor.{IsMinorBy, IsMinor};
 ghost use Rattle.minor_test.specs.Tables.{has, HasBases};
 ghost use Rattle.minor_test.specs.Searches.{AreTables};
 
-use crate::search::{Tables, complete, none};
+use crate::search::{Images, Tables, complete};
 use crate::table::{Table, bases_of, table_of};
 use arrayvec::ArrayVec;
 use field_tables::Mask;
@@ -33,9 +33,10 @@ pub fn has_minor(rep: &Rep, minor: &Minor) -> Option<Embedding>
         minor: table_of(minor.bases()),
         whole: bases_of(rep),
     };
+    let mut sets = [0; 1024];
     for set in 0..1u32 << rep.size() {
         let contracted = set as Mask;
-        if let Some(image) = by_contracting(rep, minor, &tables, contracted) {
+        if let Some(image) = by_contracting(rep, minor, &tables, contracted, &mut sets) {
             return Some(Embedding { image, contracted });
         }
     }
@@ -52,16 +53,18 @@ fn leaves_room(rep: &Rep, minor: &Minor) -> bool
     minor.rank() <= rep.rank() && minor.size() + rep.rank() <= rep.size() + minor.rank()
 }
 
-/// Images of the elements, with this set contracted.
+/// Images of the elements, with this set contracted. The sets are written over.
 fn by_contracting(
     rep: &Rep,
     minor: &Minor,
     tables: &Tables,
     contracted: Mask,
+    sets: &mut [Mask],
 ) -> Option<ArrayVec<u8, 10>>
     requires rank { minor.now.rank ≤ rep.now.rank }
     requires set { contracted < 2 ^ size rep.now }
     requires tables { AreTables minor.now rep.now tables.now }
+    requires sets { length sets.old ≡ 1024 }
     ensures found { IfSome result (λ list. IsMinorBy minor.now rep.now (slice_index list.items) (members contracted)) }
     ensures none { IsNone result → (f : ℕ → ℕ) → ¬ (IsMinorBy minor.now rep.now f (members contracted)) }
 {
@@ -70,7 +73,12 @@ fn by_contracting(
     if !may_be_contracted(rep, minor, tables, contracted) {
         return None;
     }
-    complete(rep, minor, tables, contracted, &none(contracted))
+    let images = Images {
+        list: ArrayVec::new(),
+        used: contracted,
+    };
+    sets[0] = contracted;
+    complete(rep, minor, tables, contracted, &images, sets)
 }
 
 /// Whether the set has as many elements as the rank falls by and is in a basis, and is one exactly where the minor has the empty basis.

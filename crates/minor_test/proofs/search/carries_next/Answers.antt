@@ -1,4 +1,4 @@
-use Rattle.std.proofs.Common.{◌≡◌, ◌+◌, ◌*◌, ◌%◌, ◌^◌, below_more, sym, ◌∙◌, ap, bit_or, slice_index, true, false, not, Bool, refl}
+use Rattle.std.proofs.Common.{◌≡◌, below_more, sym, ◌∙◌, ap, bit_or, slice_index, true, false, not, Bool, refl}
 use Rattle.std.proofs.lemmas.Bool.{true≢false}
 use Rattle.std.proofs.lemmas.Nat.{one_shl}
 use mathlib.Core.Bool.{beq}
