@@ -42,6 +42,7 @@ pub fn complete(
     requires images { AreImages minor.now rep.now contracted images.now sets.old }
     requires sets { length sets.old ≡ 1024 }
     ensures found { IfSome result (λ list. IsMinorBy minor.now rep.now (slice_index list.items) (members contracted)) }
+    ensures all { IfSome result (λ list. length list.items ≡ minor.now.size) }
     ensures none { IsNone result → (f : ℕ → ℕ) → BeginsWith images.now.list.items f → ¬ (IsMinorBy minor.now rep.now f (members contracted)) }
     ensures kept { AgreeBelow (2 ^ length images.now.list.items) sets.old sets.new }
 {

@@ -24,6 +24,8 @@ pub struct Embedding {
 pub fn has_minor(rep: &Rep, minor: &Minor) -> Option<Embedding>
     requires { Agrees rep.now }
     ensures found { IfSome result (λ e. IsMinorBy minor.now rep.now (slice_index e.image.items) (members e.contracted)) }
+    ensures images { IfSome result (λ e. length e.image.items ≡ minor.now.size) }
+    ensures contracted { IfSome result (λ e. e.contracted < 2 ^ size rep.now) }
     ensures none { IsNone result → ¬ (IsMinor minor.now rep.now) }
 {
     if !leaves_room(rep, minor) {
@@ -66,6 +68,7 @@ fn by_contracting(
     requires tables { AreTables minor.now rep.now tables.now }
     requires sets { length sets.old ≡ 1024 }
     ensures found { IfSome result (λ list. IsMinorBy minor.now rep.now (slice_index list.items) (members contracted)) }
+    ensures all { IfSome result (λ list. length list.items ≡ minor.now.size) }
     ensures none { IsNone result → (f : ℕ → ℕ) → ¬ (IsMinorBy minor.now rep.now f (members contracted)) }
 {
     // The proof learns here that there is a basis.
