@@ -5,6 +5,8 @@ use Rattle.std.specs.Bool.{◌==◌}
 use Rattle.std.proofs.lemmas.Bool.{cases_lt}
 use Rattle.std.proofs.Math.Nat.{pow-le-pow_right, two-pow-succ}
 use Rattle.std.proofs.lemmas.Nat.Bits.{bit_at_above}
+use Rattle.std.proofs.Common.{Option}
+use Rattle.minor_test.specs.Twins.{KeepsOrder}
 use Rattle.matroid_theory.specs.Matrix.{size_below}
 use Rattle.matroid_theory.specs.Rep.{Rep, size}
 use Rattle.matroid_theory.specs.Matroid.{members, IsBasis}
@@ -14,12 +16,12 @@ use Rattle.matroid_theory.proofs.Bases.{size_most}
 use Rattle.minor_test.specs.Searches.{first, BeginsWith, image_with}
 use Rattle.minor_test.proofs.Images.{image-same, image_narrower, size_image_with}
 
--- no embedding begins with these images and this one
-abbrev pub IsDone : Matroid → Rep → ℕ → List ℕ → ℕ → Type 0
-IsDone N M C images j = (f : ℕ → ℕ) → BeginsWith (images ++ j ∷ []) f → ¬ (IsMinorBy N M f (members C))
+-- no embedding that keeps the order of these twins begins with these images and this one
+abbrev pub IsDone : Matroid → Rep → List (Option ℕ) → ℕ → List ℕ → ℕ → Type 0
+IsDone N M twins C images j = (f : ℕ → ℕ) → BeginsWith (images ++ j ∷ []) f → KeepsOrder twins f → ¬ (IsMinorBy N M f (members C))
 
 -- what a set is a basis exactly with
-basis_iff : {P : Type 0} (M : Rep) (S T : ℕ → Bool) → ((j : ℕ) → j < size M → S j ≡ T j) → P ↔ IsBasis M 0 S → P ↔ IsBasis M 0 T
+pub basis_iff : {P : Type 0} (M : Rep) (S T : ℕ → Bool) → ((j : ℕ) → j < size M → S j ≡ T j) → P ↔ IsBasis M 0 S → P ↔ IsBasis M 0 T
 basis_iff M S T e h = ((λ p. IsBasis-same M 0 S T e (h.0 p)), (λ b. h.1 (IsBasis-same M 0 T S (λ j l. sym (e j l)) b)))
 
 module _ (N : Matroid) (M : Rep) where

@@ -2,6 +2,7 @@
 use Rattle.std.proofs.Common.{◌≡◌, ◌≢◌, ℕ, zero, suc, ◌+◌, ◌<◌, ◌≤◌, refl, sym, ◌∙◌, ap, arith, Bool, true, false, inl, inr, ◌||◌, ◌&&◌}
 use Rattle.std.specs.Bool.{◌==◌}
 use Rattle.std.proofs.lemmas.Bool.{cases_lt, cases_eq, and_left, and_right}
+use Rattle.std.proofs.lemmas.Bool.{and_parts, or_cases, false≢true, eqb-true}
 use Rattle.matroid_theory.specs.Matrix.{size_below}
 use Rattle.matroid_theory.specs.Minor.{image}
 use Rattle.matroid_theory.proofs.Sums.{same_number, other_number}
@@ -88,3 +89,11 @@ size_image_with (suc n) m f C below apart out =
 
     free : image_with n f C (λ _. true) (f n) ≡ false
     free = or_out (image n f (λ _. true) (f n)) (C (f n)) (out n (omega arith)) ∙ image_lacks n f (λ _. true) (f n) (λ x l e. absurd (let i : x ≡ n = apart x n (omega arith) (omega arith) e in omega arith))
+
+pub image_member : (n : ℕ) (f : ℕ → ℕ) (S : ℕ → Bool) (j : ℕ) → image n f S j ≡ true → (x : ℕ) × (x < n) × (S x ≡ true) × (f x ≡ j)
+image_member zero f S j t = absurd (false≢true t)
+image_member (suc n) f S j t =
+    elim (or_cases (image n f S j) (S n && (f n == j)) t) [
+      | inl o ↦ (let (x, l, m, e) = image_member n f S j o in (x, omega arith, m, e))
+      | inr o ↦ (let (m, e) = and_parts (S n) (f n == j) o in (n, omega arith, m, eqb-true (f n) j e))
+    ]

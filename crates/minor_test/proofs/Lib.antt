@@ -4,3 +4,5 @@ pub mod Embeddings
 pub mod NextImage
 pub mod Contracted
 pub mod Covered
+pub mod Reordered
+pub mod TwinSets

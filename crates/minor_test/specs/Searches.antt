@@ -6,6 +6,7 @@ use Rattle.matroid_theory.specs.Minor.{Matroid, image, IsMinorBy}
 use Rattle.minor_test.specs.declared.search.Tables.{Tables}
 use Rattle.minor_test.specs.declared.search.Images.{Images}
 use Rattle.minor_test.specs.Tables.{has, HasBases, HasMasks}
+use Rattle.minor_test.specs.Twins.{AreTwinsOf}
 
 -- N with its first k elements alone, and the bases that lie within them
 abbrev pub first : Matroid → ℕ → Matroid
@@ -15,10 +16,11 @@ first N k = record N { size = k }
 abbrev pub BeginsWith : List ℕ → (ℕ → ℕ) → Type 0
 BeginsWith images f = (x : ℕ) → x < length images → f x ≡ slice_index images x
 
--- the tables of the bases of both
+-- the tables of the bases of both, and twins of N
 pub record AreTables (N : Matroid) (M : Rep) (tables : Tables) : Type 0 where
   pub minor : HasMasks N.bases tables.minor.words
   pub whole : HasBases M tables.whole.words
+  pub twins : AreTwinsOf N tables.twins.items
 
 -- f(X) together with C, for X a set of numbers below n
 abbrev pub image_with : ℕ → (ℕ → ℕ) → (ℕ → Bool) → (ℕ → Bool) → ℕ → Bool

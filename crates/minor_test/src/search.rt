@@ -1,8 +1,9 @@
 // The search for the images of the elements, with one set contracted.
-ghost use Rattle.std.specs.Prelude.{◌≡◌, ◌<◌, ◌≤◌, ◌+◌, ◌^◌, ◌↔◌, ℕ, [], ◌∷◌, ◌++◌, IsTrue, IsNone, IfSome, length, slice_index, bit_or};
+ghost use Rattle.std.specs.Prelude.{◌≡◌, ◌<◌, ◌≤◌, ◌+◌, ◌^◌, ◌↔◌, ℕ, [], ◌∷◌, ◌++◌, IsTrue, IsNone, IfSome, length, slice_index, slice_index_or, bit_or, Some, None};
 ghost use Rattle.matroid_theory.specs.Rep.{size};
 ghost use Rattle.matroid_theory.specs.Matroid.{members};
 ghost use Rattle.matroid_theory.specs.Minor.{IsMinorBy};
+ghost use Rattle.minor_test.specs.Twins.{KeepsOrder};
 ghost use Rattle.minor_test.specs.Searches.{AgreeBelow, AreImages, AreTables, BeginsWith, CarriesNext, IsNext};
 
 use crate::table::Table;
@@ -16,6 +17,8 @@ use product_rep::Rep;
 pub struct Tables {
     pub minor: Table,
     pub whole: Table,
+    /// For each element of the minor a twin before it, if there is one.
+    pub twins: ArrayVec<Option<u8>, 10>,
 }
 
 /// The images of the first elements.
@@ -26,7 +29,8 @@ pub struct Images {
     pub used: Mask,
 }
 
-/// Images of all elements that begin with these and are an embedding with this set contracted.
+/// Images of all elements that begin with these and are an embedding with this set contracted. Only images that keep the
+/// order of twins are gone through.
 ///
 /// For each set of the first elements, in the order of their masks, `sets` has their images and the contracted set. What
 /// comes after them is written over.
@@ -43,13 +47,15 @@ pub fn complete(
     requires sets { length sets.old ≡ 1024 }
     ensures found { IfSome result (λ list. IsMinorBy minor.now rep.now (slice_index list.items) (members contracted)) }
     ensures all { IfSome result (λ list. length list.items ≡ minor.now.size) }
-    ensures none { IsNone result → (f : ℕ → ℕ) → BeginsWith images.now.list.items f → ¬ (IsMinorBy minor.now rep.now f (members contracted)) }
+    ensures none { IsNone result → (f : ℕ → ℕ) → BeginsWith images.now.list.items f → KeepsOrder tables.now.twins.items f →
+        ¬ (IsMinorBy minor.now rep.now f (members contracted)) }
     ensures kept { AgreeBelow (2 ^ length images.now.list.items) sets.old sets.new }
 {
     if images.list.len() == minor.size() {
         return Some(copied(&images.list));
     }
-    for image in 0..rep.size() {
+    let first = first_image(tables.twins.as_slice(), images.list.as_slice());
+    for image in first..rep.size() {
         if is_next(rep, minor, tables, contracted, images, sets, image) {
             let longer = followed_by(rep, minor, contracted, images, sets, image);
             let found = complete(rep, minor, tables, contracted, &longer, sets);
@@ -59,6 +65,17 @@ pub fn complete(
         }
     }
     None
+}
+
+/// The least image of the next element that keeps the order of twins.
+fn first_image(twins: &[Option<u8>], images: &[u8]) -> usize
+    requires twins { (i : ℕ) → slice_index_or twins.now (length images.now) None ≡ Some i → i < length images.now }
+    ensures { (f : ℕ → ℕ) → BeginsWith images.now f → KeepsOrder twins.now f → result ≤ f (length images.now) }
+{
+    match twins.get(images.len()) {
+        Some(Some(twin)) => usize::from(images[usize::from(*twin)]) + 1,
+        _ => 0,
+    }
 }
 
 /// Whether the next element may have this image.

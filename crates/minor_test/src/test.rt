@@ -4,10 +4,12 @@ ghost use Rattle.matroid_theory.specs.Matroid.{members, Agrees};
 ghost use Rattle.matroid_theory.specs.Matrix.{size_below};
 ghost use Rattle.matroid_theory.specs.Minor.{IsMinorBy, IsMinor};
 ghost use Rattle.minor_test.specs.Tables.{has, HasBases};
+ghost use Rattle.minor_test.specs.Twins.{KeepsOrder};
 ghost use Rattle.minor_test.specs.Searches.{AreTables};
 
 use crate::search::{Images, Tables, complete};
 use crate::table::{Table, bases_of, table_of};
+use crate::twins::twins_of;
 use arrayvec::ArrayVec;
 use field_tables::Mask;
 use named_matroids::Minor;
@@ -31,8 +33,10 @@ pub fn has_minor(rep: &Rep, minor: &Minor) -> Option<Embedding>
     if !leaves_room(rep, minor) {
         return None;
     }
+    let table = table_of(minor.bases());
     let tables = Tables {
-        minor: table_of(minor.bases()),
+        twins: twins_of(minor, &table),
+        minor: table,
         whole: bases_of(rep),
     };
     let mut sets = [0; 1024];
@@ -69,7 +73,7 @@ fn by_contracting(
     requires sets { length sets.old ≡ 1024 }
     ensures found { IfSome result (λ list. IsMinorBy minor.now rep.now (slice_index list.items) (members contracted)) }
     ensures all { IfSome result (λ list. length list.items ≡ minor.now.size) }
-    ensures none { IsNone result → (f : ℕ → ℕ) → ¬ (IsMinorBy minor.now rep.now f (members contracted)) }
+    ensures none { IsNone result → (f : ℕ → ℕ) → KeepsOrder tables.now.twins.items f → ¬ (IsMinorBy minor.now rep.now f (members contracted)) }
 {
     // The proof learns here that there is a basis.
     minor.size();

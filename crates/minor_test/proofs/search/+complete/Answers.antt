@@ -6,6 +6,7 @@ use Rattle.matroid_theory.specs.Rep.{size}
 use Rattle.matroid_theory.specs.Matroid.{members}
 use Rattle.matroid_theory.specs.Minor.{IsMinorBy}
 use Rattle.minor_test.specs.Searches.{first, BeginsWith}
+use Rattle.minor_test.specs.Twins.{KeepsOrder}
 use Rattle.minor_test.proofs.Embeddings.{IsDone}
 use Rattle.minor_test.proofs.Covered.{begins_next, next_of}
 use Rattle.minor_test.proofs.search.+complete.Goals as goal
@@ -33,10 +34,10 @@ longer_below X longer list j e l =
 
 pub loop-image-preserved : goal.loop-image-preserved
 loop-image-preserved t c = record {
-  done = below_more (IsDone c.args.minor.now c.args.rep.now c.args.contracted c.args.images.now.list.items) c.loop-image.image c.loop-image.invariant.done
-      (λ f b h. elim c.if-is_next.branch [
+  done = below_more (λ j. c.first_image-first.result ≤ j → IsDone c.args.minor.now c.args.rep.now c.args.tables.now.twins.items c.args.contracted c.args.images.now.list.items j) c.loop-image.image c.loop-image.invariant.done
+      (λ _ f b k h. elim c.if-is_next.branch [
         | then-is_next+else-is_some w ↦ w.complete-found.ensures.none (nothing w.complete-found.result (sym w.is_some.ensures ∙ w.if-is_some.false)) f
-            (subst (λ (xs : List ℕ). BeginsWith xs f) (sym w.followed_by-longer.ensures.list) b) h
+            (subst (λ (xs : List ℕ). BeginsWith xs f) (sym w.followed_by-longer.ensures.list) b) k h
         | else-is_next w ↦ false≢true (sym w.if-is_next.false ∙ c.is_next.ensures.1
             (next_of c.args.minor.now c.args.rep.now c.args.contracted c.args.images.now.list.items c.loop-image.image f
             (room (length c.args.images.now.list.items) c.args.minor.now.size c.len.result c.size.result c.requires.images.few c.len.ensures.value c.size.ensures.value c.if-len-size.false) b h))
@@ -49,10 +50,19 @@ loop-image-preserved t c = record {
   ];
 }
 
+-- the least image, as the slices have it
+least : (first : ℕ) (images list : List ℕ) (twins items : List (Option ℕ)) (f : ℕ → ℕ) → images ≡ list → twins ≡ items
+    → (BeginsWith images f → KeepsOrder twins f → first ≤ f (length images)) → BeginsWith list f → KeepsOrder items f → first ≤ f (length list)
+least first images list twins items f e d h =
+    subst (λ (xs : List ℕ). BeginsWith xs f → KeepsOrder items f → first ≤ f (length xs)) e
+    (subst (λ (ts : List (Option ℕ)). BeginsWith images f → KeepsOrder ts f → first ≤ f (length images)) d h)
+
 pub returns-clause-none : goal.returns-clause-none
-returns-clause-none t c _ f b h =
+returns-clause-none t c _ f b k h =
     let l : length c.args.images.now.list.items < c.args.minor.now.size = room (length c.args.images.now.list.items) c.args.minor.now.size c.len.result c.size.result c.requires.images.few c.len.ensures.value c.size.ensures.value c.if-len-size.false in
     let m : f (length c.args.images.now.list.items) < size c.args.rep.now = h.injection.below (length c.args.images.now.list.items) l in
     let e : c.size-image-end.result ≡ size c.args.rep.now = c.size-image-end.ensures.value in
     let g : c.size-image-end.result ≤ c.loop-image.image = c.loop-image-test.false in
-    c.loop-image.invariant.done (f (length c.args.images.now.list.items)) (omega arith) f (begins_next c.args.images.now.list.items f b) h
+    c.loop-image.invariant.done (f (length c.args.images.now.list.items)) (omega arith)
+    (least c.first_image-first.result c.as_slice-2.result.now c.args.images.now.list.items c.as_slice.result.now c.args.tables.now.twins.items f c.as_slice-2.ensures.value c.as_slice.ensures.value (c.first_image-first.ensures f) b k)
+    f (begins_next c.args.images.now.list.items f b) k h
