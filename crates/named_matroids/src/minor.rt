@@ -1,10 +1,14 @@
 //! A matroid of few elements.
-ghost use Rattle.std.specs.Prelude.{◌≡◌};
-ghost use Rattle.named_matroids.specs.SmallMatroids.{IsSmallMatroid};
+ghost use Rattle.std.specs.Prelude.{◌≡◌, ◌-◌, ◌^◌, ◌↔◌, IsTrue};
+ghost use Rattle.std.specs.List.{Contains};
+ghost use Rattle.named_matroids.specs.SmallMatroids.{IsSmallMatroid, AreMasks, IsDual};
 
 use arrayvec::ArrayVec;
 use field_tables::Mask;
 use std::marker::Model;
+
+/// The masks of bases. Of at most 10 elements no more than 252 sets have one size.
+pub type Masks = ArrayVec<Mask, 252>;
 
 /// A matroid of 1 to 10 elements by its bases, of which there are at most 252. Contracts see its rank, its size and the
 /// rising list of the masks of its bases.
@@ -27,6 +31,14 @@ impl Model for Minor {
 }
 
 impl Minor {
+    /// The matroid of these bases.
+    pub(crate) fn of(rank: u8, size: u8, bases: Masks) -> Minor
+        requires { IsSmallMatroid (record { rank = rank; size = size; bases = bases.items }) }
+        ensures { result ≡ record { rank = rank; size = size; bases = bases.items } }
+    {
+        Minor { rank, size, bases }
+    }
+
     /// The rank, from 0 to the size.
     pub fn rank(&self) -> usize
         ensures { result ≡ self.now.rank }
@@ -63,4 +75,35 @@ impl Minor {
             bases,
         }
     }
+
+    /// The dual: its bases are the complements of the bases.
+    pub(crate) fn dual(&self) -> Minor
+        ensures { IsDual self.now result }
+    {
+        let size = self.size();
+        let bases = complements(self);
+        Minor::of((size - self.rank()) as u8, size as u8, bases)
+    }
+}
+
+/// Whether the set is a basis.
+fn has_basis(matroid: &Minor, set: Mask) -> bool
+    ensures { IsTrue result ↔ Contains matroid.now.bases set }
+{
+    matroid.bases().contains(&set)
+}
+
+/// The sets whose complement is a basis, from the lowest mask up.
+fn complements(matroid: &Minor) -> Masks
+    ensures { AreMasks matroid.now.size (λ X. Contains matroid.now.bases (2 ^ matroid.now.size - 1 - X)) result.items }
+{
+    let size = matroid.size();
+    let whole = (1u32 << size) - 1;
+    let mut sets = ArrayVec::new();
+    for set in 0..1u32 << size {
+        if has_basis(matroid, (whole - set) as Mask) {
+            sets.push(set as Mask);
+        }
+    }
+    sets
 }
