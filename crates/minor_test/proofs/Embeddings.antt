@@ -38,7 +38,7 @@ module _ (N : Matroid) (M : Rep) where
   }
 
   -- and of the contracted set the numbers of columns
-  pub contracted-same : (f : ℕ → ℕ) (C D : ℕ → Bool) → ((j : ℕ) → j < size M → C j ≡ D j) → IsMinorBy N M f C → IsMinorBy N M f D
+  contracted-same : (f : ℕ → ℕ) (C D : ℕ → Bool) → ((j : ℕ) → j < size M → C j ≡ D j) → IsMinorBy N M f C → IsMinorBy N M f D
   contracted-same f C D e h = record {
     injection = h.injection;
     outside = λ x l. sym (e (f x) (h.injection.below x l)) ∙ h.outside x l;

@@ -13,15 +13,6 @@ use Rattle.minor_test.proofs.Reordered.{swapped_first, swapped_second, swapped_o
 
 -- ---- the exchange in a mask
 
-pub exchanged_same : (X i j x : ℕ) → i < j → bit_at X i ≡ bit_at X j → members X x ≡ members X (swapped i j x)
-exchanged_same X i j x l e = elim (swapped_cases i j x) [
-  | inl s ↦ ap (members X) s ∙ ap (λ b. b == 1) e ∙ sym (ap (λ y. members X (swapped i j y)) s ∙ ap (members X) (swapped_first i j))
-  | inr h ↦ elim h [
-    | inl s ↦ ap (members X) s ∙ ap (λ b. b == 1) (sym e) ∙ sym (ap (λ y. members X (swapped i j y)) s ∙ ap (members X) (swapped_second i j l))
-    | inr (n, m) ↦ sym (ap (members X) (swapped_other i j x n m))
-  ]
-]
-
 -- of two bits that differ, each is what the other is not
 other_bit : (a b : ℕ) → a < 2 → b < 2 → a ≢ b → ((a + 1) % 2 == 1) ≡ (b == 1)
 other_bit zero zero l m n = absurd (n refl)
