@@ -10,3 +10,6 @@ pub use search::isomorphism;
 
 /// Labels of at most 16 elements: where each goes.
 pub type Labels = ArrayVec<u8, 16>;
+
+#[cfg(test)]
+mod tests;
