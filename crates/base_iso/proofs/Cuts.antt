@@ -1,7 +1,7 @@
 -- The cuts lose no isomorphism, and one more label keeps what labels keep.
-use Rattle.std.proofs.Common.{◌≡◌, ◌≢◌, ℕ, ◌+◌, ◌-◌, ◌<◌, ◌≤◌, ◌^◌, sym, ◌∙◌, ap, subst, refl, arith, Bool, true, false, List, [], ◌∷◌, ◌++◌, length, inl, inr, get_or, length-append, ◌↔◌}
+use Rattle.std.proofs.Common.{◌≡◌, ℕ, ◌+◌, ◌-◌, ◌<◌, ◌≤◌, ◌^◌, sym, ◌∙◌, ap, subst, refl, arith, Bool, true, false, List, [], ◌∷◌, ◌++◌, length, inl, inr, length-append, ◌↔◌}
 use Rattle.std.specs.Bool.{◌==◌, Decides}
-use Rattle.std.specs.List.{Contains, IsAnyAnswer, slice_index, slice_index_or}
+use Rattle.std.specs.List.{Contains, IsAnyAnswer, slice_index}
 use Rattle.std.proofs.lemmas.Bool.Decides.{Decides-eqb}
 use Rattle.std.proofs.lemmas.List.Elements.{contains_decides, Decides-contains}
 use Rattle.std.proofs.lemmas.Bool.{cases_lt, cases_eq, iff_false}
@@ -11,9 +11,8 @@ use Rattle.std.proofs.lemmas.List.{get_or_default}
 use Rattle.matroid_theory.specs.Matroid.{members}
 use Rattle.matroid_theory.specs.Minor.{Matroid, AreIsomorphicBy}
 use Rattle.matroid_theory.specs.Move.{ArePermutation}
-use Rattle.base_iso.specs.Started.{AreLabels, IsImage, IsLast, CarriesBases, Begins, NoneBegins}
+use Rattle.base_iso.specs.Started.{AreLabels, IsImage, CarriesBases, CarriesLast, KeepsCount, Begins, NoneBegins}
 use Rattle.base_iso.specs.Counted.{AreAlike}
-use Rattle.base_iso.proofs.Places.{stands}
 use Rattle.base_iso.proofs.Inverses.{is_mask, no_member}
 
 -- the images of bases under an isomorphism that begins with the labels are bases
@@ -58,13 +57,11 @@ pub is_old : (labels v : List ℕ) (x : ℕ) (r : Bool) → v ≡ labels → IsA
 is_old labels v x r e a t = subst (λ (xs : List ℕ). Contains xs x) e ((contains_is v x r a).0 t)
 
 -- whether bases are carried, under the names that the code has for the lists
-pub carried_named : (M N : Matroid) (xs ys labels v : List ℕ) (r : Bool) → xs ≡ M.bases → ys ≡ N.bases → v ≡ labels
-    → ((r ≡ true) ↔ ((X Y : ℕ) → IsLast v X → Contains xs X → IsImage v X Y → Contains ys Y))
-    → ((r ≡ true) ↔ ((X Y : ℕ) → IsLast labels X → Contains M.bases X → IsImage labels X Y → Contains N.bases Y))
-carried_named M N xs ys labels v r d e k h =
-    subst (λ (as_ : List ℕ). (r ≡ true) ↔ ((X Y : ℕ) → IsLast labels X → Contains as_ X → IsImage labels X Y → Contains N.bases Y)) d
-    (subst (λ (ys : List ℕ). (r ≡ true) ↔ ((X Y : ℕ) → IsLast labels X → Contains xs X → IsImage labels X Y → Contains ys Y)) e
-    (subst (λ (ls : List ℕ). (r ≡ true) ↔ ((X Y : ℕ) → IsLast ls X → Contains xs X → IsImage ls X Y → Contains ys Y)) k h))
+pub carried_named : (xs ys as_ bs labels : List ℕ) (r : Bool) → xs ≡ as_ → ys ≡ bs → ((r ≡ true) ↔ CarriesLast xs ys labels) → ((r ≡ true) ↔ CarriesLast as_ bs labels)
+carried_named xs ys as_ bs labels r d e h = subst (λ (xs : List ℕ). (r ≡ true) ↔ CarriesLast xs bs labels) d (subst (λ (zs : List ℕ). (r ≡ true) ↔ CarriesLast xs zs labels) e h)
+
+pub count_named : (xs ys as_ bs labels : List ℕ) (r : Bool) → xs ≡ as_ → ys ≡ bs → ((r ≡ true) ↔ KeepsCount xs ys labels) → ((r ≡ true) ↔ KeepsCount as_ bs labels)
+count_named xs ys as_ bs labels r d e h = subst (λ (xs : List ℕ). (r ≡ true) ↔ KeepsCount xs bs labels) d (subst (λ (zs : List ℕ). (r ≡ true) ↔ KeepsCount xs zs labels) e h)
 
 module _ (labels longer : List ℕ) (j : ℕ) (e : longer ≡ labels ++ j ∷ []) where
   pub longer-length : length longer ≡ length labels + 1
@@ -106,7 +103,7 @@ module _ (labels longer : List ℕ) (j : ℕ) (e : longer ≡ labels ++ j ∷ []
   }
 
   -- what is carried before and with the last element is carried
-  pub more_carried : (M N : Matroid) → CarriesBases M N labels → ((X Y : ℕ) → IsLast longer X → Contains M.bases X → IsImage longer X Y → Contains N.bases Y) → CarriesBases M N longer
+  pub more_carried : (M N : Matroid) → CarriesBases M N labels → CarriesLast M.bases N.bases longer → CarriesBases M N longer
   more_carried M N h g X Y l m y = elim (cases_lt X (2 ^ length labels)) [
     | inl b ↦ h X Y b m (image_before X Y b y)
     | inr b ↦ (let s : length labels ≡ length longer - 1 = (let s : length longer ≡ length labels + 1 = longer-length in omega arith) in

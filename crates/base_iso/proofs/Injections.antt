@@ -1,6 +1,6 @@
 -- A map that is one to one on a list without repeats.
-use Rattle.std.proofs.Common.{◌≡◌, ◌≢◌, ℕ, zero, suc, ◌+◌, ◌<◌, ◌≤◌, sym, ◌∙◌, ap, subst, refl, arith, Bool, true, false, cond, List, [], ◌∷◌, length, inl, inr}
-use Rattle.std.specs.List.{AllPairs, Contains, All, slice_index_or, remove, count_by}
+use Rattle.std.proofs.Common.{◌≡◌, ◌≢◌, ℕ, suc, ◌+◌, ◌<◌, ◌≤◌, sym, ◌∙◌, ap, subst, refl, arith, Bool, true, false, cond, List, [], ◌∷◌, length, inl, inr}
+use Rattle.std.specs.List.{AllPairs, Contains, slice_index_or, remove, count_by}
 use Rattle.std.specs.List.Sorted.{IsStrictlyIncreasing}
 use Rattle.std.proofs.lemmas.Bool.{cases_Bool, cond-true}
 use Rattle.std.proofs.lemmas.List.{get_or_default}

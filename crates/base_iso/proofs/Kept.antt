@@ -1,7 +1,7 @@
 -- What an isomorphism keeps: the number of bases, and the numbers of bases that hold given elements.
-use Rattle.std.proofs.Common.{◌≡◌, ◌≢◌, ℕ, zero, suc, ◌+◌, ◌-◌, ◌<◌, ◌≤◌, ◌^◌, sym, ◌∙◌, ap, subst, refl, arith, Bool, true, false, cond, ◌&&◌, List, [], ◌∷◌, length, inl, inr}
+use Rattle.std.proofs.Common.{◌≡◌, ℕ, zero, suc, ◌+◌, ◌-◌, ◌<◌, ◌≤◌, ◌^◌, sym, ◌∙◌, ap, subst, refl, arith, Bool, true, cond, ◌&&◌, List, [], ◌∷◌, length}
 use Rattle.std.specs.Bool.{◌==◌}
-use Rattle.std.specs.List.{AllPairs, Contains, All, slice_index, count_by}
+use Rattle.std.specs.List.{Contains, slice_index, count_by}
 use Rattle.std.proofs.lemmas.Bool.{and_parts, and_from}
 use Rattle.std.proofs.lemmas.List.Elements.{All-contains}
 use Rattle.std.proofs.lemmas.List.Sums.{sum_by-cons}
@@ -11,21 +11,20 @@ use Rattle.arrayvec.specs.ArrayVec.{ArrayVec}
 use Rattle.matroid_theory.specs.Matrix.{size_below}
 use Rattle.matroid_theory.specs.Matroid.{members}
 use Rattle.matroid_theory.specs.Minor.{Matroid, AreIsomorphicBy}
-use Rattle.matroid_theory.specs.Move.{ArePermutation}
 use Rattle.matroid_theory.proofs.Counts.{size_relabelled}
 use Rattle.matroid_theory.proofs.Masks.{size-same}
 use Rattle.bases.specs.BaseLists.{IsBaseList}
-use Rattle.base_iso.specs.Started.{Begins, AreLabels}
-use Rattle.base_iso.specs.Counted.{pair_count, row, AreDegrees, ArePairCounts, ArePairCountsOf, IsSquare, KeepsLastCounts, AreAlike}
+use Rattle.base_iso.specs.Started.{Begins}
+use Rattle.base_iso.specs.Counted.{pair_count, row, AreDegrees, ArePairCounts, IsSquare, KeepsLastCounts, AreAlike}
 use Rattle.base_iso.proofs.Injections.{count_most, count_all, rising_apart}
 use Rattle.base_iso.proofs.Inverses.{relabelled, relabelled-below, relabelled-members, relabelled_apart, inverse_isomorphism}
 
 -- the bases that pass P go one to one to bases that pass Q, where sets that pass P go to sets that pass Q
 pub passing_most : (M N : Matroid) (p u : ℕ → ℕ) → AreIsomorphicBy M N p u → IsBaseList M → (P Q : ℕ → Bool)
-    → ((X Y : ℕ) → ((j : ℕ) → j < M.size → members Y (p j) ≡ members X j) → P X ≡ true → Q Y ≡ true) → count_by P M.bases ≤ count_by Q N.bases
+    → ((X Y : ℕ) → X < 2 ^ M.size → Y < 2 ^ M.size → ((j : ℕ) → j < M.size → members Y (p j) ≡ members X j) → P X ≡ true → Q Y ≡ true) → count_by P M.bases ≤ count_by Q N.bases
 passing_most M N p u h a P Q g =
     count_most M.bases N.bases (rising_apart M.bases a.rising) P Q f
-    (λ X m y. ((h.bases X (f X) (below X m) (relabelled-below M.size p u h.labels X) (relabelled-members M.size p u h.labels X)).0 m, g X (f X) (relabelled-members M.size p u h.labels X) y))
+    (λ X m y. ((h.bases X (f X) (below X m) (relabelled-below M.size p u h.labels X) (relabelled-members M.size p u h.labels X)).0 m, g X (f X) (below X m) (relabelled-below M.size p u h.labels X) (relabelled-members M.size p u h.labels X) y))
     (λ X Y m o e. relabelled_apart M.size p u h.labels X Y (below X m) (below Y o) e)
   where
     f : ℕ → ℕ
@@ -39,9 +38,9 @@ module _ (M N : Matroid) (p u : ℕ → ℕ) (h : AreIsomorphicBy M N p u) (a : 
   pub pair_kept : (i j : ℕ) → i < M.size → j < M.size → pair_count M.bases i j ≡ pair_count N.bases (p i) (p j)
   pair_kept i j l m =
       let there : pair_count M.bases i j ≤ pair_count N.bases (p i) (p j) = passing_most M N p u h a (λ X. members X i && members X j) (λ Y. members Y (p i) && members Y (p j))
-      (λ X Y e t. let s = and_parts (members X i) (members X j) t in and_from (members Y (p i)) (members Y (p j)) (e i l ∙ s.0) (e j m ∙ s.1)) in
+      (λ X Y _ _ e t. let s = and_parts (members X i) (members X j) t in and_from (members Y (p i)) (members Y (p j)) (e i l ∙ s.0) (e j m ∙ s.1)) in
       let back : pair_count N.bases (p i) (p j) ≤ pair_count M.bases i j = passing_most N M u p (inverse_isomorphism M N p u h) b (λ Y. members Y (p i) && members Y (p j)) (λ X. members X i && members X j)
-      (λ Y X e t. let s = and_parts (members Y (p i)) (members Y (p j)) t in and_from (members X i) (members X j) (came Y X e i l ∙ s.0) (came Y X e j m ∙ s.1)) in
+      (λ Y X _ _ e t. let s = and_parts (members Y (p i)) (members Y (p j)) t in and_from (members X i) (members X j) (came Y X e i l ∙ s.0) (came Y X e j m ∙ s.1)) in
       omega arith
     where
       came : (Y X : ℕ) → ((j : ℕ) → j < N.size → members X (u j) ≡ members Y j) → (i : ℕ) → i < M.size → members X i ≡ members Y (p i)
@@ -49,8 +48,8 @@ module _ (M N : Matroid) (p u : ℕ → ℕ) (h : AreIsomorphicBy M N p u) (a : 
 
   number_kept : length N.bases ≡ length M.bases
   number_kept =
-      let there : count_by (λ _. true) M.bases ≤ count_by (λ _. true) N.bases = passing_most M N p u h a (λ _. true) (λ _. true) (λ X Y e t. refl) in
-      let back : count_by (λ _. true) N.bases ≤ count_by (λ _. true) M.bases = passing_most N M u p (inverse_isomorphism M N p u h) b (λ _. true) (λ _. true) (λ Y X e t. refl) in
+      let there : count_by (λ _. true) M.bases ≤ count_by (λ _. true) N.bases = passing_most M N p u h a (λ _. true) (λ _. true) (λ X Y _ _ e t. refl) in
+      let back : count_by (λ _. true) N.bases ≤ count_by (λ _. true) M.bases = passing_most N M u p (inverse_isomorphism M N p u h) b (λ _. true) (λ _. true) (λ Y X _ _ e t. refl) in
       let s : count_by (λ _. true) M.bases ≡ length M.bases = count_all M.bases in
       let t : count_by (λ _. true) N.bases ≡ length N.bases = count_all N.bases in
       omega arith

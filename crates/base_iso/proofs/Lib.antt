@@ -6,3 +6,4 @@ mod Whole
 mod Cuts
 mod Images
 mod Searches
+mod Within

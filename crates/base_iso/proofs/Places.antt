@@ -1,6 +1,6 @@
 -- Places in a list of labels: n different labels below n are a permutation.
-use Rattle.std.proofs.Common.{◌≡◌, ◌≢◌, ℕ, zero, suc, ◌+◌, ◌<◌, ◌≤◌, sym, ◌∙◌, ap, subst, refl, arith, List, [], ◌∷◌, length, inl, inr, ◌⊎◌}
-use Rattle.std.specs.List.{AllPairs, Contains, All, slice_index, slice_index_or}
+use Rattle.std.proofs.Common.{◌≡◌, ◌≢◌, ℕ, zero, suc, ◌<◌, ◌≤◌, sym, ◌∙◌, subst, refl, arith, List, [], ◌∷◌, length, inl, inr, ◌⊎◌}
+use Rattle.std.specs.List.{AllPairs, Contains, slice_index}
 use Rattle.std.proofs.lemmas.Bool.{cases_lt, cases_eq, cases_order}
 use Rattle.std.proofs.lemmas.List.{get_or_default}
 use Rattle.matroid_theory.specs.Move.{ArePermutation}

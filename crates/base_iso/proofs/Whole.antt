@@ -1,6 +1,6 @@
 -- Labels of all elements that carry bases to bases, of equally many, are an isomorphism.
-use Rattle.std.proofs.Common.{◌≡◌, ◌≢◌, ℕ, zero, suc, ◌+◌, ◌<◌, ◌≤◌, ◌^◌, sym, ◌∙◌, ap, subst, refl, arith, Bool, true, false, List, [], ◌∷◌, length, inl, inr, ◌⊎◌}
-use Rattle.std.specs.List.{AllPairs, Contains, slice_index, slice_index_or, count_by}
+use Rattle.std.proofs.Common.{◌≡◌, ◌≢◌, ℕ, zero, suc, ◌<◌, ◌≤◌, ◌^◌, sym, ◌∙◌, ap, subst, refl, arith, true, List, ◌∷◌, length, inl, inr}
+use Rattle.std.specs.List.{AllPairs, Contains, slice_index, count_by}
 use Rattle.std.proofs.lemmas.Bool.{cases_lt}
 use Rattle.std.proofs.lemmas.List.{get_or_default}
 use Rattle.std.proofs.lemmas.List.Elements.{All-contains}
@@ -11,7 +11,7 @@ use Rattle.bases.specs.BaseLists.{IsBaseList}
 use Rattle.base_iso.specs.Started.{AreLabels, IsImage, CarriesBases}
 use Rattle.base_iso.specs.Counted.{AreAlike}
 use Rattle.base_iso.proofs.Injections.{count_most, count_all, rising_apart}
-use Rattle.base_iso.proofs.Places.{place, place_at, labels_permute, stands}
+use Rattle.base_iso.proofs.Places.{place, labels_permute, stands}
 use Rattle.base_iso.proofs.Inverses.{relabelled, relabelled-below, relabelled-members, relabelled_apart, same_mask, no_member}
 
 module _ (M N : Matroid) (a : IsBaseList M) (s : AreAlike M N) (labels : List ℕ) (h : AreLabels M.size labels) (full : length labels ≡ M.size) (c : CarriesBases M N labels) where

@@ -1,5 +1,5 @@
 -- How many bases hold given elements.
-use Rattle.std.specs.Prelude.{ℕ, ◌<◌, ◌≡◌, ◌↔◌, ◌-◌, ◌&&◌, Bool, List, [], length, slice_index, slice_index_or, count_by}
+use Rattle.std.specs.Prelude.{ℕ, ◌<◌, ◌≡◌, ◌↔◌, ◌-◌, ◌&&◌, List, [], length, slice_index, slice_index_or, count_by}
 use Rattle.std.specs.List.{Contains}
 use Rattle.arrayvec.specs.ArrayVec.{ArrayVec}
 use Rattle.matroid_theory.specs.Matroid.{members}

@@ -1,5 +1,5 @@
 -- Labels that are given element by element, and images of sets under them.
-use Rattle.std.specs.Prelude.{ℕ, ◌<◌, ◌-◌, ◌≤◌, ◌^◌, ◌≡◌, ◌≢◌, List, length, slice_index, false}
+use Rattle.std.specs.Prelude.{ℕ, ◌<◌, ◌-◌, ◌≤◌, ◌^◌, ◌≡◌, ◌≢◌, ◌==◌, nat_lt, bit_or, count_by, List, length, slice_index, false}
 use Rattle.std.specs.List.{Contains}
 use Rattle.matroid_theory.specs.Matroid.{members}
 use Rattle.matroid_theory.specs.Minor.{Matroid, AreIsomorphicBy}
@@ -22,6 +22,16 @@ CarriesBases M N labels = (X Y : ℕ) → X < 2 ^ length labels → Contains M.b
 -- the last element that has a label is the greatest of X
 abbrev pub IsLast : List ℕ → ℕ → Type 0
 IsLast labels X = (2 ^ (length labels - 1) ≤ X) × (X < 2 ^ length labels)
+
+-- each set of xs whose greatest element is the last that has a label goes to a set of ys
+abbrev pub CarriesLast : List ℕ → List ℕ → List ℕ → Type 0
+CarriesLast xs ys labels = (X Y : ℕ) → IsLast labels X → Contains xs X → IsImage labels X Y → Contains ys Y
+
+-- as many of the sets xs have labelled elements alone as of the sets ys have labels alone
+abbrev pub KeepsCount : List ℕ → List ℕ → List ℕ → Type 0
+KeepsCount xs ys labels =
+    (W : ℕ) → IsImage labels (2 ^ 16 - 1) W →
+    count_by (λ X. nat_lt X (2 ^ length labels)) xs ≡ count_by (λ Y. bit_or Y W == W) ys
 
 -- p gives the first elements these labels
 abbrev pub Begins : List ℕ → (ℕ → ℕ) → Type 0

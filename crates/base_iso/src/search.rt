@@ -1,11 +1,11 @@
 //! The search for an isomorphism, element by element.
-ghost use Rattle.std.specs.Prelude.{◌≡◌, ◌<◌, ◌≤◌, ◌++◌, ◌∷◌, [], ℕ, IfSome, IsNone, length, slice_index};
+ghost use Rattle.std.specs.Prelude.{◌≡◌, ◌<◌, ◌≤◌, ◌++◌, ◌∷◌, [], ℕ, IfSome, IsNone, IsTrue, false, length, slice_index};
 ghost use Rattle.matroid_theory.specs.Minor.{AreIsomorphicBy};
-ghost use Rattle.base_iso.specs.Started.{AreLabels, CarriesBases, NoneBegins};
+ghost use Rattle.base_iso.specs.Started.{AreLabels, CarriesBases, CarriesLast, NoneBegins};
 ghost use Rattle.base_iso.specs.Counted.{ArePairCounts, AreAlike};
 
 use crate::Labels;
-use crate::carried::carries_last;
+use crate::carried::{carries_last, keeps_count};
 use crate::counts::{PairCounts, keeps_last_counts, may_be_isomorphic, pair_counts};
 use bases::BaseList;
 
@@ -54,8 +54,7 @@ fn try_labels(a: &BaseList, b: &BaseList, counts: &Counts, labels: Labels) -> Op
     None
 }
 
-/// These labels followed by one more; none where no isomorphism begins so, as far as the pair counts of the last element and
-/// the bases of labelled elements tell.
+/// These labels followed by one more; none where a cut shows that no isomorphism begins so.
 fn extended(
     a: &BaseList,
     b: &BaseList,
@@ -75,20 +74,36 @@ fn extended(
     ensures bases { IfSome result (λ longer. CarriesBases a.now b.now longer.items) }
     ensures none { IsNone result → NoneBegins a.now b.now (labels.now.items ++ label ∷ []) }
 {
-    // The proof learns here what the lists keep.
+    // The proof learns here that there are at most 16 elements.
     a.size();
-    b.size();
     if labels.as_slice().contains(&label) {
         return None;
     }
     let longer = followed_by(labels, label);
-    if keeps_last_counts(&counts.of_a, &counts.of_b, longer.as_slice())
-        && carries_last(a.bases(), b.bases(), longer.as_slice())
-    {
+    if may_begin(a, b, counts, longer.as_slice()) {
         Some(longer)
     } else {
         None
     }
+}
+
+/// Whether an isomorphism may give the first elements these labels, as far as the last of them tells: by its pair counts, by
+/// the number of bases of labelled elements, and by those of them that it is in.
+fn may_begin(a: &BaseList, b: &BaseList, counts: &Counts, labels: &[u8]) -> bool
+    requires alike { AreAlike a.now b.now }
+    requires of_a { ArePairCounts a.now counts.now.of_a.items }
+    requires of_b { ArePairCounts b.now counts.now.of_b.items }
+    requires labels { AreLabels a.now.size labels.now }
+    requires some { 0 < length labels.now }
+    ensures bases { IsTrue result → CarriesLast a.now.bases b.now.bases labels.now }
+    ensures none { result ≡ false → NoneBegins a.now b.now labels.now }
+{
+    // The proof learns here what the lists keep.
+    a.size();
+    b.size();
+    keeps_last_counts(&counts.of_a, &counts.of_b, labels)
+        && keeps_count(a.bases(), b.bases(), labels)
+        && carries_last(a.bases(), b.bases(), labels)
 }
 
 /// These labels followed by one more.

@@ -1,4 +1,4 @@
-use Rattle.std.proofs.Common.{ℕ, ◌+◌, ◌≢◌, sym, ap, subst, false, ◌<◌, ◌≡◌}
+use Rattle.std.proofs.Common.{ℕ, ◌+◌, sym, subst}
 use Rattle.base_iso.proofs.Images.{IsImageBelow, one_in, one_out}
 use Rattle.base_iso.proofs.carried.image.Goals as goal
 use Rattle.base_iso.proofs.carried.image.Goals.{then-set-i-eq1, else-set-i-eq1}

@@ -1,4 +1,4 @@
-use Rattle.std.proofs.Common.{◌≡◌, ◌<◌, ℕ, sym, ◌∙◌, ap, List}
+use Rattle.std.proofs.Common.{ℕ, sym, ◌∙◌, ap, List}
 use Rattle.std.specs.Bool.{◌==◌}
 use Rattle.std.specs.List.{count_by, slice_index}
 use Rattle.base_iso.proofs.Kept.{degrees_kept}

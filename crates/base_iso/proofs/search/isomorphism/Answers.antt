@@ -1,4 +1,3 @@
-use Rattle.std.proofs.Common.{refl}
 use Rattle.base_iso.proofs.Cuts.{none_carried}
 use Rattle.base_iso.proofs.search.isomorphism.Goals as goal
 
