@@ -1,10 +1,9 @@
 //! The images of bases under labels.
-ghost use Rattle.std.specs.Prelude.{◌≡◌, ◌<◌, ◌≤◌, ◌^◌, ◌↔◌, ◌+◌, ◌==◌, ℕ, IsTrue, length, count_by, nat_lt, bit_or};
+ghost use Rattle.std.specs.Prelude.{◌≡◌, ◌<◌, ◌↔◌, ◌==◌, IsTrue, length, count_by, nat_lt, bit_or};
 ghost use Rattle.std.specs.List.{Contains};
 ghost use Rattle.std.specs.List.Sorted.{IsStrictlyIncreasing};
 ghost use Rattle.base_iso.specs.Started.{AreLabels, IsImage, CarriesLast, KeepsCount};
 
-use bases::BaseList;
 use field_tables::Mask;
 
 /// Whether each base of `a` whose greatest element is the last one with a label goes to a base of `b`.

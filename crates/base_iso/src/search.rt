@@ -1,5 +1,5 @@
 //! The search for an isomorphism, element by element.
-ghost use Rattle.std.specs.Prelude.{◌≡◌, ◌<◌, ◌≤◌, ◌++◌, ◌∷◌, [], ℕ, IfSome, IsNone, IsTrue, false, length, slice_index};
+ghost use Rattle.std.specs.Prelude.{◌≡◌, ◌<◌, ◌++◌, ◌∷◌, [], ℕ, IfSome, IsNone, IsTrue, false, length, slice_index};
 ghost use Rattle.matroid_theory.specs.Minor.{AreIsomorphicBy};
 ghost use Rattle.base_iso.specs.Started.{AreLabels, CarriesBases, CarriesLast, NoneBegins};
 ghost use Rattle.base_iso.specs.Counted.{ArePairCounts, AreAlike};
