@@ -1,0 +1,9 @@
+mod Injections
+mod Places
+mod Inverses
+mod Kept
+mod Whole
+mod Cuts
+mod Images
+mod Searches
+mod Within

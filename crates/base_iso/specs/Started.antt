@@ -1,0 +1,42 @@
+-- Labels that are given element by element, and images of sets under them.
+use Rattle.std.specs.Prelude.{ℕ, ◌<◌, ◌-◌, ◌≤◌, ◌^◌, ◌≡◌, ◌≢◌, ◌==◌, nat_lt, bit_or, count_by, List, length, slice_index, false}
+use Rattle.std.specs.List.{Contains}
+use Rattle.matroid_theory.specs.Matroid.{members}
+use Rattle.matroid_theory.specs.Minor.{Matroid, AreIsomorphicBy}
+
+-- the elements below n go to different elements below n
+pub record AreLabels (n : ℕ) (labels : List ℕ) : Type 0 where
+  pub few : length labels ≤ n
+  pub below : (i : ℕ) → i < length labels → slice_index labels i < n
+  pub apart : (i j : ℕ) → i < j → j < length labels → slice_index labels i ≢ slice_index labels j
+
+-- Y has the labels of the elements of X, and nothing else
+pub record IsImage (labels : List ℕ) (X Y : ℕ) : Type 0 where
+  pub labelled : (i : ℕ) → i < length labels → members Y (slice_index labels i) ≡ members X i
+  pub others : (j : ℕ) → ((i : ℕ) → i < length labels → slice_index labels i ≢ j) → members Y j ≡ false
+
+-- each base of M whose elements all have labels goes to a base of N
+abbrev pub CarriesBases : Matroid → Matroid → List ℕ → Type 0
+CarriesBases M N labels = (X Y : ℕ) → X < 2 ^ length labels → Contains M.bases X → IsImage labels X Y → Contains N.bases Y
+
+-- the last element that has a label is the greatest of X
+abbrev pub IsLast : List ℕ → ℕ → Type 0
+IsLast labels X = (2 ^ (length labels - 1) ≤ X) × (X < 2 ^ length labels)
+
+-- each set of xs whose greatest element is the last that has a label goes to a set of ys
+abbrev pub CarriesLast : List ℕ → List ℕ → List ℕ → Type 0
+CarriesLast xs ys labels = (X Y : ℕ) → IsLast labels X → Contains xs X → IsImage labels X Y → Contains ys Y
+
+-- as many of the sets xs have labelled elements alone as of the sets ys have labels alone
+abbrev pub KeepsCount : List ℕ → List ℕ → List ℕ → Type 0
+KeepsCount xs ys labels =
+    (W : ℕ) → IsImage labels (2 ^ 16 - 1) W →
+    count_by (λ X. nat_lt X (2 ^ length labels)) xs ≡ count_by (λ Y. bit_or Y W == W) ys
+
+-- p gives the first elements these labels
+abbrev pub Begins : List ℕ → (ℕ → ℕ) → Type 0
+Begins labels p = (i : ℕ) → i < length labels → p i ≡ slice_index labels i
+
+-- no isomorphism gives the first elements these labels
+abbrev pub NoneBegins : Matroid → Matroid → List ℕ → Type 0
+NoneBegins M N labels = (p u : ℕ → ℕ) → Begins labels p → ¬ (AreIsomorphicBy M N p u)

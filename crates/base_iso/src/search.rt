@@ -1,0 +1,120 @@
+//! The search for an isomorphism, element by element.
+ghost use Rattle.std.specs.Prelude.{◌≡◌, ◌<◌, ◌++◌, ◌∷◌, [], ℕ, IfSome, IsNone, IsTrue, false, length, slice_index};
+ghost use Rattle.matroid_theory.specs.Minor.{AreIsomorphicBy};
+ghost use Rattle.base_iso.specs.Started.{AreLabels, CarriesBases, CarriesLast, NoneBegins};
+ghost use Rattle.base_iso.specs.Counted.{ArePairCounts, AreAlike};
+
+use crate::Labels;
+use crate::carried::{carries_last, keeps_count};
+use crate::counts::{PairCounts, keeps_last_counts, may_be_isomorphic, pair_counts};
+use bases::BaseList;
+
+/// A relabelling that carries the bases of the one matroid exactly to those of the other; none where there is none.
+pub fn isomorphism(a: &BaseList, b: &BaseList) -> Option<Labels>
+    ensures found { IfSome result (λ labels. (u : ℕ → ℕ) × AreIsomorphicBy a.now b.now (slice_index labels.items) u) }
+    ensures none { IsNone result → (p u : ℕ → ℕ) → ¬ (AreIsomorphicBy a.now b.now p u) }
+{
+    if !may_be_isomorphic(a, b) {
+        return None;
+    }
+    let counts = Counts {
+        of_a: pair_counts(a),
+        of_b: pair_counts(b),
+    };
+    try_labels(a, b, &counts, Labels::new())
+}
+
+/// The pair counts of both matroids.
+#[derive(Drop)]
+struct Counts {
+    of_a: PairCounts,
+    of_b: PairCounts,
+}
+
+/// An isomorphism that gives the first elements these labels; none where there is none.
+fn try_labels(a: &BaseList, b: &BaseList, counts: &Counts, labels: Labels) -> Option<Labels>
+    requires alike { AreAlike a.now b.now }
+    requires of_a { ArePairCounts a.now counts.now.of_a.items }
+    requires of_b { ArePairCounts b.now counts.now.of_b.items }
+    requires labels { AreLabels a.now.size labels.items }
+    requires bases { CarriesBases a.now b.now labels.items }
+    ensures found { IfSome result (λ found. (u : ℕ → ℕ) × AreIsomorphicBy a.now b.now (slice_index found.items) u) }
+    ensures none { IsNone result → NoneBegins a.now b.now labels.items }
+{
+    if labels.len() == usize::from(a.size()) {
+        return Some(labels);
+    }
+    for label in 0..a.size() {
+        if let Some(longer) = extended(a, b, counts, &labels, label) {
+            if let Some(found) = try_labels(a, b, counts, longer) {
+                return Some(found);
+            }
+        }
+    }
+    None
+}
+
+/// These labels followed by one more; none where a cut shows that no isomorphism begins so.
+fn extended(
+    a: &BaseList,
+    b: &BaseList,
+    counts: &Counts,
+    labels: &Labels,
+    label: u8,
+) -> Option<Labels>
+    requires alike { AreAlike a.now b.now }
+    requires of_a { ArePairCounts a.now counts.now.of_a.items }
+    requires of_b { ArePairCounts b.now counts.now.of_b.items }
+    requires labels { AreLabels a.now.size labels.now.items }
+    requires bases { CarriesBases a.now b.now labels.now.items }
+    requires few { length labels.now.items < a.now.size }
+    requires label { label < a.now.size }
+    ensures labels { IfSome result (λ longer. longer.items ≡ labels.now.items ++ label ∷ []) }
+    ensures different { IfSome result (λ longer. AreLabels a.now.size longer.items) }
+    ensures bases { IfSome result (λ longer. CarriesBases a.now b.now longer.items) }
+    ensures none { IsNone result → NoneBegins a.now b.now (labels.now.items ++ label ∷ []) }
+{
+    // The proof learns here that there are at most 16 elements.
+    a.size();
+    if labels.as_slice().contains(&label) {
+        return None;
+    }
+    let longer = followed_by(labels, label);
+    if may_begin(a, b, counts, longer.as_slice()) {
+        Some(longer)
+    } else {
+        None
+    }
+}
+
+/// Whether an isomorphism may give the first elements these labels, as far as the last of them tells: by its pair counts, by
+/// the number of bases of labelled elements, and by those of them that it is in.
+fn may_begin(a: &BaseList, b: &BaseList, counts: &Counts, labels: &[u8]) -> bool
+    requires alike { AreAlike a.now b.now }
+    requires of_a { ArePairCounts a.now counts.now.of_a.items }
+    requires of_b { ArePairCounts b.now counts.now.of_b.items }
+    requires labels { AreLabels a.now.size labels.now }
+    requires some { 0 < length labels.now }
+    ensures bases { IsTrue result → CarriesLast a.now.bases b.now.bases labels.now }
+    ensures none { result ≡ false → NoneBegins a.now b.now labels.now }
+{
+    // The proof learns here what the lists keep.
+    a.size();
+    b.size();
+    keeps_last_counts(&counts.of_a, &counts.of_b, labels)
+        && keeps_count(a.bases(), b.bases(), labels)
+        && carries_last(a.bases(), b.bases(), labels)
+}
+
+/// These labels followed by one more.
+fn followed_by(labels: &Labels, last: u8) -> Labels
+    requires { length labels.now.items < 16 }
+    ensures { result.items ≡ labels.now.items ++ last ∷ [] }
+{
+    let mut longer = Labels::new();
+    for label in labels.as_slice() {
+        longer.push(*label);
+    }
+    longer.push(last);
+    longer
+}

@@ -1,0 +1,91 @@
+use super::*;
+use bases::BaseList;
+use product_rep::{Factors, ProductColumn, Rep};
+use std::alloc::Global;
+use std::test::Fail;
+
+// Columns over one field, each from its top row, after those of a representation.
+macro_rules! followed_by {
+    ($rep:expr $(, $codes:expr)*) => {{
+        let mut rep = $rep;
+        $(
+            let mut column = ProductColumn::new();
+            column.try_extend_from_slice(&$codes)?;
+            rep.push_column(&column);
+        )*
+        rep
+    }};
+}
+
+// The representation of this rank with no columns, and with the unit columns.
+macro_rules! empty {
+    ($order:expr, $rank:expr) => {
+        Rep::empty(Factors::of(&[$order]).ok_or("no factors")?, $rank)
+    };
+}
+
+macro_rules! unit {
+    ($order:expr, $rank:expr) => {
+        Rep::unit(Factors::of(&[$order]).ok_or("no factors")?, $rank)
+    };
+}
+
+#[test]
+fn lines_of_four_points(rt: HostRuntime) -> Result<(), Fail> {
+    let alloc = rt.alloc();
+    let a = BaseList::of(alloc, &followed_by!(unit!(7, 2), [1, 1], [1, 2]))?;
+    let b = BaseList::of(alloc, &followed_by!(unit!(7, 2), [1, 1], [1, 3]))?;
+    assert!(rt; isomorphism(&a, &b).is_some());
+    Ok(())
+}
+
+// Three points on a line and one beside it.
+fn line_and_point(alloc: Global) -> Result<BaseList, Fail> {
+    Ok(BaseList::of(alloc, &followed_by!(unit!(2, 3), [0, 1, 1]))?)
+}
+
+#[test]
+fn no_three_points_on_a_line(rt: HostRuntime) -> Result<(), Fail> {
+    let alloc = rt.alloc();
+    let a = line_and_point(alloc)?;
+    let b = BaseList::of(alloc, &followed_by!(unit!(2, 3), [1, 1, 1]))?;
+    assert!(rt; isomorphism(&a, &b).is_none());
+    assert!(rt; isomorphism(&b, &a).is_none());
+    Ok(())
+}
+
+// The point beside the line is the last of the other list.
+#[test]
+fn points_in_another_order(rt: HostRuntime) -> Result<(), Fail> {
+    let alloc = rt.alloc();
+    let a = line_and_point(alloc)?;
+    let b = BaseList::of(
+        alloc,
+        &followed_by!(empty!(2, 3), [0, 1, 1], [0, 0, 1], [0, 1, 0], [1, 0, 0]),
+    )?;
+    let labels = isomorphism(&a, &b).ok_or("no isomorphism")?;
+    assert_eq!(rt; labels.as_slice().first(), Some(&3));
+    Ok(())
+}
+
+// The Fano plane.
+fn fano(alloc: Global) -> Result<BaseList, Fail> {
+    Ok(BaseList::of(
+        alloc,
+        &followed_by!(unit!(2, 3), [1, 1, 0], [1, 0, 1], [0, 1, 1], [1, 1, 1]),
+    )?)
+}
+
+// The Fano matroid has 28 bases and the other 29.
+#[test]
+fn seven_points_over_two_fields(rt: HostRuntime) -> Result<(), Fail> {
+    let alloc = rt.alloc();
+    let a = fano(alloc)?;
+    let b = BaseList::of(
+        alloc,
+        &followed_by!(unit!(3, 3), [1, 1, 0], [1, 0, 1], [0, 1, 1], [1, 1, 1]),
+    )?;
+    assert!(rt; isomorphism(&a, &a).is_some());
+    assert!(rt; isomorphism(&a, &b).is_none());
+    Ok(())
+}
