@@ -1,14 +1,13 @@
--- What a search in a rising list says, and sets by their greatest element.
-use Rattle.std.proofs.Common.{◌≡◌, ℕ, ◌+◌, ◌-◌, ◌*◌, ◌/◌, ◌%◌, ◌^◌, ◌<◌, ◌≤◌, sym, ◌∙◌, ap, subst, refl, arith, true, List, length, get_or, inl, inr, Result, Ok, Err, MatchResult, is_ok, ◌↔◌, suc}
-use Rattle.std.specs.List.{Contains}
-use Rattle.std.specs.List.Sorted.{IsStrictlyIncreasing, IsBinarySearchResult}
+-- What a search in a rising list says, and its parts between two numbers.
+use Rattle.std.proofs.Common.{take, drop, length-take, length-drop, ◌≡◌, ℕ, ◌+◌, ◌-◌, ◌<◌, ◌≤◌, ◌∙◌, ap, subst, refl, arith, true, List, length, get_or, inl, inr, Result, Ok, Err, MatchResult, is_ok, ◌↔◌}
+use Rattle.std.specs.List.{Contains, slice_index}
+use Rattle.std.specs.List.Sorted.{IsStrictlyIncreasing, IsBinarySearchResult, IsNonDecreasingBy}
 use Rattle.std.specs.Ordering.{nat_cmp}
+use Rattle.std.proofs.lemmas.Grind.{common_steps}
 use Rattle.std.proofs.lemmas.Bool.{cases_lt, false≢true}
-use Rattle.std.proofs.lemmas.Nat.{div-mul-add, pow_pos}
-use Rattle.std.proofs.Math.Nat.{div-add-mod, mod-lt, two-pow-succ}
 use Rattle.std.proofs.lemmas.List.{get_or_default}
 use Rattle.std.proofs.lemmas.List.Kept.{AllPairs-from_increasing}
-use Rattle.std.proofs.lemmas.List.Sorted.{searched}
+use Rattle.std.proofs.lemmas.List.Sorted.{searched, IsNonDecreasingBy-from_default}
 
 rising : (xs : List ℕ) → IsStrictlyIncreasing xs → (i j : ℕ) → i ≤ j → j < length xs → get_or xs i 0 ≤ get_or xs j 0
 rising xs h i j l m = elim (cases_lt i j) [
@@ -31,28 +30,32 @@ search_finds xs x r h s = at r (searched xs x r s (rising xs h))
       ]),
     )
 
--- the greatest element of a set, by a shift
-pub greatest_by_shift : (n X : ℕ) → (X / 2 ^ n ≡ 1) ↔ ((2 ^ n ≤ X) × (X < 2 ^ suc n))
-greatest_by_shift n X = (forward, back)
-  where
-    positive : 0 < 2 ^ n
-    positive = pow_pos n
+-- a rising list by the lemmas on partitions
+pub rising_by : (xs : List ℕ) → IsStrictlyIncreasing xs → IsNonDecreasingBy (λ x. x) xs
+rising_by xs h = IsNonDecreasingBy-from_default (λ x. x) xs 0 (rising xs h)
 
-    forward : X / 2 ^ n ≡ 1 → (2 ^ n ≤ X) × (X < 2 ^ suc n)
-    forward e =
-        let d : 2 ^ n * (X / 2 ^ n) + X % 2 ^ n ≡ X = div-add-mod X (2 ^ n) in
-        let f : 2 ^ n * 1 + X % 2 ^ n ≡ X = ap (λ q. 2 ^ n * q + X % 2 ^ n) (sym e) ∙ d in
-        let m : X % 2 ^ n < 2 ^ n = mod-lt X positive in
-        let t : 2 ^ suc n ≡ 2 ^ n + 2 ^ n = two-pow-succ n in
-        (omega arith, omega arith)
+-- a part of a list
+pub part-length : (xs : List ℕ) (i j : ℕ) → i ≤ j → j ≤ length xs → length (take (j - i) (drop i xs)) ≡ j - i
+part-length xs i j l m = omega (arith, length-take (j - i) (drop i xs), length-drop i xs)
 
-    back : (2 ^ n ≤ X) × (X < 2 ^ suc n) → X / 2 ^ n ≡ 1
-    back (l, m) =
-        let t : 2 ^ suc n ≡ 2 ^ n + 2 ^ n = two-pow-succ n in
-        let b : X - 2 ^ n < 2 ^ n = omega arith in
-        let e : 1 * 2 ^ n + (X - 2 ^ n) ≡ X = omega arith in
-        ap (λ x. x / 2 ^ n) (sym e) ∙ div-mul-add 1 (2 ^ n) (X - 2 ^ n) b
+pub part-at : (xs : List ℕ) (i j k : ℕ) → i + k < j → j ≤ length xs → slice_index (take (j - i) (drop i xs)) k ≡ slice_index xs (i + k)
+part-at xs i j k l m = grind (arith, common_steps)
 
--- the same at the last of n elements
-pub last_by_shift : (n X : ℕ) → 0 < n → (X / 2 ^ (n - 1) ≡ 1) ↔ ((2 ^ (n - 1) ≤ X) × (X < 2 ^ n))
-last_by_shift n X l = let e : suc (n - 1) ≡ n = omega arith in subst (λ (m : ℕ). (X / 2 ^ (n - 1) ≡ 1) ↔ ((2 ^ (n - 1) ≤ X) × (X < 2 ^ m))) e (greatest_by_shift (n - 1) X)
+-- the part of a list between the places of two numbers has what lies between them
+pub in_part : (xs : List ℕ) (i j low high X : ℕ) → j ≤ length xs → ((k : ℕ) → k < i → slice_index xs k < low) → ((k : ℕ) → j ≤ k → k < length xs → high ≤ slice_index xs k)
+    → low ≤ X → X < high → Contains xs X → Contains (take (j - i) (drop i xs)) X
+in_part xs i j low high X m below from l h (k, b, e) =
+    let d : slice_index xs k ≡ X = get_or_default xs k 0 X b ∙ e in
+    let p : i ≤ k = elim (cases_lt k i) [ inl s ↦ (let c : slice_index xs k < low = below k s in absurd (omega arith)) | inr g ↦ g ] in
+    let q : k < j = elim (cases_lt k j) [ inl s ↦ s | inr g ↦ (let c : high ≤ slice_index xs k = from k g b in absurd (omega arith)) ] in
+    let n : length (take (j - i) (drop i xs)) ≡ j - i = part-length xs i j (omega arith) m in
+    let a : slice_index (take (j - i) (drop i xs)) (k - i) ≡ slice_index xs (i + (k - i)) = part-at xs i j (k - i) (omega arith) m in
+    let s : i + (k - i) ≡ k = omega arith in
+    (k - i, omega arith, get_or_default (take (j - i) (drop i xs)) (k - i) X 0 (omega arith) ∙ a ∙ ap (slice_index xs) s ∙ d)
+
+-- and nothing else
+pub from_part : (xs : List ℕ) (i j k : ℕ) → j ≤ length xs → k < length (take (j - i) (drop i xs)) → (i + k < j) × (slice_index (take (j - i) (drop i xs)) k ≡ slice_index xs (i + k))
+from_part xs i j k m l =
+    let n : length (take (j - i) (drop i xs)) ≤ j - i = omega (arith, length-take (j - i) (drop i xs)) in
+    let b : i + k < j = omega arith in
+    (b, part-at xs i j k b m)

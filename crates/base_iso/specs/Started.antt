@@ -1,5 +1,5 @@
 -- Labels that are given element by element, and images of sets under them.
-use Rattle.std.specs.Prelude.{ℕ, ◌<◌, ◌-◌, ◌≤◌, ◌^◌, ◌≡◌, ◌≢◌, ◌==◌, nat_lt, bit_or, count_by, List, length, slice_index, false}
+use Rattle.std.specs.Prelude.{ℕ, ◌+◌, ◌<◌, ◌-◌, ◌≤◌, ◌^◌, ◌≡◌, ◌≢◌, ◌==◌, nat_lt, bit_or, count_by, List, length, slice_index, false}
 use Rattle.std.specs.List.{Contains}
 use Rattle.matroid_theory.specs.Matroid.{members}
 use Rattle.matroid_theory.specs.Minor.{Matroid, AreIsomorphicBy}
@@ -22,6 +22,12 @@ CarriesBases M N labels = (X Y : ℕ) → X < 2 ^ length labels → Contains M.b
 -- the last element that has a label is the greatest of X
 abbrev pub IsLast : List ℕ → ℕ → Type 0
 IsLast labels X = (2 ^ (length labels - 1) ≤ X) × (X < 2 ^ length labels)
+
+-- X is one of the sets, and its greatest element is this one
+pub record IsOneOf (sets : List ℕ) (element X : ℕ) : Type 0 where
+  pub stands : Contains sets X
+  pub low : 2 ^ element ≤ X
+  pub high : X < 2 ^ (element + 1)
 
 -- each set of xs whose greatest element is the last that has a label goes to a set of ys
 abbrev pub CarriesLast : List ℕ → List ℕ → List ℕ → Type 0

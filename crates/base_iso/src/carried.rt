@@ -1,25 +1,47 @@
 //! The images of bases under labels.
-ghost use Rattle.std.specs.Prelude.{◌≡◌, ◌<◌, ◌↔◌, ◌==◌, IsTrue, length, count_by, nat_lt, bit_or};
+ghost use Rattle.std.specs.Prelude.{◌≡◌, ◌<◌, ◌≤◌, ◌+◌, ◌^◌, ◌↔◌, ◌==◌, ℕ, IsTrue, slice_index, length, count_by, nat_lt, bit_or};
 ghost use Rattle.std.specs.List.{Contains};
 ghost use Rattle.std.specs.List.Sorted.{IsStrictlyIncreasing};
-ghost use Rattle.base_iso.specs.Started.{AreLabels, IsImage, CarriesLast, KeepsCount};
+ghost use Rattle.base_iso.specs.Started.{AreLabels, IsImage, CarriesLast, IsOneOf, KeepsCount};
 
 use field_tables::Mask;
 
-/// Whether each base of `a` whose greatest element is the last one with a label goes to a base of `b`.
+/// Whether each set of `a` whose greatest element is the last one with a label goes to a set of `b`.
 pub fn carries_last(a: &[Mask], b: &[Mask], labels: &[u8]) -> bool
-    requires rising { IsStrictlyIncreasing b.now }
+    requires rising { IsStrictlyIncreasing a.now }
+    requires other_rising { IsStrictlyIncreasing b.now }
     requires labels { AreLabels 16 labels.now }
     requires some { 0 < length labels.now }
     ensures { IsTrue result ↔ CarriesLast a.now b.now labels.now }
 {
-    let last = labels.len() - 1;
-    for set in a {
-        if *set >> last == 1 && !stands_in(b, image(labels, *set)) {
+    for set in with_greatest(a, labels.len() - 1) {
+        if !stands_in(b, image(labels, *set)) {
             return false;
         }
     }
     true
+}
+
+/// The sets of a rising list whose greatest element is this one.
+fn with_greatest(sets: &[Mask], element: usize) -> &[Mask]
+    requires rising { IsStrictlyIncreasing sets.now }
+    requires element { element < 16 }
+    ensures all { (X : ℕ) → 2 ^ element ≤ X → X < 2 ^ (element + 1) → Contains sets.now X → Contains result.now X }
+    ensures no_others { (k : ℕ) → k < length result.now → IsOneOf sets.now element (slice_index result.now k) }
+{
+    let start = place_of(sets, 1 << element);
+    let end = place_of(sets, 1 << (element + 1));
+    &sets[start..end]
+}
+
+/// The place of the first set of a rising list that isn't below this number.
+fn place_of(sets: &[Mask], bound: u32) -> usize
+    requires { IsStrictlyIncreasing sets.now }
+    ensures within { result ≤ length sets.now }
+    ensures below { (k : ℕ) → k < result → slice_index sets.now k < bound }
+    ensures from { (k : ℕ) → result ≤ k → k < length sets.now → bound ≤ slice_index sets.now k }
+{
+    sets.partition_point(|set| u32::from(*set) < bound)
 }
 
 /// Whether as many sets of `a` have labelled elements alone as sets of `b` have labels alone.
