@@ -4,7 +4,7 @@ use Rattle.std.specs.List.{Contains}
 use Rattle.matroid_theory.specs.Matroid.{members}
 use Rattle.matroid_theory.specs.Minor.{Matroid, AreIsomorphicBy}
 
--- the elements below n go to different elements below n
+-- the labels of the first elements of n: different elements below n
 pub record AreLabels (n : ℕ) (labels : List ℕ) : Type 0 where
   pub few : length labels ≤ n
   pub below : (i : ℕ) → i < length labels → slice_index labels i < n
@@ -15,7 +15,7 @@ pub record IsImage (labels : List ℕ) (X Y : ℕ) : Type 0 where
   pub labelled : (i : ℕ) → i < length labels → members Y (slice_index labels i) ≡ members X i
   pub others : (j : ℕ) → ((i : ℕ) → i < length labels → slice_index labels i ≢ j) → members Y j ≡ false
 
--- each base of M whose elements all have labels goes to a base of N
+-- each base of M that consists of labelled elements goes to a base of N
 abbrev pub CarriesBases : Matroid → Matroid → List ℕ → Type 0
 CarriesBases M N labels = (X Y : ℕ) → X < 2 ^ length labels → Contains M.bases X → IsImage labels X Y → Contains N.bases Y
 
@@ -33,7 +33,7 @@ pub record IsOneOf (sets : List ℕ) (element X : ℕ) : Type 0 where
 abbrev pub CarriesLast : List ℕ → List ℕ → List ℕ → Type 0
 CarriesLast xs ys labels = (X Y : ℕ) → IsLast labels X → Contains xs X → IsImage labels X Y → Contains ys Y
 
--- as many of the sets xs have labelled elements alone as of the sets ys have labels alone
+-- as many sets of xs consist of labelled elements as sets of ys consist of labels
 abbrev pub KeepsCount : List ℕ → List ℕ → List ℕ → Type 0
 KeepsCount xs ys labels =
     (W : ℕ) → IsImage labels (2 ^ 16 - 1) W →

@@ -44,7 +44,7 @@ fn place_of(sets: &[Mask], bound: u32) -> usize
     sets.partition_point(|set| u32::from(*set) < bound)
 }
 
-/// Whether as many sets of `a` have labelled elements alone as sets of `b` have labels alone.
+/// Whether as many sets of `a` consist of labelled elements as sets of `b` consist of labels.
 pub fn keeps_count(a: &[Mask], b: &[Mask], labels: &[u8]) -> bool
     requires { AreLabels 16 labels.now }
     ensures { IsTrue result ↔ KeepsCount a.now b.now labels.now }
