@@ -1,0 +1,8 @@
+pub mod TableBits
+pub mod Images
+pub mod Embeddings
+pub mod NextImage
+pub mod Contracted
+pub mod Covered
+pub mod Reordered
+pub mod TwinSets

@@ -1,0 +1,6 @@
+use Rattle.std.proofs.Common.{refl, rules}
+use Rattle.minor_test.proofs.TableBits.{has_more}
+use Rattle.minor_test.proofs.table.Table.add.Goals as goal
+
+pub returns : goal.returns
+returns c = has_more c.args.self.now.words c.args.set c.from-word.result _ c.from-word.ensures refl (search rules)

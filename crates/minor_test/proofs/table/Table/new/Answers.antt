@@ -1,0 +1,5 @@
+use Rattle.minor_test.proofs.TableBits.{has_none}
+use Rattle.minor_test.proofs.table.Table.new.Goals as goal
+
+pub returns : goal.returns
+returns c = has_none 1024

@@ -1,0 +1,47 @@
+use Rattle.std.proofs.Common.{◌≡◌, ◌+◌, sym, ◌∙◌, eqb-true, true, false, Bool, refl}
+use Rattle.std.specs.Int.RustNames.{count_ones}
+use Rattle.std.proofs.lemmas.Bool.{false≢true}
+use mathlib.Core.Bool.{beq}
+use Rattle.matroid_theory.specs.Rep.{size}
+use Rattle.matroid_theory.specs.Matrix.{size_below}
+use Rattle.matroid_theory.specs.Matroid.{members}
+use Rattle.matroid_theory.proofs.MaskCounts.{size-members}
+use Rattle.minor_test.proofs.test.may_be_contracted.Goals as goal
+use Rattle.minor_test.proofs.test.may_be_contracted.Goals.{then-rank-contracted, else-rank-contracted}
+
+same_answer : (a b : Bool) → beq a b ≡ true → a ≡ b
+same_answer true true e = refl
+same_answer true false e = absurd (false≢true e)
+same_answer false true e = absurd (false≢true e)
+same_answer false false e = refl
+
+answers_same : (a b : Bool) → a ≡ b → beq a b ≡ true
+answers_same true true e = refl
+answers_same true false e = sym e
+answers_same false true e = e
+answers_same false false e = refl
+
+pub returns-then-is_in_basis : goal.returns-then-is_in_basis
+returns-then-is_in_basis c =
+    let e : size_below (size c.args.rep.now) (members c.args.contracted) ≡ count_ones c.args.contracted = size-members (size c.args.rep.now) c.args.contracted c.requires.set in
+    elim c.if-rank-contracted.branch [
+      | then-rank-contracted w ↦ (
+        (λ t. (
+          (λ i. sym c.rank.ensures i + e i) ∙ w.if-rank-contracted.true ∙ c.rank-2.ensures,
+          w.is_in_basis.ensures.0 (sym w.value-is ∙ c.if-is_in_basis.true),
+          sym c.contains.ensures ∙ same_answer c.contains.result c.contains-then-is_in_basis.result t ∙ c.contains-then-is_in_basis.ensures,
+        )),
+        (λ h. answers_same c.contains.result c.contains-then-is_in_basis.result (c.contains.ensures ∙ h.2 ∙ sym c.contains-then-is_in_basis.ensures)),
+      )
+      | else-rank-contracted w ↦ absurd (w.if-rank-contracted.false (eqb-true (c.rank.result + count_ones c.args.contracted) c.rank-2.result (sym w.value-is ∙ c.if-is_in_basis.true)))
+    ]
+
+pub returns-else-is_in_basis : goal.returns-else-is_in_basis
+returns-else-is_in_basis c =
+    let e : size_below (size c.args.rep.now) (members c.args.contracted) ≡ count_ones c.args.contracted = size-members (size c.args.rep.now) c.args.contracted c.requires.set in (
+      (λ t. absurd (false≢true (sym c.if-is_in_basis.false ∙ t))),
+      (λ h. elim c.if-rank-contracted.branch [
+        | then-rank-contracted w ↦ w.value-is ∙ w.is_in_basis.ensures.1 h.1
+        | else-rank-contracted w ↦ absurd (w.if-rank-contracted.false ((λ i. c.rank.ensures i + sym e i) ∙ h.0 ∙ sym c.rank-2.ensures))
+      ]),
+    )

@@ -1,0 +1,21 @@
+use Rattle.std.proofs.Common.{◌<◌, ◌^◌, ℕ, sym, ◌∙◌, subst, arith, bit_or, bit_xor}
+use Rattle.std.proofs.lemmas.Nat.{one_shl}
+use Rattle.std.proofs.lemmas.Nat.Bits.{shr_and_one}
+use Rattle.matroid_theory.specs.Matroid.{members}
+use Rattle.minor_test.proofs.TwinSets.{exchanged_flipped, flipped_below}
+use Rattle.minor_test.proofs.twins.exchanged.Goals as goal
+
+pub returns-else-set-i-clause-members : goal.returns-else-set-i-clause-members
+returns-else-set-i-clause-members c x =
+    let l : c.args.i < c.args.j = c.requires.before in
+    let m : c.args.j < 16 = c.requires.element in
+    let o : c.args.i < 16 = omega arith in
+    (λ u. members (bit_xor c.args.set (bit_or (one_shl c.args.i 16 o u) (one_shl c.args.j 16 m u))) x)
+    ∙ exchanged_flipped c.args.set c.args.i c.args.j x l (λ e. c.if-set-i.false (shr_and_one c.args.set c.args.i ∙ e ∙ sym (shr_and_one c.args.set c.args.j)))
+
+pub returns-else-set-i-clause-below : goal.returns-else-set-i-clause-below
+returns-else-set-i-clause-below c n k b =
+    let l : c.args.i < c.args.j = c.requires.before in
+    let m : c.args.j < 16 = c.requires.element in
+    let o : c.args.i < 16 = omega arith in
+    subst (λ (y : ℕ). y < 2 ^ n) (λ u. bit_xor c.args.set (bit_or (sym (one_shl c.args.i 16 o) u) (sym (one_shl c.args.j 16 m) u))) (flipped_below c.args.set c.args.i c.args.j n l k b)

@@ -1,0 +1,116 @@
+ghost use Rattle.std.specs.Prelude.{◌≡◌, ◌<◌, ◌≤◌, ◌+◌, ◌^◌, ◌↔◌, ℕ, IsTrue, IsNone, IfSome, length, slice_index, bit_or};
+ghost use Rattle.matroid_theory.specs.Rep.{size};
+ghost use Rattle.matroid_theory.specs.Matroid.{members, Agrees};
+ghost use Rattle.matroid_theory.specs.Matrix.{size_below};
+ghost use Rattle.matroid_theory.specs.Minor.{IsMinorBy, IsMinor};
+ghost use Rattle.minor_test.specs.Tables.{has, HasBases};
+ghost use Rattle.minor_test.specs.Twins.{KeepsOrder};
+ghost use Rattle.minor_test.specs.Searches.{AreTables};
+
+use crate::search::{Images, Tables, complete};
+use crate::table::{Table, bases_of, table_of};
+use crate::twins::twins_of;
+use arrayvec::ArrayVec;
+use field_tables::Mask;
+use named_matroids::Minor;
+use product_rep::Rep;
+
+/// Where a minor was found: the images of its elements, and the set that is contracted. The other elements are deleted.
+#[derive(Drop)]
+pub struct Embedding {
+    pub image: ArrayVec<u8, 10>,
+    pub contracted: Mask,
+}
+
+/// Whether the matroid is a minor of that of the first factor, and where (Oxley, chapter 3).
+pub fn has_minor(rep: &Rep, minor: &Minor) -> Option<Embedding>
+    requires { Agrees rep.now }
+    ensures found { IfSome result (λ e. IsMinorBy minor.now rep.now (slice_index e.image.items) (members e.contracted)) }
+    ensures images { IfSome result (λ e. length e.image.items ≡ minor.now.size) }
+    ensures contracted { IfSome result (λ e. e.contracted < 2 ^ size rep.now) }
+    ensures none { IsNone result → ¬ (IsMinor minor.now rep.now) }
+{
+    if !leaves_room(rep, minor) {
+        return None;
+    }
+    let table = table_of(minor.bases());
+    let tables = Tables {
+        twins: twins_of(minor, &table),
+        minor: table,
+        whole: bases_of(rep),
+    };
+    let mut sets = [0; 1024];
+    for set in 0..1u32 << rep.size() {
+        let contracted = set as Mask;
+        if let Some(image) = by_contracting(rep, minor, &tables, contracted, &mut sets) {
+            return Some(Embedding { image, contracted });
+        }
+    }
+    None
+}
+
+/// Whether the rank is at most that of the whole matroid, and there are elements enough for the minor and for what is contracted.
+fn leaves_room(rep: &Rep, minor: &Minor) -> bool
+    ensures { IsTrue result ↔ ((minor.now.rank ≤ rep.now.rank) × (minor.now.size + rep.now.rank ≤ size rep.now + minor.now.rank)) }
+{
+    // The proof learns here how many elements there may be.
+    rep.size();
+    minor.size();
+    minor.rank() <= rep.rank() && minor.size() + rep.rank() <= rep.size() + minor.rank()
+}
+
+/// Images of the elements, with this set contracted. The sets are written over.
+fn by_contracting(
+    rep: &Rep,
+    minor: &Minor,
+    tables: &Tables,
+    contracted: Mask,
+    sets: &mut [Mask],
+) -> Option<ArrayVec<u8, 10>>
+    requires rank { minor.now.rank ≤ rep.now.rank }
+    requires set { contracted < 2 ^ size rep.now }
+    requires tables { AreTables minor.now rep.now tables.now }
+    requires sets { length sets.old ≡ 1024 }
+    ensures found { IfSome result (λ list. IsMinorBy minor.now rep.now (slice_index list.items) (members contracted)) }
+    ensures all { IfSome result (λ list. length list.items ≡ minor.now.size) }
+    ensures none { IsNone result → (f : ℕ → ℕ) → KeepsOrder tables.now.twins.items f → ¬ (IsMinorBy minor.now rep.now f (members contracted)) }
+{
+    // The proof learns here that there is a basis.
+    minor.size();
+    if !may_be_contracted(rep, minor, tables, contracted) {
+        return None;
+    }
+    let images = Images {
+        list: ArrayVec::new(),
+        used: contracted,
+    };
+    sets[0] = contracted;
+    complete(rep, minor, tables, contracted, &images, sets)
+}
+
+/// Whether the set has as many elements as the rank falls by and is in a basis, and is one exactly where the minor has the empty basis.
+fn may_be_contracted(rep: &Rep, minor: &Minor, tables: &Tables, contracted: Mask) -> bool
+    requires rank { minor.now.rank ≤ rep.now.rank }
+    requires set { contracted < 2 ^ size rep.now }
+    ensures { IsTrue result ↔ ((minor.now.rank + size_below (size rep.now) (members contracted) ≡ rep.now.rank) ×
+        ((X : ℕ) × (X < 2 ^ size rep.now) × IsTrue (has tables.now.whole.words (bit_or contracted X))) ×
+        (has tables.now.minor.words 0 ≡ has tables.now.whole.words contracted)) }
+{
+    // The proof learns here how many elements there may be.
+    rep.size();
+    minor.rank() + contracted.count_ones() as usize == rep.rank()
+        && is_in_basis(rep, &tables.whole, contracted)
+        && tables.minor.contains(0) == tables.whole.contains(contracted)
+}
+
+/// Whether the set with another one is in the table.
+fn is_in_basis(rep: &Rep, table: &Table, set: Mask) -> bool
+    ensures { IsTrue result ↔ ((X : ℕ) × (X < 2 ^ size rep.now) × IsTrue (has table.now.words (bit_or set X))) }
+{
+    for other in 0..1u32 << rep.size() {
+        if table.contains(set | other as Mask) {
+            return true;
+        }
+    }
+    false
+}
