@@ -1,0 +1,41 @@
+-- Names of matroids.
+use Rattle.std.specs.Prelude.{ℕ, ◌<◌, ◌≤◌, ◌≡◌, List, [], ◌∷◌}
+use Rattle.matroid_theory.specs.Minor.{Matroid}
+use Rattle.formats.specs.Entry as line
+use Rattle.formats.specs.Entry.{minor_words, elements_of, IsUniform}
+use Rattle.named_matroids.specs.declared.spelling.Spelling.{Spelling}
+use Rattle.named_matroids.specs.declared.spelling.Spelling.TheVariants.{Uniform, Fano, FanoDual, NonFano, KFour, KFive}
+use Rattle.named_matroids.specs.declared.spelling.NameFault.{NameFault}
+use Rattle.named_matroids.specs.declared.spelling.NameFault.TheVariants.{TooBig, Unknown}
+
+-- a matroid and its name
+pub record NamedMatroid : Type 0 where
+  pub spelling : Spelling
+  pub matroid : Matroid
+
+-- what is spelled, as a line names it
+abbrev pub named_by : Spelling → line.Minor
+named_by (Uniform rank size) = line.Uniform rank size
+named_by Fano = line.Fano
+named_by FanoDual = line.FanoDual
+named_by NonFano = line.NonFano
+named_by KFour = line.KFour
+named_by KFive = line.KFive
+
+-- it names a matroid of at most 10 elements
+pub record IsSmallName (minor : line.Minor) : Type 0 where
+  pub is_minor : line.IsMinor minor
+  pub few : elements_of minor ≤ 10
+
+-- the text names a uniform matroid of more than 10 elements
+abbrev pub NamesTooBig : List ℕ → Type 0
+NamesTooBig text = (rank : ℕ) × (size : ℕ) × IsUniform rank size × (10 < size) × (minor_words (line.Uniform rank size) ≡ text ∷ [])
+
+-- the text names no matroid
+abbrev pub NamesNone : List ℕ → Type 0
+NamesNone text = (minor : line.Minor) → line.IsMinor minor → ¬ (minor_words minor ≡ text ∷ [])
+
+-- what is wrong with the text
+abbrev pub IsNameFault : List ℕ → NameFault → Type 0
+IsNameFault text TooBig = NamesTooBig text
+IsNameFault text Unknown = NamesNone text

@@ -1,0 +1,18 @@
+//! Matroids of at most 10 elements by their bases, and those that have a name: the uniform matroids, the Fano matroid, its
+//! dual, the non-Fano matroid, and the cycle matroids of the complete graphs on four and five vertices (Oxley, *Matroid
+//! Theory*, appendix). No memory is taken.
+#![tactic(auto)]
+
+mod columns;
+mod item;
+mod minor;
+mod number;
+mod spelling;
+mod tables;
+#[cfg(test)]
+mod tests;
+mod uniform;
+
+pub use item::{MinorItem, named};
+pub use minor::Minor;
+pub use spelling::{NameFault, Spelling};

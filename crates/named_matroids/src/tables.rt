@@ -1,0 +1,76 @@
+//! The matrices of the matroids that have a name.
+ghost use Rattle.std.specs.Prelude.{◌≡◌, ◌≤◌, ◌<◌, length, IsTrue};
+ghost use Rattle.matroid_theory.specs.Field.{IsOrder};
+ghost use Rattle.matroid_theory.specs.Given.{Columns, IsGivenBy};
+ghost use Rattle.named_matroids.specs.Listed.{codes_of, are_codes};
+
+use crate::columns::matroid_of;
+use crate::minor::Minor;
+use arrayvec::ArrayVec;
+use field_tables::{Column, Field};
+
+/// The columns of the Fano matroid over GF(2). The first six are those of K4.
+pub const FANO: [[u8; 3]; 7] = [
+    [1, 0, 0],
+    [0, 1, 0],
+    [0, 0, 1],
+    [0, 1, 1],
+    [1, 0, 1],
+    [1, 1, 0],
+    [1, 1, 1],
+];
+
+/// The columns of K5 over GF(2).
+pub const K_FIVE: [[u8; 4]; 10] = [
+    [1, 0, 0, 0],
+    [0, 1, 0, 0],
+    [0, 0, 1, 0],
+    [0, 0, 0, 1],
+    [1, 1, 0, 0],
+    [1, 0, 1, 0],
+    [1, 0, 0, 1],
+    [0, 1, 1, 0],
+    [0, 1, 0, 1],
+    [0, 0, 1, 1],
+];
+
+/// The matroid of these columns over the field of that order.
+pub fn matroid_of_table<const N: usize>(order: u8, table: &[[u8; N]]) -> Minor
+    requires order { IsOrder order }
+    requires rows { N ≤ 6 }
+    requires some { 0 < length table.now }
+    requires few { length table.now ≤ 10 }
+    requires codes { IsTrue (are_codes order N table.now) }
+    ensures { IsGivenBy (Columns order table.now) result }
+{
+    let columns = columns_of(table);
+    match Field::of(order) {
+        Some(field) => matroid_of(field, columns.as_slice()),
+        None => unreachable!(),
+    }
+}
+
+/// The columns of the table.
+fn columns_of<const N: usize>(table: &[[u8; N]]) -> ArrayVec<Column, 10>
+    requires rows { N ≤ 6 }
+    requires few { length table.now ≤ 10 }
+    ensures { codes_of result.items ≡ table.now }
+{
+    let mut columns = ArrayVec::new();
+    for codes in table {
+        columns.push(column_of(*codes));
+    }
+    columns
+}
+
+/// The column of these codes.
+fn column_of<const N: usize>(codes: [u8; N]) -> Column
+    requires { N ≤ 6 }
+    ensures { result.items ≡ codes.entry }
+{
+    let mut column = ArrayVec::new();
+    for code in &codes {
+        column.push(*code);
+    }
+    column
+}
