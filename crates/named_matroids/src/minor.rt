@@ -10,13 +10,13 @@ use std::marker::Model;
 /// The masks of bases. Of at most 10 elements no more than 252 sets have one size.
 pub type Masks = ArrayVec<Mask, 252>;
 
-/// A matroid of 1 to 10 elements by its bases, of which there are at most 252. Contracts see its rank, its size and the
-/// rising list of the masks of its bases.
+/// A matroid of 1 to 10 elements by its bases. Contracts see its rank, its size and the rising list of the masks of its
+/// bases.
 #[derive(Drop)]
 pub struct Minor {
     rank: u8,
     size: u8,
-    bases: ArrayVec<Mask, 252>,
+    bases: Masks,
 }
 
 impl Model for Minor {
