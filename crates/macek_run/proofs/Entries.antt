@@ -1,10 +1,11 @@
--- What the listing tells of a level, so far as nothing is forbidden and there is no filter.
+-- What the listing tells of a level, so far as there is no filter.
 use Rattle.std.proofs.Common.{◌≡◌, ◌∙◌, ℕ, List, [], ◌∷◌, ◌++◌, map, length, None, false, refl, sym, ap, subst, arith, Bor}
 use Rattle.std.specs.Prelude.{option_to_list, Option}
 use Rattle.std.specs.List.{concat}
 use Rattle.std.proofs.lemmas.List.{length-map}
 use Rattle.matroid_theory.specs.declared.Mode.TheVariants.{Linear}
 use Rattle.matroid_theory.specs.Rep.{Rep}
+use Rattle.matroid_theory.specs.Minor.{Matroid}
 use Rattle.matroid_theory.specs.Level.{Family, Filters}
 use Rattle.formats.specs.declared.refusal.PrintMode.{PrintMode}
 use Rattle.formats.specs.declared.refusal.PrintMode.TheVariants.{Forms}
@@ -13,21 +14,22 @@ use Rattle.formats.specs.Minors.{given_as}
 use Rattle.formats.specs.Request.{Request}
 use Rattle.formats.specs.Listing.{LevelEntry, level_text, form_text, level_pieces}
 use Rattle.formats.specs.Levels.{columns_of, AreGivenBy, Grows, Keeps, IsLevelEntry}
-use Rattle.request_reader.specs.Plain.{plain_request}
+use Rattle.request_reader.specs.Plain.{request_with}
 use Rattle.level_driver.specs.Grown.{IsLevelOf, AreTriesOf}
 use Rattle.macek_run.specs.Steps.{AreListed, TellsLevel}
 
--- a request for forms, with nothing forbidden and no filter
+-- a request for forms, with no filter
 abbrev pub IsPlain : Request → Type 0
-IsPlain q = q ≡ plain_request q.factors q.rank q.size
+IsPlain q = q ≡ request_with q.factors q.rank q.size q.forbid
 
 -- what the listing tells of a level
 abbrev pub entry_of : ℕ → List Rep → List Rep → ℕ → LevelEntry
 entry_of n forms shown tried = record { size = n; classes = length forms; listed = map columns_of shown; tried = tried }
 
-module _ (q : Request) (plain : IsPlain q) where
+-- a request that forbids these matroids
+module _ (q : Request) (plain : IsPlain q) (forbidden : List Matroid) (given : AreGivenBy (map given_as q.forbid) forbidden) where
   grown : Family
-  grown = record { factors = q.factors; rank = q.rank; mode = Linear; forbidden = [] }
+  grown = record { factors = q.factors; rank = q.rank; mode = Linear; forbidden = forbidden }
 
   grows : Grows q grown
   unfolding grown
@@ -35,7 +37,7 @@ module _ (q : Request) (plain : IsPlain q) where
     factors_are = refl;
     rank_is = refl;
     linear = refl;
-    forbids = subst (λ (minors : List Minor). AreGivenBy (map given_as minors) []) (sym (ap (λ r. r.forbid) plain)) tt;
+    forbids = given;
   }
 
   no_filters : Filters

@@ -95,8 +95,9 @@ pub fn write_level<K: Sink>(
     ensures rose { IsErrOf result Stop.Failed → Rose (K.faults sink.old) (K.faults sink.new) }
     ensures kept { OnOk result (K.faults sink.new ≡ K.faults sink.old) }
 {
-    // The proof learns here that nothing is forbidden and that there is no filter.
+    // The proof learns here that there is no filter, and which matroids are forbidden.
     request.rank();
+    request.forbid();
     let Ok(shown) = listed(alloc, request, &level.forms) else {
         return Err(Stop::NoMemory);
     };
