@@ -1,6 +1,8 @@
+pub mod Avoiding
 pub mod ColumnLists
 pub mod Counts
 pub mod KeyLemmas
+pub mod MinorsCarried
 pub mod NextLevel
 pub mod Tried
 pub mod Tries

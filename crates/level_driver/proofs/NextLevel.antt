@@ -9,6 +9,7 @@ use Rattle.matroid_theory.specs.Field.{IsFactors}
 use Rattle.matroid_theory.specs.Rep.{Rep, size, IsRep}
 use Rattle.matroid_theory.specs.Move.{AreEquivalent}
 use Rattle.matroid_theory.specs.Order.{rep_cmp, IsForm}
+use Rattle.matroid_theory.specs.Minor.{Matroid}
 use Rattle.matroid_theory.specs.Level.{Family, IsMember, IsLevelForm, IsLevel, IsNormalised, IsTry, IsCount, followed_by}
 use Rattle.matroid_theory.proofs.Followed.{size_followed, shaped_pushed}
 use Rattle.matroid_theory.proofs.Carried.{agrees_carried, simple_carried}
@@ -16,19 +17,17 @@ use Rattle.matroid_theory.proofs.Equivalence.{equivalent-symmetric}
 use Rattle.matroid_theory.proofs.Forms.{one_form}
 use Rattle.matroid_theory.proofs.Parents.{last_try}
 use Rattle.formats.specs.Request.{Request, IsWithinLimits}
-use Rattle.request_reader.specs.Plain.{plain_request}
-use Rattle.formats.specs.Entry.{Minor}
 use Rattle.formats.specs.Minors.{given_as}
 use Rattle.formats.specs.Levels.{AreGivenBy, Grows}
-use Rattle.extension.specs.Admissible.{IsAdmissible}
-use Rattle.level_driver.specs.Children.{rep_of, IsParent, IsChild}
+use Rattle.level_driver.specs.Children.{rep_of, IsParent, IsChild, IsCandidate}
 use Rattle.level_driver.specs.Grown.{IsLevelOf, AreTriesOf, IsParentLevel}
 use Rattle.level_driver.proofs.Counts.{count_same, Contains-map, Contains-from_map}
-use Rattle.level_driver.proofs.UnitLevel.{none_forbidden, none_avoided}
+use Rattle.level_driver.proofs.UnitLevel.{forbidden_are}
+use Rattle.level_driver.proofs.MinorsCarried.{avoids_over}
 use Rattle.level_driver.proofs.Tries.{IsExtension, HasGrown}
 
--- the level of size n of a family that a request with nothing forbidden grows
-module _ (q : Request) (unforbidden : q.forbid ≡ []) (family : Family) (grows : Grows q family) (n : ℕ) where
+-- the level of size n of a family that a request grows
+module _ (q : Request) (family : Family) (grows : Grows q family) (n : ℕ) where
   -- a form of the level can be extended
   pub level_parent : (P : Rep) → n < 16 → IsLevelForm family n P → IsParent P
   level_parent P l h =
@@ -36,9 +35,10 @@ module _ (q : Request) (unforbidden : q.forbid ≡ []) (family : Family) (grows 
       let m = h.member in
       record { standard = f.standard; simple = m.simple; agrees = m.agrees; room = let s : size P ≡ n = m.sizes in omega arith }
 
-  extension_member : (P : Rep) (v : List ℕ) → IsLevelForm family n P → IsAdmissible P v → IsMember family (n + 1) (followed_by P v)
-  extension_member P v h a =
+  extension_member : (P : Rep) (v : List ℕ) → IsLevelForm family n P → IsCandidate family.forbidden P v → IsMember family (n + 1) (followed_by P v)
+  extension_member P v h candidate =
       let m = h.member in
+      let a = candidate.admissible in
       record {
         same_factors = m.same_factors;
         ranks = m.ranks;
@@ -46,27 +46,28 @@ module _ (q : Request) (unforbidden : q.forbid ≡ []) (family : Family) (grows 
         shaped = (let b = a.normalised in shaped_pushed P v m.shaped b.is_column);
         agrees = a.agrees;
         simple = a.simple;
-        avoids = none_avoided (followed_by P v) family.forbidden (none_forbidden q family unforbidden grows);
+        avoids = candidate.avoids;
       }
 
   module _ (parents : List Rep) (level : IsLevel family n parents) where
     -- the tries are the extensions of the parents
-    tries_are : (try : Rep × List ℕ) → IsExtension parents try ↔ IsTry family n try
+    tries_are : (try : Rep × List ℕ) → IsExtension family.forbidden parents try ↔ IsTry family n try
     tries_are try = (there, back)
       where
-        there : IsExtension parents try → IsTry family n try
+        there : IsExtension family.forbidden parents try → IsTry family n try
         there e =
             let x = level.exact try.0 in
             let parent = x.0 e.0 in
             let m = parent.member in
-            let a = e.1 in
+            let candidate = e.1 in
+            let a = candidate.admissible in
             record {
               parent = parent;
               column = subst (λ fs. IsNormalised fs family.rank try.1) m.same_factors (subst (λ r. IsNormalised (try.0).factors r try.1) m.ranks a.normalised);
-              member = extension_member try.0 try.1 parent a;
+              member = extension_member try.0 try.1 parent candidate;
             }
 
-        back : IsTry family n try → IsExtension parents try
+        back : IsTry family n try → IsExtension family.forbidden parents try
         back t =
             let x = level.exact try.0 in
             let p = t.parent in
@@ -74,25 +75,30 @@ module _ (q : Request) (unforbidden : q.forbid ≡ []) (family : Family) (grows 
             let w = t.member in (
               x.1 p,
               record {
-                normalised = subst (λ fs. IsNormalised fs (try.0).rank try.1) (sym m.same_factors) (subst (λ r. IsNormalised family.factors r try.1) (sym m.ranks) t.column);
-                simple = w.simple;
-                agrees = w.agrees;
+                admissible = record {
+                  normalised = subst (λ fs. IsNormalised fs (try.0).rank try.1) (sym m.same_factors) (subst (λ r. IsNormalised family.factors r try.1) (sym m.ranks) t.column);
+                  simple = w.simple;
+                  agrees = w.agrees;
+                };
+                avoids = w.avoids;
               },
             )
 
-    module _ (tried : ℕ) (found : List (List (List ℕ))) (h : HasGrown parents tried found) where
+    module _ (tried : ℕ) (found : List (List (List ℕ))) (h : HasGrown family.forbidden parents tried found) (some : 0 < length q.factors) where
       pub next_tries : IsCount (IsTry family n) tried
-      next_tries = count_same (IsExtension parents) (IsTry family n) tried tries_are h.count
+      next_tries = count_same (IsExtension family.forbidden parents) (IsTry family n) tried tries_are h.count
 
       of_request : (P : Rep) (cs : List (List ℕ)) → IsLevelForm family n P → rep_of P.factors P.rank cs ≡ rep_of q.factors q.rank cs
       of_request P cs f = let m = f.member in λ i. rep_of ((m.same_factors ∙ grows.factors_are) i) ((m.ranks ∙ grows.rank_is) i) cs
 
       -- the form of an extension is one of the next level
-      child_form : (P : Rep) (v : List ℕ) (cs : List (List ℕ)) → IsLevelForm family n P → IsAdmissible P v → IsChild P v cs → IsLevelForm family (n + 1) (rep_of q.factors q.rank cs)
-      child_form P v cs f a child =
+      child_form : (P : Rep) (v : List ℕ) (cs : List (List ℕ)) → IsLevelForm family n P → IsCandidate family.forbidden P v → IsChild P v cs → IsLevelForm family (n + 1) (rep_of q.factors q.rank cs)
+      child_form P v cs f candidate child =
           subst (IsLevelForm family (n + 1)) (of_request P cs f)
           (let N : Rep = rep_of P.factors P.rank cs in
-          let w = extension_member P v f a in
+          let w = extension_member P v f candidate in
+          let a = candidate.admissible in
+          let m = f.member in
           let e = child.equivalent in
           let t = e.takes in
           record {
@@ -104,7 +110,7 @@ module _ (q : Request) (unforbidden : q.forbid ≡ []) (family : Family) (grows 
               shaped = t.shaped;
               agrees = (agrees_carried Linear (followed_by P v) N e).0 a.agrees;
               simple = (simple_carried Linear (followed_by P v) N e).0 a.simple;
-              avoids = none_avoided N family.forbidden (none_forbidden q family unforbidden grows);
+              avoids = avoids_over Linear (followed_by P v) N e (subst (λ (fs : List ℕ). 0 < length fs) (sym (m.same_factors ∙ grows.factors_are)) some) family.forbidden candidate.avoids;
             };
           })
 
@@ -115,16 +121,22 @@ module _ (q : Request) (unforbidden : q.forbid ≡ []) (family : Family) (grows 
           child_form s.0.0 s.0.1 cs (x.0 s.1.0) s.1.1 s.2
 
       -- each form of the next level was found
-      found_each : 0 < length q.factors → q.rank ≤ n → (M : Rep) → IsLevelForm family (n + 1) M → Contains (map (rep_of q.factors q.rank) found) M
-      found_each some room M f = subst (Contains (map (rep_of q.factors q.rank) found)) is (Contains-map (rep_of q.factors q.rank) found made.0 made.1)
+      found_each : q.rank ≤ n → (M : Rep) → IsLevelForm family (n + 1) M → Contains (map (rep_of q.factors q.rank) found) M
+      found_each room M f = subst (Contains (map (rep_of q.factors q.rank) found)) is (Contains-map (rep_of q.factors q.rank) found made.0 made.1)
         where
+          P : Rep
+          P = record M { columns = take n M.columns }
+
+          v : List ℕ
+          v = get_or M.columns n []
+
           split : M ≡ followed_by (record M { columns = take n M.columns }) (get_or M.columns n [])
           split =
               let m = f.member in
               let s : length M.columns ≡ n + 1 = m.sizes in
               λ i. record M { columns = (sym (take_all (n + 1) M.columns (omega arith)) ∙ take_more M.columns n [] (omega arith)) i }
 
-          try : IsExtension parents (record M { columns = take n M.columns }, get_or M.columns n [])
+          try : IsExtension family.forbidden parents (record M { columns = take n M.columns }, get_or M.columns n [])
           try = (tries_are (record M { columns = take n M.columns }, get_or M.columns n [])).1
               (last_try family n (record M { columns = take n M.columns }) (get_or M.columns n []) (subst (λ fs. 0 < length fs) (sym grows.factors_are) some) (subst (λ r. r ≤ n) (sym grows.rank_is) room) (subst (IsLevelForm family (n + 1)) split f))
 
@@ -139,12 +151,12 @@ module _ (q : Request) (unforbidden : q.forbid ≡ []) (family : Family) (grows 
               let back : AreEquivalent Linear N M = equivalent-symmetric Linear M N (subst (λ (M' : Rep). AreEquivalent Linear M' N) (sym split) child.equivalent) in
               sym (of_request (record M { columns = take n M.columns }) made.0 (x.0 try.0)) ∙ one_form Linear N M child.form (subst (λ mode. IsForm mode M) grows.linear f.form) back
 
-      pub next_level : 0 < length q.factors → q.rank ≤ n → AllPairs (λ M N. rep_cmp M N ≡ Less) (map (rep_of q.factors q.rank) found) → IsLevel family (n + 1) (map (rep_of q.factors q.rank) found)
-      next_level some room rising = record {
+      pub next_level : q.rank ≤ n → AllPairs (λ M N. rep_cmp M N ≡ Less) (map (rep_of q.factors q.rank) found) → IsLevel family (n + 1) (map (rep_of q.factors q.rank) found)
+      next_level room rising = record {
         rising = rising;
         exact = λ M. (
           λ c. let b = Contains-from_map (rep_of q.factors q.rank) found M c in subst (IsLevelForm family (n + 1)) b.2 (found_form b.0 b.1),
-          found_each some room M,
+          found_each room M,
         );
       }
 
@@ -164,25 +176,17 @@ module _ (q : Request) (unforbidden : q.forbid ≡ []) (family : Family) (grows 
             shaped = w.shaped;
           }
 
--- what a request with nothing forbidden grows
-abbrev pub alone : Request → Family
-alone q = record { factors = q.factors; rank = q.rank; mode = Linear; forbidden = [] }
+-- what a request grows that forbids these matroids
+abbrev pub grown_by : Request → List Matroid → Family
+grown_by q Ns = record { factors = q.factors; rank = q.rank; mode = Linear; forbidden = Ns }
 
-pub grows_alone : (q : Request) → q.forbid ≡ [] → Grows q (alone q)
-grows_alone q unforbidden = record {
-  factors_are = refl;
-  rank_is = refl;
-  linear = refl;
-  forbids = subst (λ (minors : List Minor). AreGivenBy (map given_as minors) []) (sym unforbidden) tt;
-}
+pub grows_it : (q : Request) (Ns : List Matroid) → AreGivenBy (map given_as q.forbid) Ns → Grows q (grown_by q Ns)
+grows_it q Ns given = record { factors_are = refl; rank_is = refl; linear = refl; forbids = given }
 
--- a level of a plain request that isn't its last
-module _ (q : Request) (plain : q ≡ plain_request q.factors q.rank q.size) (limits : IsWithinLimits q) (n : ℕ) (parents : List Rep) (h : IsParentLevel q n parents) where
-  unforbidden : q.forbid ≡ []
-  unforbidden = ap (λ (q : Request). q.forbid) plain
-
-  its_level : IsLevel (alone q) n parents
-  its_level = h.level (alone q) (grows_alone q unforbidden)
+-- a level of a request that isn't its last
+module _ (q : Request) (Ns : List Matroid) (given : AreGivenBy (map given_as q.forbid) Ns) (fields : IsFactors q.factors) (limits : IsWithinLimits q) (n : ℕ) (parents : List Rep) (h : IsParentLevel q n parents) where
+  its_level : IsLevel (grown_by q Ns) n parents
+  its_level = h.level (grown_by q Ns) (grows_it q Ns given)
 
   pub parents_rise : AllPairs (λ M N. rep_cmp M N ≡ Less) parents
   parents_rise = let l = its_level in l.rising
@@ -192,18 +196,21 @@ module _ (q : Request) (plain : q ≡ plain_request q.factors q.rank q.size) (li
       let l = its_level in
       let x = l.exact P in
       let most = limits.size in
-      level_parent q unforbidden (alone q) (grows_alone q unforbidden) n P (let b : n < q.size = h.before in let s : q.size ≤ 16 = most.1 in omega arith) (x.0 c)
+      level_parent q (grown_by q Ns) (grows_it q Ns given) n P (let b : n < q.size = h.before in let s : q.size ≤ 16 = most.1 in omega arith) (x.0 c)
 
-  module _ (tried : ℕ) (found : List (List (List ℕ))) (grown : HasGrown parents tried found) where
-    pub each_rep : IsFactors q.factors → All (λ cs. IsRep (rep_of q.factors q.rank cs)) found
-    each_rep fields = found_reps q unforbidden (alone q) (grows_alone q unforbidden) n parents its_level tried found grown fields limits h.before
+  module _ (tried : ℕ) (found : List (List (List ℕ))) (grown : HasGrown Ns parents tried found) where
+    of_family : (family : Family) → Grows q family → HasGrown family.forbidden parents tried found
+    of_family family grows = subst (λ (Ns : List Matroid). HasGrown Ns parents tried found) (forbidden_are q Ns family given grows) grown
 
-    pub level_grown : IsFactors q.factors → AllPairs (λ M N. rep_cmp M N ≡ Less) (map (rep_of q.factors q.rank) found) → IsLevelOf q (n + 1) (map (rep_of q.factors q.rank) found)
-    level_grown fields rising family grows = next_level q unforbidden family grows n parents (h.level family grows) tried found grown fields.some h.at_least rising
+    pub each_rep : All (λ cs. IsRep (rep_of q.factors q.rank cs)) found
+    each_rep = found_reps q (grown_by q Ns) (grows_it q Ns given) n parents its_level tried found grown fields.some fields limits h.before
+
+    pub level_grown : AllPairs (λ M N. rep_cmp M N ≡ Less) (map (rep_of q.factors q.rank) found) → IsLevelOf q (n + 1) (map (rep_of q.factors q.rank) found)
+    level_grown rising family grows = next_level q family grows n parents (h.level family grows) tried found (of_family family grows) fields.some h.at_least rising
 
     pub tries_grown : AreTriesOf q (n + 1) tried
     tries_grown family grows = record {
       first = λ e. let r : family.rank ≡ q.rank = grows.rank_is in let l : q.rank ≤ n = h.at_least in absurd (omega arith);
       later = λ m e l.
-          subst (λ n. IsCount (IsTry family n) tried) (let same : n ≡ m = omega arith in same) (next_tries q unforbidden family grows n parents (h.level family grows) tried found grown);
+          subst (λ n. IsCount (IsTry family n) tried) (let same : n ≡ m = omega arith in same) (next_tries q family grows n parents (h.level family grows) tried found (of_family family grows) fields.some);
     }

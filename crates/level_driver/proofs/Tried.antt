@@ -11,22 +11,28 @@ use Rattle.matroid_theory.specs.declared.Mode.TheVariants.{Linear}
 use Rattle.matroid_theory.specs.Rep.{Rep}
 use Rattle.matroid_theory.specs.Move.{AreEquivalent}
 use Rattle.matroid_theory.specs.Order.{IsForm}
+use Rattle.matroid_theory.specs.Minor.{Matroid}
 use Rattle.matroid_theory.specs.Level.{IsCount, IsNormalised, followed_by}
 use Rattle.extension.specs.Admissible.{IsAdmissible, ColumnsAfter, IsNextColumn, IsLastColumn, value}
-use Rattle.level_driver.specs.Children.{rep_of, Adds, IsChild, AddsChildren}
+use Rattle.level_driver.specs.Children.{rep_of, Adds, IsChild, IsCandidate, AddsChildren}
+use Rattle.level_driver.specs.Forbidden.{Avoids}
 use Rattle.level_driver.proofs.Counts.{count_same, count_none, count_one, count_both}
 
 -- an admissible column up to the last one
 abbrev pub IsUpTo : ColumnsAfter → List ℕ → Type 0
 IsUpTo columns w = IsAdmissible columns.parent w × (slice_cmp nat_cmp w columns.last ≢ Greater)
 
+-- such a column by which none of the matroids becomes a minor
+abbrev pub IsTriedUpTo : List Matroid → ColumnsAfter → List ℕ → Type 0
+IsTriedUpTo Ns columns w = IsUpTo columns w × Avoids Ns (followed_by columns.parent w)
+
 -- the columns up to the last one were tried, and the forms added
-pub record HasTried (start : List (List (List ℕ))) (columns : ColumnsAfter) (tried : ℕ) (found : List (List (List ℕ))) : Type 0 where
-  pub count : IsCount (IsUpTo columns) tried
+pub record HasTried (Ns : List Matroid) (start : List (List (List ℕ))) (columns : ColumnsAfter) (tried : ℕ) (found : List (List (List ℕ))) : Type 0 where
+  pub count : IsCount (IsTriedUpTo Ns columns) tried
   pub bound : tried + (10 ^ 18 - value columns.last) ≤ 10 ^ 18
   pub kept : (cs : List (List ℕ)) → Contains start cs → Contains found cs
-  pub sound : (cs : List (List ℕ)) → Contains found cs → Contains start cs ⊎ ((v : List ℕ) × IsAdmissible columns.parent v × IsChild columns.parent v cs)
-  pub complete : (v : List ℕ) → IsUpTo columns v → (cs : List (List ℕ)) × Contains found cs × IsChild columns.parent v cs
+  pub sound : (cs : List (List ℕ)) → Contains found cs → Contains start cs ⊎ ((v : List ℕ) × IsCandidate Ns columns.parent v × IsChild columns.parent v cs)
+  pub complete : (v : List ℕ) → IsTriedUpTo Ns columns v → (cs : List (List ℕ)) × Contains found cs × IsChild columns.parent v cs
 
 -- the other way round
 turned : (v w : List ℕ) (r : Ordering) → slice_cmp nat_cmp v w ≡ r → slice_cmp nat_cmp w v ≡ ordering_reverse r
@@ -43,14 +49,14 @@ above_empty [] h = absurd (h refl)
 above_empty (x ∷ xs) h = refl
 
 -- at the start none is up to the last one
-pub tried_none : (start : List (List (List ℕ))) (P : Rep) → 0 < length P.factors → (columns : ColumnsAfter) → columns ≡ record { parent = P; last = [] } → HasTried start columns 0 start
-tried_none start P some columns is =
-    subst (λ columns. HasTried start columns 0 start) (sym is) record {
-      count = count_none (IsUpTo begin) none;
+pub tried_none : (Ns : List Matroid) (start : List (List (List ℕ))) (P : Rep) → 0 < length P.factors → (columns : ColumnsAfter) → columns ≡ record { parent = P; last = [] } → HasTried Ns start columns 0 start
+tried_none Ns start P some columns is =
+    subst (λ columns. HasTried Ns start columns 0 start) (sym is) record {
+      count = count_none (IsTriedUpTo Ns begin) (λ v u. none v u.0);
       bound = omega arith;
       kept = λ cs c. c;
       sound = λ cs c. inl c;
-      complete = λ v u. absurd (none v u);
+      complete = λ v u. absurd (none v u.0);
     }
   where
     begin : ColumnsAfter
@@ -92,39 +98,65 @@ module _ (columns : ColumnsAfter) (v : List ℕ) (next : IsNextColumn columns v)
   not_yet : (w : List ℕ) → IsUpTo columns w → w ≡ v → ⊥
   not_yet w u e = u.1 (ap (λ x. slice_cmp nat_cmp x columns.last) e ∙ turned columns.last v Less next.after)
 
-  -- the next one was tried too
-  pub tried_more : (start found new : List (List (List ℕ))) (tried : ℕ) (cs : List (List ℕ)) (following : ColumnsAfter) → following ≡ record { parent = columns.parent; last = v }
-      → 10 ^ 18 - value following.last < 10 ^ 18 - value columns.last → IsChild columns.parent v cs → Adds found new cs → HasTried start columns tried found → HasTried start following (tried + 1) new
-  unfolding after
-  tried_more start found new tried cs following is falls child adds h =
-      subst (λ columns. HasTried start columns (tried + 1) new) (sym is) record {
-        count = count_both (IsUpTo columns) (λ w. w ≡ v) (IsUpTo after) tried 1 h.count (count_one v) not_yet one_more;
-        bound = (let b : tried + (10 ^ 18 - value columns.last) ≤ 10 ^ 18 = h.bound in
-            let f : 10 ^ 18 - value v < 10 ^ 18 - value columns.last = subst (λ (c : ColumnsAfter). 10 ^ 18 - value c.last < 10 ^ 18 - value columns.last) is falls in
-            omega arith);
-        kept = λ other c. let a = adds other in a.1 (inl (h.kept other c));
-        sound = λ other c.
-            let a = adds other in
-            elim (a.0 c) [
-              | inl d ↦ h.sound other d
-              | inr e ↦ inr (v, next.admissible, subst (IsChild columns.parent v) (sym e) child)
-            ];
-        complete = λ w u.
-            elim ((one_more w).0 u) [
-              | inl b ↦ (let d = h.complete w b in let a = adds d.0 in (d.0, a.1 (inl d.1), d.2))
-              | inr e ↦ (let a = adds cs in (cs, a.1 (inr refl), subst (λ w. IsChild columns.parent w cs) (sym e) child))
-            ];
-      }
+  module _ (Ns : List Matroid) (start found : List (List (List ℕ))) (tried : ℕ) (following : ColumnsAfter) (is : following ≡ record { parent = columns.parent; last = v }) (falls : 10 ^ 18 - value following.last < 10 ^ 18 - value columns.last) (h : HasTried Ns start columns tried found) where
+    fewer : 10 ^ 18 - value v < 10 ^ 18 - value columns.last
+    fewer = subst (λ (c : ColumnsAfter). 10 ^ 18 - value c.last < 10 ^ 18 - value columns.last) is falls
+
+    -- the next one was tried too
+    pub tried_more : Avoids Ns (followed_by columns.parent v) → (new : List (List (List ℕ))) (cs : List (List ℕ)) → IsChild columns.parent v cs → Adds found new cs → HasTried Ns start following (tried + 1) new
+    unfolding after
+    tried_more avoids new cs child adds =
+        subst (λ columns. HasTried Ns start columns (tried + 1) new) (sym is) record {
+          count = count_both (IsTriedUpTo Ns columns) (λ w. w ≡ v) (IsTriedUpTo Ns after) tried 1 h.count (count_one v) (λ w u. not_yet w u.0) one_more_tried;
+          bound = (let b : tried + (10 ^ 18 - value columns.last) ≤ 10 ^ 18 = h.bound in let f = fewer in omega arith);
+          kept = λ other c. let a = adds other in a.1 (inl (h.kept other c));
+          sound = λ other c.
+              let a = adds other in
+              elim (a.0 c) [
+                | inl d ↦ h.sound other d
+                | inr e ↦ inr (v, record { admissible = next.admissible; avoids = avoids }, subst (IsChild columns.parent v) (sym e) child)
+              ];
+          complete = λ w u.
+              elim ((one_more_tried w).0 u) [
+                | inl b ↦ (let d = h.complete w b in let a = adds d.0 in (d.0, a.1 (inl d.1), d.2))
+                | inr e ↦ (let a = adds cs in (cs, a.1 (inr refl), subst (λ w. IsChild columns.parent w cs) (sym e) child))
+              ];
+        }
+      where
+        one_more_tried : (w : List ℕ) → ((IsAdmissible columns.parent w × (slice_cmp nat_cmp w v ≢ Greater)) × Avoids Ns (followed_by columns.parent w)) ↔ (IsTriedUpTo Ns columns w ⊎ (w ≡ v))
+        one_more_tried w = (
+          λ u. elim ((one_more w).0 u.0) [ inl b ↦ inl (b, u.1) | inr e ↦ inr e ],
+          λ h. elim h [ inl b ↦ ((one_more w).1 (inl b.0), b.1) | inr e ↦ ((one_more w).1 (inr e), subst (λ w. Avoids Ns (followed_by columns.parent w)) (sym e) avoids) ],
+        )
+
+    -- the next one makes one of the matroids a minor
+    pub tried_same : ¬ (Avoids Ns (followed_by columns.parent v)) → HasTried Ns start following tried found
+    unfolding after
+    tried_same has =
+        subst (λ columns. HasTried Ns start columns tried found) (sym is) record {
+          count = count_same (IsTriedUpTo Ns columns) (IsTriedUpTo Ns after) tried (λ w. (λ u. ((one_more w).1 (inl u.0), u.1), up_to_last w)) h.count;
+          bound = (let b : tried + (10 ^ 18 - value columns.last) ≤ 10 ^ 18 = h.bound in let f = fewer in omega arith);
+          kept = h.kept;
+          sound = h.sound;
+          complete = λ w u. h.complete w (up_to_last w u);
+        }
+      where
+        up_to_last : (w : List ℕ) → (IsAdmissible columns.parent w × (slice_cmp nat_cmp w v ≢ Greater)) × Avoids Ns (followed_by columns.parent w) → IsTriedUpTo Ns columns w
+        up_to_last w u =
+            elim ((one_more w).0 u.0) [
+              | inl b ↦ (b, u.1)
+              | inr e ↦ absurd (has (subst (λ w. Avoids Ns (followed_by columns.parent w)) e u.1))
+            ]
 
 -- where no column comes after the last one, all were tried
-module _ (start found : List (List (List ℕ))) (columns : ColumnsAfter) (tried : ℕ) (h : HasTried start columns tried found) (last : IsLastColumn columns) where
-  all_up_to : (w : List ℕ) → IsAdmissible columns.parent w → IsUpTo columns w
-  all_up_to w a = (a, λ g. last w a (turned w columns.last Greater g))
+module _ (Ns : List Matroid) (start found : List (List (List ℕ))) (columns : ColumnsAfter) (tried : ℕ) (h : HasTried Ns start columns tried found) (last : IsLastColumn columns) where
+  all_up_to : (w : List ℕ) → IsCandidate Ns columns.parent w → IsTriedUpTo Ns columns w
+  all_up_to w a = ((a.admissible, λ g. last w a.admissible (turned w columns.last Greater g)), a.avoids)
 
-  pub tried_count : IsCount (IsAdmissible columns.parent) tried
-  tried_count = count_same (IsUpTo columns) (IsAdmissible columns.parent) tried (λ w. (λ u. u.0, all_up_to w)) h.count
+  pub tried_count : IsCount (IsCandidate Ns columns.parent) tried
+  tried_count = count_same (IsTriedUpTo Ns columns) (IsCandidate Ns columns.parent) tried (λ w. (λ u. record { admissible = u.0.0; avoids = u.1 }, all_up_to w)) h.count
 
-  pub tried_all : AddsChildren columns.parent start found
+  pub tried_all : AddsChildren Ns columns.parent start found
   tried_all = record { kept = h.kept; sound = h.sound; complete = λ v a. h.complete v (all_up_to v a) }
 
 -- the form of P followed by v, by its columns

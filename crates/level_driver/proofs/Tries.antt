@@ -3,55 +3,61 @@ use Rattle.std.proofs.Common.{◌≡◌, ◌⊎◌, ◌↔◌, ℕ, ◌+◌, ◌
 use Rattle.std.specs.List.{Contains, AllPairs}
 use Rattle.std.specs.declared.cmp.Ordering.TheVariants.{Less}
 use Rattle.std.proofs.lemmas.List.{take_more, take_all, get_or-take, length-take-le}
-use Rattle.std.proofs.lemmas.List.Elements.{Contains-get_or, Contains-append_left, Contains-push, Contains-push_cases}
+use Rattle.std.proofs.lemmas.List.Elements.{Contains-append_left, Contains-push, Contains-push_cases}
 use Rattle.matroid_theory.specs.Rep.{Rep}
 use Rattle.matroid_theory.specs.Order.{rep_cmp}
 use Rattle.matroid_theory.specs.Level.{IsCount}
+use Rattle.matroid_theory.specs.Minor.{Matroid}
 use Rattle.matroid_theory.proofs.Levels.{rep_cmp-irreflexive}
-use Rattle.extension.specs.Admissible.{IsAdmissible}
-use Rattle.level_driver.specs.Children.{IsChild, AddsChildren}
+use Rattle.level_driver.specs.Children.{IsChild, IsCandidate, AddsChildren}
 use Rattle.level_driver.proofs.Counts.{count_none, count_both, count_images}
 
--- one of the parents and a column by which it can be extended
-abbrev pub IsExtension : List Rep → Rep × List ℕ → Type 0
-IsExtension parents try = Contains parents try.0 × IsAdmissible try.0 try.1
+-- one of the parents and a column that make a candidate
+abbrev pub IsExtension : List Matroid → List Rep → Rep × List ℕ → Type 0
+IsExtension Ns parents try = Contains parents try.0 × IsCandidate Ns try.0 try.1
 
 -- these parents were extended by all columns, and the forms added
-pub record HasGrown (parents : List Rep) (tried : ℕ) (found : List (List (List ℕ))) : Type 0 where
-  pub count : IsCount (IsExtension parents) tried
-  pub sound : (cs : List (List ℕ)) → Contains found cs → (try : Rep × List ℕ) × IsExtension parents try × IsChild try.0 try.1 cs
-  pub complete : (try : Rep × List ℕ) → IsExtension parents try → (cs : List (List ℕ)) × Contains found cs × IsChild try.0 try.1 cs
+pub record HasGrown (Ns : List Matroid) (parents : List Rep) (tried : ℕ) (found : List (List (List ℕ))) : Type 0 where
+  pub count : IsCount (IsExtension Ns parents) tried
+  pub sound : (cs : List (List ℕ)) → Contains found cs → (try : Rep × List ℕ) × IsExtension Ns parents try × IsChild try.0 try.1 cs
+  pub complete : (try : Rep × List ℕ) → IsExtension Ns parents try → (cs : List (List ℕ)) × Contains found cs × IsChild try.0 try.1 cs
 
-pub grown_none : (found : List (List (List ℕ))) → found ≡ [] → HasGrown [] 0 found
-grown_none found empty = subst (HasGrown [] 0) (sym empty) record {
-  count = count_none (IsExtension []) (λ try e. let l = e.0.1 in absurd (omega arith));
+pub grown_none : (Ns : List Matroid) (found : List (List (List ℕ))) → found ≡ [] → HasGrown Ns [] 0 found
+grown_none Ns found empty = subst (HasGrown Ns [] 0) (sym empty) record {
+  count = count_none (IsExtension Ns []) (λ try e. let l = e.0.1 in absurd (omega arith));
   sound = λ cs c. let l = c.1 in absurd (omega arith);
   complete = λ try e. let l = e.0.1 in absurd (omega arith);
 }
 
-module _ (parents : List Rep) (P : Rep) (new_one : ¬ (Contains parents P)) where
-  two_kinds : (try : Rep × List ℕ) → IsExtension (parents ++ P ∷ []) try ↔ (IsExtension parents try ⊎ ((v : List ℕ) × IsAdmissible P v × ((P, v) ≡ try)))
+module _ (Ns : List Matroid) (parents : List Rep) (P : Rep) (new_one : ¬ (Contains parents P)) where
+  more : List Rep
+  more = parents ++ P ∷ []
+
+  of_last : Rep × List ℕ → Type 0
+  of_last try = (v : List ℕ) × IsCandidate Ns P v × ((P, v) ≡ try)
+
+  two_kinds : (try : Rep × List ℕ) → IsExtension Ns (parents ++ P ∷ []) try ↔ (IsExtension Ns parents try ⊎ ((v : List ℕ) × IsCandidate Ns P v × ((P, v) ≡ try)))
   two_kinds try = (there, back)
     where
-      there : IsExtension (parents ++ P ∷ []) try → IsExtension parents try ⊎ ((v : List ℕ) × IsAdmissible P v × ((P, v) ≡ try))
+      there : IsExtension Ns (parents ++ P ∷ []) try → IsExtension Ns parents try ⊎ ((v : List ℕ) × IsCandidate Ns P v × ((P, v) ≡ try))
       there e =
           elim (Contains-push_cases parents P try.0 e.0) [
             | inl c ↦ inl (c, e.1)
-            | inr same ↦ inr (try.1, subst (λ (M : Rep). IsAdmissible M try.1) (sym same) e.1, λ i. (same i, try.1))
+            | inr same ↦ inr (try.1, subst (λ (M : Rep). IsCandidate Ns M try.1) (sym same) e.1, λ i. (same i, try.1))
           ]
 
-      back : IsExtension parents try ⊎ ((v : List ℕ) × IsAdmissible P v × ((P, v) ≡ try)) → IsExtension (parents ++ P ∷ []) try
+      back : IsExtension Ns parents try ⊎ ((v : List ℕ) × IsCandidate Ns P v × ((P, v) ≡ try)) → IsExtension Ns (parents ++ P ∷ []) try
       back h =
           elim h [
             | inl e ↦ (Contains-append_left parents (P ∷ []) try.0 e.0, e.1)
-            | inr (v, a, same) ↦ subst (IsExtension (parents ++ P ∷ [])) same (Contains-push parents P, a)
+            | inr (v, a, same) ↦ subst (IsExtension Ns (parents ++ P ∷ [])) same (Contains-push parents P, a)
           ]
 
   -- one parent more
-  pub grown_more : (tried k : ℕ) (found new : List (List (List ℕ))) → HasGrown parents tried found → IsCount (IsAdmissible P) k → AddsChildren P found new → HasGrown (parents ++ P ∷ []) (tried + k) new
+  pub grown_more : (tried k : ℕ) (found new : List (List (List ℕ))) → HasGrown Ns parents tried found → IsCount (IsCandidate Ns P) k → AddsChildren Ns P found new → HasGrown Ns (parents ++ P ∷ []) (tried + k) new
   grown_more tried k found new h count adds = record {
-    count = count_both (IsExtension parents) (λ try. (v : List ℕ) × IsAdmissible P v × ((P, v) ≡ try)) (IsExtension (parents ++ P ∷ [])) tried k h.count
-        (count_images (λ (v : List ℕ). (P, v)) (IsAdmissible P) k (λ v w e. ap (λ t. t.1) e) count)
+    count = count_both (IsExtension Ns parents) (λ try. (v : List ℕ) × IsCandidate Ns P v × ((P, v) ≡ try)) (IsExtension Ns (parents ++ P ∷ [])) tried k h.count
+        (count_images (λ (v : List ℕ). (P, v)) (IsCandidate Ns P) k (λ v w e. ap (λ t. t.1) e) count)
         (λ try e l. new_one (subst (Contains parents) (sym (ap (λ t. t.0) l.2)) e.0)) two_kinds;
     sound = λ cs c.
         elim (adds.sound cs c) [
@@ -75,22 +81,12 @@ not_before parents rising i P l is (k, m, e) =
     rep_cmp-irreflexive P (subst (λ N. rep_cmp P N ≡ Less) (sym is) (subst (λ M. rep_cmp M (get_or parents i P) ≡ Less) same less))
 
 -- the next parent
-pub grown_step : (parents : List Rep) → AllPairs (λ M N. rep_cmp M N ≡ Less) parents → (i : ℕ) (P : Rep) → i < length parents → P ≡ get_or parents i P → (tried k : ℕ) (found new : List (List (List ℕ)))
-    → HasGrown (take i parents) tried found → IsCount (IsAdmissible P) k → AddsChildren P found new → HasGrown (take (i + 1) parents) (tried + k) new
-grown_step parents rising i P l is tried k found new h count adds =
-    subst (λ (done : List Rep). HasGrown done (tried + k) new) (ap (λ (M : Rep). take i parents ++ M ∷ []) is ∙ sym (take_more parents i P l))
-    (grown_more (take i parents) P (not_before parents rising i P l is) tried k found new h count adds)
+pub grown_step : (Ns : List Matroid) (parents : List Rep) → AllPairs (λ M N. rep_cmp M N ≡ Less) parents → (i : ℕ) (P : Rep) → i < length parents → P ≡ get_or parents i P → (tried k : ℕ) (found new : List (List (List ℕ)))
+    → HasGrown Ns (take i parents) tried found → IsCount (IsCandidate Ns P) k → AddsChildren Ns P found new → HasGrown Ns (take (i + 1) parents) (tried + k) new
+grown_step Ns parents rising i P l is tried k found new h count adds =
+    subst (λ (done : List Rep). HasGrown Ns done (tried + k) new) (ap (λ (M : Rep). take i parents ++ M ∷ []) is ∙ sym (take_more parents i P l))
+    (grown_more Ns (take i parents) P (not_before parents rising i P l is) tried k found new h count adds)
 
 -- all parents
-pub grown_all : (parents items : List Rep) (i tried : ℕ) (found : List (List (List ℕ))) → items ≡ parents → length items ≤ i → HasGrown (take i parents) tried found → HasGrown parents tried found
-grown_all parents items i tried found same l h = subst (λ (done : List Rep). HasGrown done tried found) (take_all i parents (subst (λ (xs : List Rep). length xs ≤ i) same l)) h
-
--- the item of a loop over the parents is one of them, at its place
-pub item_below : (parents items : List Rep) (i : ℕ) → items ≡ parents → i < length items → i < length parents
-item_below parents items i same l = subst (λ (xs : List Rep). i < length xs) same l
-
-pub item_at : (parents items : List Rep) (i : ℕ) (P : Rep) → items ≡ parents → P ≡ get_or items i P → P ≡ get_or parents i P
-item_at parents items i P same is = is ∙ ap (λ (xs : List Rep). get_or xs i P) same
-
-pub item_in : (parents items : List Rep) (i : ℕ) (P : Rep) → items ≡ parents → i < length items → P ≡ get_or items i P → Contains parents P
-item_in parents items i P same l is = subst (Contains parents) (sym (item_at parents items i P same is)) (Contains-get_or parents i P (item_below parents items i same l))
+pub grown_all : (Ns : List Matroid) (parents : List Rep) (i tried : ℕ) (found : List (List (List ℕ))) → length parents ≤ i → HasGrown Ns (take i parents) tried found → HasGrown Ns parents tried found
+grown_all Ns parents i tried found l h = subst (λ (done : List Rep). HasGrown Ns done tried found) (take_all i parents l) h

@@ -1,31 +1,70 @@
--- The first level of a request with nothing forbidden: the unit columns alone.
-use Rattle.std.proofs.Common.{◌≡◌, ◌∙◌, ℕ, List, [], ◌∷◌, map, refl, sym, ap, subst, arith}
-use Rattle.std.specs.List.{All}
+-- The first level of a request: the unit columns alone, where they avoid what is forbidden.
+use Rattle.std.proofs.Common.{◌≡◌, ◌∙◌, ℕ, zero, suc, List, [], ◌∷◌, map, sym, ap, subst, arith}
+use Rattle.std.specs.List.{Contains}
 use Rattle.matroid_theory.specs.Rep.{Rep, shape, size, IsRep, IsStandard}
-use Rattle.matroid_theory.specs.Minor.{Matroid, IsMinor}
-use Rattle.matroid_theory.specs.Level.{Family, IsLevel}
-use Rattle.matroid_theory.proofs.First.{first_level}
-use Rattle.formats.specs.Entry.{Minor}
+use Rattle.matroid_theory.specs.Matroid.{Agrees}
+use Rattle.matroid_theory.specs.Minor.{Matroid}
+use Rattle.matroid_theory.specs.Level.{Family, IsLevel, IsLevelForm}
+use Rattle.matroid_theory.proofs.First.{first_level, unit_agrees}
 use Rattle.formats.specs.Minors.{given_as}
 use Rattle.formats.specs.Request.{Request}
 use Rattle.formats.specs.Levels.{AreGivenBy, Grows}
+use Rattle.level_driver.specs.Forbidden.{Avoids}
+use Rattle.level_driver.proofs.MinorsCarried.{all_given_unique}
 
-nothing_given : (Ns : List Matroid) → AreGivenBy [] Ns → Ns ≡ []
-nothing_given [] given = refl
-nothing_given (N ∷ Ns) given = absurd given
+-- the matroids that are given so are those that are forbidden to what the request grows
+pub forbidden_are : (q : Request) (Ns : List Matroid) (family : Family) → AreGivenBy (map given_as q.forbid) Ns → Grows q family → Ns ≡ family.forbidden
+forbidden_are q Ns family given grows = all_given_unique (map given_as q.forbid) Ns family.forbidden given grows.forbids
 
--- nothing is forbidden to what such a request grows
-pub none_forbidden : (q : Request) (family : Family) → q.forbid ≡ [] → Grows q family → family.forbidden ≡ []
-none_forbidden q family unforbidden grows = nothing_given family.forbidden (subst (λ (minors : List Minor). AreGivenBy (map given_as minors) family.forbidden) unforbidden grows.forbids)
+module _ (q : Request) (U : Rep) (is_rep : IsRep U) (standard : IsStandard U) (shape_is : shape U ≡ record { factors = q.factors; rank = q.rank; size = q.rank }) where
+  square : size U ≡ U.rank
+  square = ap (λ s. s.size) shape_is ∙ sym (ap (λ s. s.rank) shape_is)
 
-pub none_avoided : (M : Rep) (Ns : List Matroid) → Ns ≡ [] → All (λ N. ¬ (IsMinor N M)) Ns
-none_avoided M Ns e = subst (λ (Ns : List Matroid). All (λ N. ¬ (IsMinor N M)) Ns) (sym e) (λ k d l. absurd (omega arith))
+  pub agrees_unit : Agrees U
+  agrees_unit = unit_agrees U is_rep.shaped standard square
 
--- the unit columns alone are the level of the size that equals the rank
-pub unit_is_level : (q : Request) (U : Rep) → q.forbid ≡ [] → IsRep U → IsStandard U → shape U ≡ record { factors = q.factors; rank = q.rank; size = q.rank } → (family : Family) → Grows q family → IsLevel family q.rank (U ∷ [])
-unit_is_level q U unforbidden is_rep standard shape_is family grows =
-    subst (λ (n : ℕ). IsLevel family n (U ∷ [])) grows.rank_is
-    (first_level U is_rep.shaped standard square family (ap (λ s. s.factors) shape_is ∙ sym grows.factors_are) (ap (λ s. s.rank) shape_is ∙ sym grows.rank_is) (none_avoided U family.forbidden (none_forbidden q family unforbidden grows)))
-  where
-    square : size U ≡ U.rank
-    square = ap (λ s. s.size) shape_is ∙ sym (ap (λ s. s.rank) shape_is)
+  module _ (Ns : List Matroid) (given : AreGivenBy (map given_as q.forbid) Ns) (family : Family) (grows : Grows q family) where
+    -- the unit columns alone are the level of the size that equals the rank
+    pub unit_is_level : Avoids Ns U → IsLevel family q.rank (U ∷ [])
+    unit_is_level avoids =
+        subst (λ (n : ℕ). IsLevel family n (U ∷ [])) grows.rank_is
+        (first_level U is_rep.shaped standard square family (ap (λ s. s.factors) shape_is ∙ sym grows.factors_are) (ap (λ s. s.rank) shape_is ∙ sym grows.rank_is) (subst (λ (Ns : List Matroid). Avoids Ns U) (forbidden_are q Ns family given grows) avoids))
+
+    -- where nothing is forbidden they are
+    unforbidden : Family
+    unforbidden = record family { forbidden = [] }
+
+    in_unforbidden : (M : Rep) → IsLevelForm family q.rank M → IsLevelForm unforbidden q.rank M
+    unfolding unforbidden
+    in_unforbidden M h = record {
+      form = h.form;
+      member = (let m = h.member in record {
+        same_factors = m.same_factors;
+        ranks = m.ranks;
+        sizes = m.sizes;
+        shaped = m.shaped;
+        agrees = m.agrees;
+        simple = m.simple;
+        avoids = λ k d l. absurd (omega arith);
+      });
+    }
+
+    only_unit : (M : Rep) → IsLevelForm family q.rank M → M ≡ U
+    unfolding unforbidden
+    only_unit M h =
+        let level = first_level U is_rep.shaped standard square unforbidden (ap (λ s. s.factors) shape_is ∙ sym grows.factors_are) (ap (λ s. s.rank) shape_is ∙ sym grows.rank_is) (λ k d l. absurd (omega arith)) in
+        one M ((level.exact M).1 (subst (λ (n : ℕ). IsLevelForm unforbidden n M) (sym grows.rank_is) (in_unforbidden M h)))
+      where
+        one : (M : Rep) → Contains (U ∷ []) M → M ≡ U
+        one M (zero, l, e) = sym e
+        one M (suc k, l, e) = absurd (omega arith)
+
+    -- where they have a forbidden minor, the level is empty
+    pub no_unit_is_level : ¬ (Avoids Ns U) → IsLevel family q.rank []
+    no_unit_is_level has = record {
+      rising = λ i j d l m. absurd (omega arith);
+      exact = λ M. (
+        λ c. let l = c.1 in absurd (omega arith),
+        λ h. let m = h.member in absurd (has (subst (λ (Ns : List Matroid). Avoids Ns U) (sym (forbidden_are q Ns family given grows)) (subst (Avoids family.forbidden) (only_unit M h) m.avoids))),
+      );
+    }

@@ -6,8 +6,10 @@ use Rattle.matroid_theory.specs.Rep.{Rep, size, IsStandard}
 use Rattle.matroid_theory.specs.Matroid.{Agrees, IsSimple}
 use Rattle.matroid_theory.specs.Move.{AreEquivalent}
 use Rattle.matroid_theory.specs.Order.{IsForm}
+use Rattle.matroid_theory.specs.Minor.{Matroid}
 use Rattle.matroid_theory.specs.Level.{followed_by}
 use Rattle.extension.specs.Admissible.{IsAdmissible}
+use Rattle.level_driver.specs.Forbidden.{Avoids}
 
 abbrev pub rep_of : List ℕ → ℕ → List (List ℕ) → Rep
 rep_of factors rank columns = record { factors = factors; rank = rank; columns = columns }
@@ -28,8 +30,13 @@ pub record IsChild (P : Rep) (v : List ℕ) (columns : List (List ℕ)) : Type 0
   pub form : IsForm Linear (rep_of P.factors P.rank columns)
   pub equivalent : AreEquivalent Linear (followed_by P v) (rep_of P.factors P.rank columns)
 
--- the new lists are the old ones and the columns of the forms of all extensions of P
-pub record AddsChildren (P : Rep) (old new : List (List (List ℕ))) : Type 0 where
+-- P can be extended by v such that none of the matroids is a minor
+pub record IsCandidate (Ns : List Matroid) (P : Rep) (v : List ℕ) : Type 0 where
+  pub admissible : IsAdmissible P v
+  pub avoids : Avoids Ns (followed_by P v)
+
+-- the new lists are the old ones and the columns of the forms of all candidates that P and one column make
+pub record AddsChildren (Ns : List Matroid) (P : Rep) (old new : List (List (List ℕ))) : Type 0 where
   pub kept : (columns : List (List ℕ)) → Contains old columns → Contains new columns
-  pub sound : (columns : List (List ℕ)) → Contains new columns → Contains old columns ⊎ ((v : List ℕ) × IsAdmissible P v × IsChild P v columns)
-  pub complete : (v : List ℕ) → IsAdmissible P v → (columns : List (List ℕ)) × Contains new columns × IsChild P v columns
+  pub sound : (columns : List (List ℕ)) → Contains new columns → Contains old columns ⊎ ((v : List ℕ) × IsCandidate Ns P v × IsChild P v columns)
+  pub complete : (v : List ℕ) → IsCandidate Ns P v → (columns : List (List ℕ)) × Contains new columns × IsChild P v columns

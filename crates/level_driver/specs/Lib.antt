@@ -1,3 +1,4 @@
 pub mod Children
+pub mod Forbidden
 pub mod Grown
 pub mod Keys

@@ -1,19 +1,21 @@
 // The level after a level.
-ghost use Rattle.std.specs.Prelude.{ℕ, ◌≡◌, ◌+◌, ◌<◌, IfOk, OnOk};
+ghost use Rattle.std.specs.Prelude.{ℕ, ◌≡◌, ◌+◌, ◌<◌, IsSome, IsNone, IfSome, IfOk, OnOk};
 ghost use Rattle.matroid_theory.specs.declared.Mode.TheVariants.{Linear as linear};
 ghost use Rattle.matroid_theory.specs.Rep.{size, IsProductColumn};
 ghost use Rattle.matroid_theory.specs.Matroid.{Agrees};
 ghost use Rattle.matroid_theory.specs.Move.{AreEquivalent};
 ghost use Rattle.matroid_theory.specs.Order.{IsForm};
 ghost use Rattle.matroid_theory.specs.Level.{IsCount, followed_by};
-ghost use Rattle.extension.specs.Admissible.{IsAdmissible};
-ghost use Rattle.level_driver.specs.Children.{IsParent, AddsChildren};
+ghost use Rattle.level_driver.specs.Forbidden.{matroids_of, Avoids};
+ghost use Rattle.level_driver.specs.Children.{IsParent, IsCandidate, AddsChildren};
 ghost use Rattle.level_driver.specs.Grown.{IsLevelOf, AreTriesOf, IsParentLevel};
 
+use crate::forbidden::avoids;
 use crate::found::Found;
 use crate::{FormList, Level};
 use canonical_form::least_form;
 use extension::Columns;
+use named_matroids::MinorItem;
 use product_rep::{ProductColumn, Rep};
 use request_reader::Request;
 use std::alloc::{AllocError, Global};
@@ -31,40 +33,49 @@ pub fn grow_alone(alloc: Global, request: &Request, parents: &FormList) -> Resul
         IsParentLevel request.now n parents.now → AreTriesOf request.now (n + 1) level.tried) }
 {
     let rank = request.rank();
+    let forbidden = request.forbid();
     let mut found = Found::new(alloc);
     let mut tried = 0;
     for parent in parents.as_slice() {
-        tried += u128::from(add_children(parent, &mut found)?);
+        tried += u128::from(add_children(parent, forbidden, &mut found)?);
     }
     let forms = found.to_list(alloc, &request.factors(), rank)?;
     Ok(Level { forms, tried })
 }
 
-/// Adds the form of each representation that the parent and one more column make. The result is the number of the columns.
-fn add_children(parent: &Rep, found: &mut Found) -> Result<u64, AllocError>
+/// Adds the form of each representation that the parent and one more column make and that has no forbidden minor. The result
+/// is the number of the columns.
+fn add_children(parent: &Rep, forbidden: &[MinorItem], found: &mut Found) -> Result<u64, AllocError>
     requires { IsParent parent.now }
-    ensures count { IfOk result (λ tried. IsCount (IsAdmissible parent.now) tried) }
-    ensures forms { OnOk result (AddsChildren parent.now found.old found.new) }
+    ensures count { IfOk result (λ tried. IsCount (IsCandidate (matroids_of forbidden.now) parent.now) tried) }
+    ensures forms { OnOk result (AddsChildren (matroids_of forbidden.now) parent.now found.old found.new) }
 {
     // The proof learns here what every representation keeps.
     parent.size();
     let mut tried = 0;
     for column in Columns::of(parent) {
-        found.insert(&child(parent, &column))?;
-        tried += 1;
+        if let Some(child) = child(parent, forbidden, &column) {
+            found.insert(&child)?;
+            tried += 1;
+        }
     }
     Ok(tried)
 }
 
-/// The form of the parent followed by the column.
-fn child(parent: &Rep, column: &ProductColumn) -> Rep
+/// The form of the parent followed by the column, where that has no forbidden minor.
+fn child(parent: &Rep, forbidden: &[MinorItem], column: &ProductColumn) -> Option<Rep>
     requires room { size parent.now < 16 }
     requires column { IsProductColumn parent.now.factors parent.now.rank column.now.items }
     requires agrees { Agrees (followed_by parent.now column.now.items) }
-    ensures form { IsForm linear result }
-    ensures equivalent { AreEquivalent linear (followed_by parent.now column.now.items) result }
+    ensures none { IsNone result → ¬ (Avoids (matroids_of forbidden.now) (followed_by parent.now column.now.items)) }
+    ensures avoids { IsSome result → Avoids (matroids_of forbidden.now) (followed_by parent.now column.now.items) }
+    ensures form { IfSome result (λ child. IsForm linear child) }
+    ensures equivalent { IfSome result (λ child. AreEquivalent linear (followed_by parent.now column.now.items) child) }
 {
-    let mut extended = parent.copy();
-    extended.push_column(column);
-    least_form(&extended)
+    let mut candidate = parent.copy();
+    candidate.push_column(column);
+    if !avoids(&candidate, forbidden) {
+        return None;
+    }
+    Some(least_form(&candidate))
 }

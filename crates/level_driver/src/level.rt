@@ -3,6 +3,7 @@ ghost use Rattle.std.specs.Prelude.{IfOk};
 ghost use Rattle.level_driver.specs.Grown.{IsLevelOf, AreTriesOf};
 
 use crate::FormList;
+use crate::forbidden::avoids;
 use product_rep::Rep;
 use request_reader::Request;
 use std::alloc::{AllocError, Global};
@@ -16,7 +17,7 @@ pub struct Level {
     pub tried: u128,
 }
 
-/// The level of the size that equals the rank: the unit columns alone.
+/// The level of the size that equals the rank: the unit columns alone, or nothing where these have a forbidden minor.
 ///
 /// # Errors
 ///
@@ -29,6 +30,9 @@ pub fn first_level(alloc: Global, request: &Request) -> Result<Level, AllocError
     // The proof learns here what every representation keeps.
     unit.size();
     let mut forms = FormList::new(alloc);
+    if !avoids(&unit, request.forbid()) {
+        return Ok(Level { forms, tried: 0 });
+    }
     match forms.push(unit) {
         Ok(()) => Ok(Level { forms, tried: 0 }),
         Err((error, _)) => Err(error),

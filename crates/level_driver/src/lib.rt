@@ -1,10 +1,11 @@
 //! Grows the levels of a request, one from the other.
 //!
 //! The first level is the unit columns alone. Each later one has the forms of its tries: a form of the level before,
-//! followed by a column by which it can be extended.
+//! followed by a column by which it can be extended. What has a forbidden minor is left out, before its form is sought.
 #![tactic(auto)]
 
 mod filter;
+mod forbidden;
 mod form_list;
 mod found;
 mod growth;

@@ -1,11 +1,15 @@
-ghost use Rattle.std.specs.Prelude.{◌≡◌, ◌+◌, ◌≤◌, ◌++◌, length};
+ghost use Rattle.std.specs.Prelude.{◌≡◌, ◌+◌, ◌*◌, ◌≤◌, [], ◌∷◌, ◌++◌, length, map, codes};
+ghost use Rattle.named_matroids.specs.Names.{named_by};
 ghost use Rattle.formats.specs.Lines.{line_of_words};
-ghost use Rattle.formats.specs.Entry.{FieldIs, spelling};
+ghost use Rattle.formats.specs.Entry.{Version, FieldIs, RankIs, SizeIs, Forbids, minor_words, spelling};
+ghost use Rattle.formats.specs.Listing.{text_of_entries};
 ghost use Rattle.formats.specs.Listing as listing;
+ghost use Rattle.request_reader.specs.Plain.{minors_of};
 
-use crate::line::{Head, push_line};
+use crate::line::{Head, Line, push_bytes, push_line};
 use arrayvec::ArrayVec;
 use itoa::Buffer;
+use named_matroids::{MinorItem, Spelling};
 use product_rep::Factors;
 use request_reader::Request;
 
@@ -34,21 +38,75 @@ fn push_field_line(head: &mut Head, factors: &Factors)
     push_line(head, &[field, q, b"x", r, b"x", s]);
 }
 
-/// The head of a listing: what it lists, line by line.
-#[tactic(auto, unfolding(formats::specs::Listing::head_text))]
-pub fn head_text(request: &Request) -> Head
-    ensures { result.items ≡ listing.head_text request.now }
+/// The name of a matroid.
+fn name_of(spelling: Spelling) -> Line
+    ensures name { minor_words (named_by spelling) ≡ result.items ∷ [] }
+    ensures short { length result.items ≤ 8 }
+{
+    let mut name = ArrayVec::new();
+    match spelling {
+        Spelling::Uniform(rank, size) => {
+            let mut rank_text = Buffer::new();
+            let mut size_text = Buffer::new();
+            push_bytes(&mut name, b"U");
+            push_bytes(&mut name, rank_text.format(rank).as_bytes());
+            push_bytes(&mut name, b",");
+            push_bytes(&mut name, size_text.format(size).as_bytes());
+        }
+        Spelling::Fano => push_bytes(&mut name, b"F7"),
+        Spelling::FanoDual => push_bytes(&mut name, b"F7*"),
+        Spelling::NonFano => push_bytes(&mut name, b"F7-"),
+        Spelling::KFour => push_bytes(&mut name, b"K4"),
+        Spelling::KFive => push_bytes(&mut name, b"K5"),
+    }
+    name
+}
+
+/// Appends the line that forbids a minor.
+fn push_forbid_line(head: &mut Head, item: &MinorItem)
+    requires { length head.old.items ≤ 900 }
+    ensures bytes { head.new.items ≡ head.old.items ++ line_of_words (spelling (Forbids (named_by item.now.spelling))) }
+    ensures short { length head.new.items ≤ length head.old.items + 16 }
+{
+    let name = name_of(item.spelling());
+    push_line(head, &[b"forbid".as_slice(), name.as_slice()]);
+}
+
+/// Appends the lines that forbid minors, in their order.
+fn push_forbid_lines(head: &mut Head, items: &[MinorItem])
+    requires { length head.old.items + 16 * length items.now ≤ 900 }
+    ensures bytes { head.new.items ≡ head.old.items ++ text_of_entries (map Forbids (minors_of items.now)) }
+    ensures short { length head.new.items ≤ length head.old.items + 16 * length items.now }
+{
+    for item in items {
+        push_forbid_line(head, item);
+    }
+}
+
+/// The lines of a head before those that forbid minors.
+fn first_lines(factors: &Factors, rank: u8, size: u8) -> Head
+    ensures bytes { result.items ≡ codes "macek listing 1\n" ++ text_of_entries (Version ∷ FieldIs factors.now ∷ RankIs rank ∷ SizeIs size ∷ []) }
+    ensures short { length result.items ≤ 100 }
 {
     let mut rank_text = Buffer::new();
     let mut size_text = Buffer::new();
-    let rank = rank_text.format(request.rank()).as_bytes();
-    let size = size_text.format(request.size()).as_bytes();
+    let rank = rank_text.format(rank).as_bytes();
+    let size = size_text.format(size).as_bytes();
     let mut head = ArrayVec::new();
     push_line(&mut head, &[b"macek".as_slice(), b"listing", b"1"]);
     push_line(&mut head, &[b"version".as_slice(), b"1"]);
-    push_field_line(&mut head, &request.factors());
+    push_field_line(&mut head, factors);
     push_line(&mut head, &[b"rank".as_slice(), rank]);
     push_line(&mut head, &[b"size".as_slice(), size]);
+    head
+}
+
+/// The head of a listing: what it lists, line by line.
+pub fn head_text(request: &Request) -> Head
+    ensures { result.items ≡ listing.head_text request.now }
+{
+    let mut head = first_lines(&request.factors(), request.rank(), request.size());
+    push_forbid_lines(&mut head, request.forbid());
     push_line(&mut head, &[b"print".as_slice(), b"forms"]);
     head
 }

@@ -20,6 +20,18 @@ fn head_of_a_product(rt: HostRuntime) -> Result<(), Fail> {
 }
 
 #[test]
+fn head_with_forbidden_minors(rt: HostRuntime) -> Result<(), Fail> {
+    let request = read_request(b"forbid U2,10\nrank 2\nforbid F7*\nfield 3\nsize 4\n")
+        .ok()
+        .ok_or("no request")?;
+    assert_eq!(rt;
+        head_text(&request).as_slice(),
+        b"macek listing 1\nversion 1\nfield 3\nrank 2\nsize 4\nforbid U2,10\nforbid F7*\nprint forms\n".as_slice()
+    );
+    Ok(())
+}
+
+#[test]
 fn line_of_a_level(rt: HostRuntime) {
     assert_eq!(rt;
         level_text(16, 60, 9, 12_345).as_slice(),

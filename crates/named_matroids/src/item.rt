@@ -57,6 +57,17 @@ impl MinorItem {
     }
 }
 
+impl Default for MinorItem {
+    /// `U0,1`, for a place of a list that holds no matroid yet.
+    fn default() -> Self {
+        let spelling = Spelling::Uniform(0, 1);
+        MinorItem {
+            spelling,
+            minor: minor_of(spelling),
+        }
+    }
+}
+
 /// The matroid that the text names: `F7`, `F7*`, `F7-`, `K4`, `K5`, or `Ur,n` with r at most n, from 1 to 10, and numbers in
 /// decimal digits without a sign or a leading zero.
 ///
@@ -66,6 +77,7 @@ impl MinorItem {
 /// that names no matroid.
 pub fn named(text: &[u8]) -> Result<MinorItem, NameFault>
     ensures named { IfOk result (λ item. minor_words (named_by item.spelling) ≡ text.now ∷ []) }
+    ensures small { IfOk result (λ item. IsSmallName (named_by item.spelling)) }
     ensures too_big { IsErrOf result NameFault.TooBig ↔ NamesTooBig text.now }
     ensures unknown { IsErrOf result NameFault.Unknown ↔ NamesNone text.now }
 {

@@ -5,11 +5,13 @@ use Rattle.std.proofs.lemmas.List.{map-append}
 use Rattle.formats.specs.Lines.{lines_of, words_of, is_skipped, statements_of}
 use Rattle.formats.specs.Entry.{Entry, Says, IsEntry, spelling}
 use Rattle.formats.specs.Request.{SayInTurn}
+use Rattle.formats.specs.Refusal.{Fault, Again, NinthForbid, TooBig, HasFault, FirstFault, HasRefusal}
 use Rattle.formats.proofs.Unique.{statements_split}
 use Rattle.request_reader.specs.declared.values.Values.{Values}
-use Rattle.request_reader.specs.declared.line.Said.{Said}
+use Rattle.request_reader.specs.declared.values.Wrong.{Wrong}
+use Rattle.request_reader.specs.declared.values.Wrong.TheVariants as wrong
 use Rattle.request_reader.specs.Now.{forms_now}
-use Rattle.request_reader.specs.Said.{entry_of}
+use Rattle.request_reader.specs.Said.{IsWrong, refusal_at}
 use Rattle.request_reader.specs.Values.{Holds}
 use Rattle.request_reader.proofs.EntryValues.{all_end}
 
@@ -67,18 +69,43 @@ skip_line text values number rest line after h n skip = record {
   few = omega (arith, h.few, n.shorter);
 }
 
-pub say_line : (text : List ℕ) (values more : Values) (number : ℕ) (rest line after : List ℕ) (s : Said) → HasRead text values number rest → IsNext rest line after → is_skipped (words_of line) ≡ false → Says forms_now (words_of line) (entry_of s) → ((entries : List Entry) → Holds entries values → Holds (entries ++ entry_of s ∷ []) more) → HasRead text more (number + 1) after
-say_line text values more number rest line after s h n counts says with_it = record {
+pub say_line : (text : List ℕ) (values more : Values) (number : ℕ) (rest line after : List ℕ) (e : Entry) → HasRead text values number rest → IsNext rest line after → is_skipped (words_of line) ≡ false → Says forms_now (words_of line) e → ((entries : List Entry) → Holds entries values → Holds (entries ++ e ∷ []) more) → HasRead text more (number + 1) after
+say_line text values more number rest line after e h n counts says with_it = record {
   short = h.short;
   before = h.before ++ line ∷ [];
-  entries = h.entries ++ entry_of s ∷ [];
+  entries = h.entries ++ e ∷ [];
   split = split_next text h.before rest line after h.split n.lines;
   says = record {
-    may = all_end IsEntry h.entries (entry_of s) h.says.may says.may;
-    are_read = all_end (λ e. IsTrue (forms_now e)) h.entries (entry_of s) h.says.are_read says.is_read;
-    spelled = statements_split h.before line [] counts ∙ (λ i. h.says.spelled i ++ says.spelled i ∷ []) ∙ sym (map-append spelling h.entries (entry_of s ∷ []));
+    may = all_end IsEntry h.entries e h.says.may says.may;
+    are_read = all_end (λ e. IsTrue (forms_now e)) h.entries e h.says.are_read says.is_read;
+    spelled = statements_split h.before line [] counts ∙ (λ i. h.says.spelled i ++ says.spelled i ∷ []) ∙ sym (map-append spelling h.entries (e ∷ []));
   };
   holds = with_it h.entries h.holds;
   place = place_next h.before line number h.place;
   few = omega (arith, h.few, n.shorter);
 }
+
+-- the next line is the first at fault
+fault_here : (text : List ℕ) (values : Values) (number : ℕ) (rest line after : List ℕ) (h : HasRead text values number rest) → IsNext rest line after → is_skipped (words_of line) ≡ false → (fault : Fault) → HasFault forms_now h.entries (words_of line) fault → FirstFault forms_now text (number + 1) fault
+fault_here text values number rest line after h n counts fault wrong = record {
+  short = h.short;
+  before = h.before;
+  line = line;
+  after = lines_of after;
+  split = h.split ∙ ap (λ (l : List (List ℕ)). h.before ++ l) n.lines;
+  place = ap (λ (k : ℕ). k + 1) h.place;
+  said = h.entries;
+  says = h.says;
+  in_order = h.holds.in_order;
+  counts = counts;
+  wrong = wrong;
+}
+
+-- the text is refused for the next line
+pub wrong_line : (text : List ℕ) (values : Values) (number : ℕ) (rest line after : List ℕ) (e : Entry) (w : Wrong) → HasRead text values number rest → IsNext rest line after → is_skipped (words_of line) ≡ false → Says forms_now (words_of line) e → ((entries : List Entry) → Holds entries values → IsWrong entries e w) → HasRefusal forms_now text (refusal_at w (number + 1))
+wrong_line text values number rest line after e w h n counts says is = by w (is h.entries h.holds)
+  where
+    by : (w : Wrong) → IsWrong h.entries e w → HasRefusal forms_now text (refusal_at w (number + 1))
+    by wrong.Again i = fault_here text values number rest line after h n counts Again (e, says, i.0, i.1)
+    by wrong.NinthForbid i = fault_here text values number rest line after h n counts NinthForbid (e, says, i.0, i.1)
+    by wrong.TooBig i = fault_here text values number rest line after h n counts TooBig (e, says, i.0, i.1)

@@ -5,13 +5,13 @@ use Rattle.std.specs.List.{AllByRecursion, list_any, cons_option}
 use Rattle.formats.specs.declared.refusal.PrintMode.TheVariants.{Forms, Counts}
 use Rattle.formats.specs.declared.refusal.Refusal.{Refusal}
 use Rattle.formats.specs.declared.refusal.Refusal.TheVariants as refusal
-use Rattle.formats.specs.Entry.{Entry, Forbids, ListsConnected, ListsThreeConnected, ListsCosimple, ListsDistinct, ListsWith, Prints, kind_number}
+use Rattle.formats.specs.Entry.{Minor, Entry, ListsConnected, ListsThreeConnected, ListsCosimple, ListsDistinct, ListsWith, Prints, kind_number}
 use Rattle.formats.specs.Request.{Request, AskFor, StandsFor, IsWithinLimits, IsRank, IsSize, forbidden_in, wanted_in, prints_counts}
 use Rattle.formats.specs.Refusal.{AreValues, HasValues}
 use Rattle.request_reader.specs.declared.values.Values.{Values}
 use Rattle.request_reader.specs.Limits.{IsLate}
 use Rattle.request_reader.specs.Now.{forms_now, IsAccepted, IsRefused}
-use Rattle.request_reader.specs.Plain.{plain_request}
+use Rattle.request_reader.specs.Plain.{request_with, minors_of}
 use Rattle.request_reader.specs.Values.{Holds, AreSaid}
 
 -- all of them are read
@@ -26,10 +26,6 @@ none_found value none (e ∷ entries) all = ap (λ o. cons_option o (filter_map 
 none_any : (test : Entry → Bool) → ((e : Entry) → IsTrue (forms_now e) → test e ≡ false) → (entries : List Entry) → AllRead entries → list_any test entries ≡ false
 none_any test never [] all = refl
 none_any test never (e ∷ entries) all = let here = never e all.0 in let later = none_any test never entries all.1 in cc
-
-not_forbidden : (e : Entry) → IsTrue (forms_now e) → forbidden_in e ≡ None
-not_forbidden (Forbids minor) is_read = cc (is_read)
-not_forbidden _ is_read = refl
 
 not_wanted : (e : Entry) → IsTrue (forms_now e) → wanted_in e ≡ None
 not_wanted (ListsWith minor) is_read = cc (is_read)
@@ -72,12 +68,12 @@ has_values : (text : List ℕ) (values : Values) (rank : ℕ) (factors : List �
 has_values text values rank factors size said r f s = record { entries = said.entries; none = said.none; values = are_values said.entries values rank factors size said.holds r f s }
 
 -- Entries that are read ask for a request without a filter.
-asks : (entries : List Entry) (rank : ℕ) (factors : List ℕ) (size : ℕ) → AllRead entries → AreValues entries rank factors size → AskFor entries (plain_request factors rank size)
-asks entries rank factors size all values = record {
+asks : (entries : List Entry) (rank : ℕ) (factors : List ℕ) (size : ℕ) (forbid : List Minor) → AllRead entries → AreValues entries rank factors size → filter_map forbidden_in entries ≡ forbid → AskFor entries (request_with factors rank size forbid)
+asks entries rank factors size forbid all values forbids = record {
   rank = values.rank_said;
   field = values.field_said;
   size = values.size_said;
-  forbid = none_found forbidden_in not_forbidden entries all;
+  forbid = forbids;
   connected = none_any (SameKind ListsConnected) not_connected entries all;
   three_connected = none_any (SameKind ListsThreeConnected) not_three entries all;
   cosimple = none_any (SameKind ListsCosimple) not_cosimple entries all;
@@ -87,13 +83,13 @@ asks entries rank factors size all values = record {
 }
 
 -- a text with values within the limits stands for a request
-stands : (text : List ℕ) (rank : ℕ) (factors : List ℕ) (size : ℕ) → HasValues forms_now text rank factors size → IsWithinLimits (plain_request factors rank size) → StandsFor forms_now text (plain_request factors rank size)
-stands text rank factors size h limits = record {
-  short = h.none.short;
-  entries = h.entries;
-  said = h.none.said;
-  in_order = h.none.in_order;
-  asked = asks h.entries rank factors size h.none.said.are_read h.values;
+stands : (text : List ℕ) (values : Values) (rank : ℕ) (factors : List ℕ) (size : ℕ) → (said : AreSaid text values) → AreValues said.entries rank factors size → IsWithinLimits (request_with factors rank size (minors_of values.forbid.items)) → StandsFor forms_now text (request_with factors rank size (minors_of values.forbid.items))
+stands text values rank factors size said are limits = record {
+  short = said.none.short;
+  entries = said.entries;
+  said = said.none.said;
+  in_order = said.none.in_order;
+  asked = asks said.entries rank factors size (minors_of values.forbid.items) said.none.said.are_read are said.holds.forbid;
   limits = limits;
 }
 
@@ -105,8 +101,8 @@ late text rank factors size (refusal.TooWide c) h l = (rank, factors, size, h, l
 late text rank factors size _ h l = absurd l
 
 -- the answer where all values are there
-pub accepted : (text : List ℕ) (values : Values) (rank : ℕ) (factors : List ℕ) (size : ℕ) (result : Result Request Refusal) → AreSaid text values → values.rank ≡ Some rank → values.factors ≡ Some factors → values.size ≡ Some size → IfOk result (λ request. request ≡ plain_request factors rank size) → IfOk result (λ request. IsWithinLimits request) → IfOk result (λ request. IsAccepted text request)
-accepted text values rank factors size (Ok request) said r f s is limits = subst (λ (q : Request). StandsFor forms_now text q) (sym is) (stands text rank factors size (has_values text values rank factors size said r f s) (subst IsWithinLimits is limits))
+pub accepted : (text : List ℕ) (values : Values) (rank : ℕ) (factors : List ℕ) (size : ℕ) (result : Result Request Refusal) → AreSaid text values → values.rank ≡ Some rank → values.factors ≡ Some factors → values.size ≡ Some size → IfOk result (λ request. request ≡ request_with factors rank size (minors_of values.forbid.items)) → IfOk result (λ request. IsWithinLimits request) → IfOk result (λ request. IsAccepted text request)
+accepted text values rank factors size (Ok request) said r f s is limits = subst (λ (q : Request). StandsFor forms_now text q) (sym is) (stands text values rank factors size said (are_values said.entries values rank factors size said.holds r f s) (subst IsWithinLimits is limits))
 accepted text values rank factors size (Err why) said r f s is limits = tt
 
 pub refused : (text : List ℕ) (values : Values) (rank : ℕ) (factors : List ℕ) (size : ℕ) (result : Result Request Refusal) → AreSaid text values → values.rank ≡ Some rank → values.factors ≡ Some factors → values.size ≡ Some size → IfErr result (λ why. IsLate rank factors size why) → IfErr result (λ why. IsRefused text why)

@@ -1,10 +1,15 @@
--- Which requests are read so far: those whose lines have no minor, no filter and no counts.
+-- Which requests are read so far: those whose lines have no matrix, no filter and no counts.
 use Rattle.std.specs.Prelude.{ℕ, List, Bool, true, false}
 use Rattle.formats.specs.declared.refusal.PrintMode.TheVariants.{Forms}
 use Rattle.formats.specs.declared.refusal.Refusal.{Refusal}
-use Rattle.formats.specs.Entry.{Entry, Version, RankIs, FieldIs, SizeIs, Prints}
+use Rattle.formats.specs.Entry.{Minor, Matrix, Entry, Version, RankIs, FieldIs, SizeIs, Forbids, Prints}
 use Rattle.formats.specs.Request.{Request, StandsFor}
 use Rattle.formats.specs.Refusal.{HasRefusal}
+
+-- the minor has a name
+abbrev pub is_name : Minor → Bool
+is_name (Matrix order columns) = false
+is_name _ = true
 
 -- the forms of a line that are read so far; every other line is a bad line
 abbrev pub forms_now : Entry → Bool
@@ -12,6 +17,7 @@ forms_now Version = true
 forms_now (RankIs n) = true
 forms_now (FieldIs factors) = true
 forms_now (SizeIs n) = true
+forms_now (Forbids minor) = is_name minor
 forms_now (Prints Forms) = true
 forms_now _ = false
 

@@ -1,17 +1,30 @@
--- A request for forms, with nothing forbidden and no filter.
-use Rattle.std.specs.Prelude.{ℕ, List, [], None, false}
+-- A request for forms without a filter, and what the fields of a request keep.
+use Rattle.std.specs.Prelude.{ℕ, List, None, false, map}
 use Rattle.matroid_theory.specs.Field.{IsFactors}
+use Rattle.named_matroids.specs.Names.{NamedMatroid, named_by}
 use Rattle.formats.specs.declared.refusal.PrintMode.TheVariants.{Forms}
+use Rattle.formats.specs.Entry.{Minor}
+use Rattle.formats.specs.Minors.{given_as}
+use Rattle.formats.specs.Levels.{AreGivenBy}
 use Rattle.formats.specs.Request.{Request, IsWithinLimits}
 use Rattle.request_reader.specs.declared.request.Request.TheInside.{Inside}
 
-abbrev pub plain_request : List ℕ → ℕ → ℕ → Request
-plain_request factors rank size = record { factors = factors; rank = rank; size = size; forbid = []; connected = false; three_connected = false; cosimple = false; distinct = false; has = None; print = Forms }
+abbrev pub request_with : List ℕ → ℕ → ℕ → List Minor → Request
+request_with factors rank size forbid = record { factors = factors; rank = rank; size = size; forbid = forbid; connected = false; three_connected = false; cosimple = false; distinct = false; has = None; print = Forms }
+
+-- the minors, as lines name them
+abbrev pub minors_of : List NamedMatroid → List Minor
+minors_of items = map (λ item. named_by item.spelling) items
+
+-- each matroid is that of its name
+abbrev pub AreGiven : List NamedMatroid → Type 0
+AreGiven items = AreGivenBy (map given_as (minors_of items)) (map (λ item. item.matroid) items)
 
 -- the request that the fields stand for
 abbrev pub request_of : Inside → Request
-request_of a = plain_request a.factors a.rank a.size
+request_of a = request_with a.factors a.rank a.size (minors_of a.forbid.items)
 
 pub record KeepsLimits (a : Inside) : Type 0 where
   pub are_factors : IsFactors a.factors
   pub limits : IsWithinLimits (request_of a)
+  pub given : AreGiven a.forbid.items

@@ -1,12 +1,40 @@
--- What a line says, as an entry.
+-- What a line says, as an entry, and what may be wrong with it after others.
+use Rattle.std.specs.Prelude.{ℕ, ◌≡◌, ◌≢◌, ◌<◌, ◌≤◌, List}
+use Rattle.named_matroids.specs.Names.{named_by, IsSmallName}
+use Rattle.formats.specs.declared.refusal.PrintMode.TheVariants.{Forms}
+use Rattle.formats.specs.declared.refusal.Refusal.{Refusal}
+use Rattle.formats.specs.declared.refusal.Refusal.TheVariants as refusal
+use Rattle.formats.specs.Entry.{Minor, Entry, Version, RankIs, FieldIs, SizeIs, Forbids, Prints, elements_of, kind_number, forbid_kind, most_of_kind, named_elements}
+use Rattle.formats.specs.Request.{count_of_kind}
+use Rattle.request_reader.specs.declared.line.NamedMinor.{NamedMinor}
+use Rattle.request_reader.specs.declared.line.NamedMinor.TheVariants as minor
 use Rattle.request_reader.specs.declared.line.Said.{Said}
 use Rattle.request_reader.specs.declared.line.Said.TheVariants as said
-use Rattle.formats.specs.declared.refusal.PrintMode.TheVariants.{Forms}
-use Rattle.formats.specs.Entry.{Entry, Version, RankIs, FieldIs, SizeIs, Prints}
+use Rattle.request_reader.specs.declared.values.Wrong.{Wrong}
+use Rattle.request_reader.specs.declared.values.Wrong.TheVariants as wrong
 
-abbrev pub entry_of : Said → Entry
-entry_of said.Version = Version
-entry_of (said.Rank n) = RankIs n
-entry_of (said.Field factors) = FieldIs factors
-entry_of (said.Size n) = SizeIs n
-entry_of said.PrintsForms = Prints Forms
+-- the minor is the one that is named
+abbrev pub IsNamed : NamedMinor → Minor → Type 0
+IsNamed (minor.Small item) named = (named ≡ named_by item.spelling) × IsSmallName named
+IsNamed minor.TooBig named = 10 < elements_of named
+
+-- the entry is what is said
+abbrev pub IsSaid : Said → Entry → Type 0
+IsSaid said.Version entry = entry ≡ Version
+IsSaid (said.Rank n) entry = entry ≡ RankIs n
+IsSaid (said.Field factors) entry = entry ≡ FieldIs factors
+IsSaid (said.Size n) entry = entry ≡ SizeIs n
+IsSaid (said.Forbid item) entry = (named : Minor) × (entry ≡ Forbids named) × IsNamed item named
+IsSaid said.PrintsForms entry = entry ≡ Prints Forms
+
+-- this is wrong with the entry after those that were said
+abbrev pub IsWrong : List Entry → Entry → Wrong → Type 0
+IsWrong before entry wrong.Again = (kind_number entry ≢ forbid_kind) × (most_of_kind (kind_number entry) ≤ count_of_kind (kind_number entry) before)
+IsWrong before entry wrong.NinthForbid = (kind_number entry ≡ forbid_kind) × (most_of_kind forbid_kind ≤ count_of_kind forbid_kind before)
+IsWrong before entry wrong.TooBig = (count_of_kind (kind_number entry) before < most_of_kind (kind_number entry)) × (10 < named_elements entry)
+
+-- the refusal of a text in whose line of this number that is wrong
+abbrev pub refusal_at : Wrong → ℕ → Refusal
+refusal_at wrong.Again line = refusal.Twice line
+refusal_at wrong.NinthForbid line = refusal.TooManyForbidden line
+refusal_at wrong.TooBig line = refusal.ForbidTooBig line

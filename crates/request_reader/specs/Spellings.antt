@@ -10,6 +10,7 @@ keyword_word keyword.Version = codes "version"
 keyword_word keyword.Rank = codes "rank"
 keyword_word keyword.Field = codes "field"
 keyword_word keyword.Size = codes "size"
+keyword_word keyword.Forbid = codes "forbid"
 keyword_word keyword.Print = codes "print"
 
 -- the other words of a field line

@@ -9,6 +9,7 @@ pub enum Keyword {
     Rank,
     Field,
     Size,
+    Forbid,
     Print,
 }
 
@@ -23,6 +24,7 @@ pub fn keyword_of(word: &[u8]) -> Option<Keyword>
         b"rank" => Some(Keyword::Rank),
         b"field" => Some(Keyword::Field),
         b"size" => Some(Keyword::Size),
+        b"forbid" => Some(Keyword::Forbid),
         b"print" => Some(Keyword::Print),
         _ => None,
     }

@@ -1,14 +1,23 @@
 ghost use Rattle.std.specs.Prelude.{◌≡◌, ◌↔◌, ◌∷◌, [], IsTrue, ℕ, List, MatchOption, decimal};
 ghost use Rattle.formats.specs.Lines.{words_of};
-ghost use Rattle.formats.specs.Entry.{Entry, IsNumber, Says};
-ghost use Rattle.request_reader.specs.Now.{forms_now};
-ghost use Rattle.request_reader.specs.Said.{entry_of};
+ghost use Rattle.formats.specs.Entry.{Minor, IsMinor, minor_words, Entry, IsNumber, Says};
+ghost use Rattle.request_reader.specs.Now.{is_name, forms_now};
+ghost use Rattle.request_reader.specs.Said.{IsNamed, IsSaid};
 
 use crate::cut::next_word;
 use crate::field_line::factors_of;
 use crate::keyword::{Keyword, keyword_of};
 use crate::number::number_of;
+use named_matroids::{MinorItem, NameFault, named};
 use product_rep::Factors;
+
+/// A minor that a line names.
+#[derive(Drop)]
+pub enum NamedMinor {
+    Small(MinorItem),
+    /// It has more than 10 elements.
+    TooBig,
+}
 
 /// What a line says.
 #[derive(Drop)]
@@ -17,6 +26,7 @@ pub enum Said {
     Rank(u32),
     Field(Factors),
     Size(u32),
+    Forbid(NamedMinor),
     PrintsForms,
 }
 
@@ -50,18 +60,33 @@ fn only_number(rest: &[u8]) -> Option<u32>
     number_of(only_word(rest)?)
 }
 
+// The minor that a text of one word names.
+fn only_minor(rest: &[u8]) -> Option<NamedMinor>
+    ensures { MatchOption result
+        ((minor : Minor) → IsMinor minor → IsTrue (is_name minor) → words_of rest.now ≡ minor_words minor → ⊥)
+        (λ named. (minor : Minor) × IsMinor minor × IsTrue (is_name minor) × (words_of rest.now ≡ minor_words minor) × IsNamed named minor) }
+{
+    match named(only_word(rest)?) {
+        Ok(item) => Some(NamedMinor::Small(item)),
+        Err(NameFault::TooBig) => Some(NamedMinor::TooBig),
+        Err(NameFault::Unknown) => None,
+    }
+}
+
 /// What a line says, where it has one of the forms that are read so far.
 pub fn said_by(line: &[u8]) -> Option<Said>
     ensures { MatchOption result
         ((entry : Entry) → Says forms_now (words_of line.now) entry → ⊥)
-        (λ said. Says forms_now (words_of line.now) (entry_of said)) }
+        (λ said. (entry : Entry) × Says forms_now (words_of line.now) entry × IsSaid said entry) }
 {
     let (word, rest) = next_word(line)?;
     match keyword_of(word)? {
-        Keyword::Version => is_only_word(rest, b"1").then_some(Said::Version),
-        Keyword::Rank => only_number(rest).map(Said::Rank),
-        Keyword::Field => factors_of(rest).map(Said::Field),
-        Keyword::Size => only_number(rest).map(Said::Size),
-        Keyword::Print => is_only_word(rest, b"forms").then_some(Said::PrintsForms),
+        Keyword::Version if is_only_word(rest, b"1") => Some(Said::Version),
+        Keyword::Rank => Some(Said::Rank(only_number(rest)?)),
+        Keyword::Field => Some(Said::Field(factors_of(rest)?)),
+        Keyword::Size => Some(Said::Size(only_number(rest)?)),
+        Keyword::Forbid => Some(Said::Forbid(only_minor(rest)?)),
+        Keyword::Print if is_only_word(rest, b"forms") => Some(Said::PrintsForms),
+        _ => None,
     }
 }

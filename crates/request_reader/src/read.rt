@@ -26,6 +26,7 @@ pub fn read_request(text: &[u8]) -> Result<Request, Refusal>
         rank,
         factors,
         size,
+        forbid,
         ..
     } = read_values(text)?;
     let Some(rank) = rank else {
@@ -37,7 +38,7 @@ pub fn read_request(text: &[u8]) -> Result<Request, Refusal>
     let Some(size) = size else {
         return Err(Refusal::Missing(Word::Size));
     };
-    request_for(rank, factors, size)
+    request_for(rank, factors, size, forbid)
 }
 
 // What the lines say, each kind at most once.
@@ -59,10 +60,10 @@ fn read_values(text: &[u8]) -> Result<Values, Refusal>
         let Some(said) = said_by(line) else {
             return Err(Refusal::BadLine(number));
         };
-        let Some(more) = values.with(said) else {
-            return Err(Refusal::Twice(number));
-        };
-        values = more;
+        match values.with(said) {
+            Ok(more) => values = more,
+            Err(wrong) => return Err(wrong.refusal(number)),
+        }
     }
     Ok(values)
 }

@@ -1,11 +1,15 @@
-ghost use Rattle.std.specs.Prelude.{◌≡◌, IfOk, IfErr};
+ghost use Rattle.std.specs.Prelude.{◌≡◌, ◌≤◌, length, map, IfOk, IfErr};
 ghost use Rattle.matroid_theory.specs.Field.{IsFactors};
+ghost use Rattle.formats.specs.Levels.{AreGivenBy};
+ghost use Rattle.formats.specs.Minors.{given_as};
 ghost use Rattle.formats.specs.Request.{IsWithinLimits};
-ghost use Rattle.request_reader.specs.Plain.{plain_request};
+ghost use Rattle.request_reader.specs.Plain.{request_with, minors_of, AreGiven};
 ghost use Rattle.request_reader.specs.Limits.{IsLate};
 
 use crate::columns::column_count;
+use arrayvec::ArrayVec;
 use formats::Refusal;
+use named_matroids::MinorItem;
 use product_rep::Factors;
 use std::marker::Model;
 
@@ -15,13 +19,13 @@ const MOST_SIZE: u32 = 16;
 
 const MOST_COLUMNS: u64 = 1_000_000;
 
-/// A request within its limits. So far nothing is forbidden, there is no filter, and its forms are printed. Contracts see
-/// what it asks for.
+/// A request within its limits. So far there is no filter, and its forms are printed. Contracts see what it asks for.
 #[derive(Drop)]
 pub struct Request {
     factors: Factors,
     rank: u8,
     size: u8,
+    forbid: ArrayVec<MinorItem, 8>,
 }
 
 impl Model for Request {
@@ -48,7 +52,7 @@ impl Request {
         ensures rank { result ≡ self.now.rank }
         ensures limits { IsWithinLimits self.now }
         ensures factors { IsFactors self.now.factors }
-        ensures plain { self.now ≡ plain_request self.now.factors self.now.rank self.now.size }
+        ensures plain { self.now ≡ request_with self.now.factors self.now.rank self.now.size self.now.forbid }
     {
         self.rank
     }
@@ -59,11 +63,26 @@ impl Request {
     {
         self.size
     }
+
+    /// The matroids that no form may have as a minor, at most eight, in the order of their lines.
+    pub fn forbid(&self) -> &[MinorItem]
+        ensures names { minors_of result.now ≡ self.now.forbid }
+        ensures few { length result.now ≤ 8 }
+        ensures given { AreGivenBy (map given_as self.now.forbid) (map (λ item. item.matroid) result.now) }
+    {
+        self.forbid.as_slice()
+    }
 }
 
 /// The request for these values, where they are within the limits.
-pub fn request_for(rank: u32, factors: Factors, size: u32) -> Result<Request, Refusal>
-    ensures request { IfOk result (λ request. request ≡ plain_request factors rank size) }
+pub fn request_for(
+    rank: u32,
+    factors: Factors,
+    size: u32,
+    forbid: ArrayVec<MinorItem, 8>,
+) -> Result<Request, Refusal>
+    requires { AreGiven forbid.items }
+    ensures request { IfOk result (λ request. request ≡ request_with factors rank size (minors_of forbid.items)) }
     ensures limits { IfOk result (λ request. IsWithinLimits request) }
     ensures refused { IfErr result (λ why. IsLate rank factors size why) }
 {
@@ -82,5 +101,6 @@ pub fn request_for(rank: u32, factors: Factors, size: u32) -> Result<Request, Re
         factors,
         rank,
         size,
+        forbid,
     })
 }

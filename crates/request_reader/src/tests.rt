@@ -1,5 +1,5 @@
 use super::*;
-use crate::line::{Said, said_by};
+use crate::line::{NamedMinor, Said, said_by};
 use arrayvec::ArrayVec;
 use formats::{Refusal, Word};
 
@@ -23,6 +23,11 @@ fn told_by(line: &[u8]) -> (&'static str, ArrayVec<u32, 3>) {
             numbers.push(size);
             "size"
         }
+        Some(Said::Forbid(NamedMinor::Small(item))) => {
+            numbers.push(item.minor().size() as u32);
+            "forbid"
+        }
+        Some(Said::Forbid(NamedMinor::TooBig)) => "forbid too big",
         Some(Said::PrintsForms) => "print forms",
     };
     (what, numbers)
@@ -67,7 +72,11 @@ fn lines(rt: HostRuntime) {
         ("version 1", "version", &[][..]),
         ("version 2", "nothing", &[][..]),
         ("version 01", "nothing", &[][..]),
-        ("forbid F7", "nothing", &[][..]),
+        ("forbid F7", "forbid", &[7][..]),
+        ("forbid U2,11", "forbid too big", &[][..]),
+        ("forbid k4", "nothing", &[][..]),
+        ("forbid K4 K5", "nothing", &[][..]),
+        ("forbid matrix 2 10 01", "nothing", &[][..]),
         ("filter connected", "nothing", &[][..]),
         ("", "nothing", &[][..]),
         (" \t", "nothing", &[][..]),
@@ -100,6 +109,14 @@ fn texts_that_are_refused(rt: HostRuntime) {
         (&b"rank 03\nfield 2\nsize 4\n"[..], Refusal::BadLine(1)),
         (&b"rank 3\nfield 6\nsize 4\n"[..], Refusal::BadLine(2)),
         (&b"rank 3\nrank x\n"[..], Refusal::BadLine(2)),
+        (
+            &b"rank 3\nfield 2\nsize 4\nforbid F7\nforbid F7\nforbid F7\nforbid F7\nforbid F7\nforbid F7\nforbid F7\nforbid F7\nforbid F7\n"[..],
+            Refusal::TooManyForbidden(12),
+        ),
+        (
+            &b"rank 3\nfield 2\nsize 4\nforbid U2,11\n"[..],
+            Refusal::ForbidTooBig(4),
+        ),
         (&b"rank 7\nfield 2\nsize 7\n"[..], Refusal::Rank(7)),
         (&b"rank 3\nfield 2\nsize 2\n"[..], Refusal::Size(2)),
         (

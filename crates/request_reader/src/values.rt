@@ -1,11 +1,40 @@
-ghost use Rattle.std.specs.Prelude.{◌≡◌, ◌≤◌, [], ◌∷◌, ◌++◌, List, MatchOption};
-ghost use Rattle.formats.specs.Entry.{Entry, kind_number};
-ghost use Rattle.formats.specs.Request.{count_of_kind};
-ghost use Rattle.request_reader.specs.Said.{entry_of};
+ghost use Rattle.std.specs.Prelude.{◌≡◌, ◌<◌, [], ◌∷◌, ◌++◌, List, length, MatchResult};
+ghost use Rattle.matroid_theory.specs.Given.{IsGivenBy};
+ghost use Rattle.named_matroids.specs.Names.{named_by};
+ghost use Rattle.formats.specs.Entry.{Entry};
+ghost use Rattle.formats.specs.Minors.{given_as};
+ghost use Rattle.request_reader.specs.Said.{IsSaid, IsWrong, refusal_at};
 ghost use Rattle.request_reader.specs.Values.{Holds};
 
-use crate::line::Said;
+use crate::line::{NamedMinor, Said};
+use arrayvec::ArrayVec;
+use formats::Refusal;
+use named_matroids::MinorItem;
 use product_rep::Factors;
+
+/// What may be wrong with a line of a form that is read, after others.
+#[derive(Clone, Copy)]
+pub enum Wrong {
+    /// It says again what may be said once.
+    Again,
+    /// It is the ninth that forbids a minor.
+    NinthForbid,
+    /// It names a matroid of more than 10 elements.
+    TooBig,
+}
+
+impl Wrong {
+    /// The refusal where this is wrong with the line of that number.
+    pub fn refusal(self, line: u32) -> Refusal
+        ensures { result ≡ refusal_at self line }
+    {
+        match self {
+            Wrong::Again => Refusal::Twice(line),
+            Wrong::NinthForbid => Refusal::TooManyForbidden(line),
+            Wrong::TooBig => Refusal::ForbidTooBig(line),
+        }
+    }
+}
 
 /// What was said so far.
 #[derive(Drop)]
@@ -14,6 +43,7 @@ pub struct Values {
     pub rank: Option<u32>,
     pub factors: Option<Factors>,
     pub size: Option<u32>,
+    pub forbid: ArrayVec<MinorItem, 8>,
     pub print: bool,
 }
 
@@ -27,38 +57,54 @@ impl Values {
             rank: None,
             factors: None,
             size: None,
+            forbid: ArrayVec::new(),
             print: false,
         }
     }
 
-    /// What was said with one thing more, which wasn't said before.
-    pub fn with(self, said: Said) -> Option<Values>
-        ensures { MatchOption result
-            ((entries : List Entry) → Holds entries self → 1 ≤ count_of_kind (kind_number (entry_of said)) entries)
-            (λ values. (entries : List Entry) → Holds entries self → Holds (entries ++ entry_of said ∷ []) values) }
+    /// What was said with one thing more, or what is wrong with it.
+    pub fn with(self, said: Said) -> Result<Values, Wrong>
+        ensures { MatchResult result
+            (λ values. (entries : List Entry) → (entry : Entry) → Holds entries self → IsSaid said entry → Holds (entries ++ entry ∷ []) values)
+            (λ wrong. (entries : List Entry) → (entry : Entry) → Holds entries self → IsSaid said entry → IsWrong entries entry wrong) }
     {
         match said {
-            Said::Version if !self.version => Some(Values {
+            Said::Version if !self.version => Ok(Values {
                 version: true,
                 ..self
             }),
-            Said::Rank(rank) if self.rank.is_none() => Some(Values {
+            Said::Rank(rank) if self.rank.is_none() => Ok(Values {
                 rank: Some(rank),
                 ..self
             }),
-            Said::Field(factors) if self.factors.is_none() => Some(Values {
+            Said::Field(factors) if self.factors.is_none() => Ok(Values {
                 factors: Some(factors),
                 ..self
             }),
-            Said::Size(size) if self.size.is_none() => Some(Values {
+            Said::Size(size) if self.size.is_none() => Ok(Values {
                 size: Some(size),
                 ..self
             }),
-            Said::PrintsForms if !self.print => Some(Values {
+            Said::Forbid(_) if self.forbid.is_full() => Err(Wrong::NinthForbid),
+            Said::Forbid(NamedMinor::Small(item)) => Ok(self.with_forbidden(item)),
+            Said::Forbid(NamedMinor::TooBig) => Err(Wrong::TooBig),
+            Said::PrintsForms if !self.print => Ok(Values {
                 print: true,
                 ..self
             }),
-            _ => None,
+            _ => Err(Wrong::Again),
         }
+    }
+
+    // What was said with one forbidden minor more, for which there is room.
+    fn with_forbidden(self, item: MinorItem) -> Values
+        requires { length self.forbid.items < 8 }
+        ensures values { result ≡ record self { forbid = record { items = self.forbid.items ++ item ∷ [] } } }
+        ensures given { IsGivenBy (given_as (named_by item.spelling)) item.matroid }
+    {
+        let _spelling = item.spelling();
+        let mut values = self;
+        values.forbid.push(item);
+        values
     }
 }

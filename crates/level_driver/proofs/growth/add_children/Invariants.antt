@@ -1,7 +1,8 @@
 use Rattle.std.proofs.Common.{◌≡◌}
+use Rattle.level_driver.specs.Forbidden.{matroids_of}
 use Rattle.level_driver.proofs.Tried.{HasTried}
 use Rattle.level_driver.proofs.growth.add_children.Given as goal
 
 -- the columns up to the last one were tried
 abbrev pub invariant-loop-column : goal.invariant-loop-column
-invariant-loop-column l = record { same : l.column-iterator.parent ≡ l.parent; so_far : HasTried l.fn.found l.column-iterator l.tried l.found }
+invariant-loop-column l = record { same : l.column-iterator.parent ≡ l.parent; so_far : HasTried (matroids_of l.forbidden) l.fn.found l.column-iterator l.tried l.found }
