@@ -19,7 +19,7 @@ use Rattle.minor_test.proofs.Embeddings.{narrower, none_embedded}
 use Rattle.minor_test.proofs.NextImage.{same_from_iff}
 
 -- the members of two masks
-pub members_or_mask : (X Y i : ℕ) → members (bit_or X Y) i ≡ (members X i || members Y i)
+members_or_mask : (X Y i : ℕ) → members (bit_or X Y) i ≡ (members X i || members Y i)
 members_or_mask X Y i = ap (λ b. b == 1) (bit_at_or X Y i) ∙ joined (bit_at X i) (bit_at Y i) (bit_at-lt X i) (bit_at-lt Y i)
   where
     joined : (a b : ℕ) → a < 2 → b < 2 → (max a b == 1) ≡ ((a == 1) || (b == 1))

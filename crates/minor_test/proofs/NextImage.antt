@@ -21,7 +21,7 @@ use Rattle.minor_test.proofs.Images.{image-same, image_narrower, image_has, imag
 use Rattle.minor_test.proofs.Embeddings.{embedding-same, one_more_embedded}
 
 -- a mask with one more element
-pub members_or : (X e i : ℕ) → members (bit_or X (2 ^ e)) i ≡ (members X i || (e == i))
+members_or : (X e i : ℕ) → members (bit_or X (2 ^ e)) i ≡ (members X i || (e == i))
 members_or X e i = ap (λ b. b == 1) (bit_at_or X (2 ^ e) i) ∙ elim (cases_eq i e) [
   | inl s ↦ (let b : bit_at X i < 2 = bit_at-lt X i in
       let o : bit_at (2 ^ e) i ≡ 1 = ap (bit_at (2 ^ e)) s ∙ bit_at-pow_same e in
@@ -41,10 +41,10 @@ members_or X e i = ap (λ b. b == 1) (bit_at_or X (2 ^ e) i) ∙ elim (cases_eq 
     same false b e = sym e
 
 -- the bits of 2 ^ n + X
-pub below_top : (n X x : ℕ) → x < n → members (2 ^ n + X) x ≡ members X x
+below_top : (n X x : ℕ) → x < n → members (2 ^ n + X) x ≡ members X x
 below_top n X x l = let e : 2 ^ n + X ≡ 1 * 2 ^ n + X = omega arith in ap (λ y. members y x) e ∙ ap (λ b. b == 1) (bit_at_cat_low 1 n X x l)
 
-pub at_top : (n X : ℕ) → X < 2 ^ n → members (2 ^ n + X) n ≡ true
+at_top : (n X : ℕ) → X < 2 ^ n → members (2 ^ n + X) n ≡ true
 at_top n X l =
     let e : 2 ^ n + X ≡ 1 * 2 ^ n + X = omega arith in
     let k : n ≤ n = omega arith in
