@@ -13,7 +13,8 @@ use std::alloc::{AllocError, Global};
 pub struct Level {
     /// The forms, each once, from the least up.
     pub forms: FormList,
-    /// How many columns were tried: 0 at the size that equals the rank, else all ways to extend a form of the level before.
+    /// How many columns were tried: 0 at the size that equals the rank, else all ways to extend a form of the level before
+    /// without a forbidden minor.
     pub tried: u128,
 }
 

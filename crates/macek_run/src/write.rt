@@ -9,8 +9,7 @@ ghost use Rattle.formats.specs.Listing.{form_text as text_of_form};
 ghost use Rattle.level_driver.specs.Grown.{IsLevelOf, AreTriesOf};
 ghost use Rattle.macek_run.specs.Steps.{TellsLevel};
 
-use crate::shown::listed;
-use level_driver::Level;
+use level_driver::{Level, listed};
 use lister::{form_text, level_text};
 use outside::{Failed, Sink, put};
 use product_rep::Rep;
@@ -95,8 +94,9 @@ pub fn write_level<K: Sink>(
     ensures rose { IsErrOf result Stop.Failed → Rose (K.faults sink.old) (K.faults sink.new) }
     ensures kept { OnOk result (K.faults sink.new ≡ K.faults sink.old) }
 {
-    // The proof learns here that nothing is forbidden and that there is no filter.
+    // The proof learns here that there is no filter, and which matroids are forbidden.
     request.rank();
+    request.forbid();
     let Ok(shown) = listed(alloc, request, &level.forms) else {
         return Err(Stop::NoMemory);
     };

@@ -1,14 +1,14 @@
 -- Sets with two elements in each other's place, and lists of twins.
-use Rattle.std.proofs.Common.{◌≡◌, ◌≢◌, ℕ, zero, suc, ◌+◌, ◌%◌, ◌^◌, ◌<◌, refl, sym, ◌∙◌, ap, subst, arith, inl, inr, List, [], ◌∷◌, ◌++◌, length, length-append, Option, Some, None, slice_index_or, bit_or, bit_xor, max}
+use Rattle.std.proofs.Common.{◌≡◌, ◌≢◌, ℕ, zero, suc, ◌+◌, ◌%◌, ◌^◌, ◌<◌, refl, sym, ◌∙◌, ap, subst, arith, inl, inr, List, [], ◌∷◌, ◌++◌, length, length-append, Option, Some, None, slice_index_or, bit_or, bit_xor, max, MatchOption, is_some, true}
+use Rattle.std.proofs.lemmas.Bool.{cases_lt, cases_order}
+use Rattle.minor_test.specs.Twins.{AreAllFound, swapped, IsSwapped, AreTwins, AreTwinsOf}
 use Rattle.std.specs.Bool.{◌==◌}
 use Rattle.std.specs.Int.{bit_at}
-use Rattle.std.proofs.lemmas.Bool.{cases_order}
 use Rattle.std.proofs.lemmas.List.{get_or_append_left, get_or-append-add, get_or_past}
 use Rattle.std.proofs.lemmas.Nat.{or_lt, xor_lt, pow_below}
 use Rattle.std.proofs.lemmas.Nat.Bits.{bit_at_or, bit_at_xor, bit_at-pow_same, bit_at-pow_other, bit_at-lt, same_from_bits_below}
 use Rattle.matroid_theory.specs.Matroid.{members}
 use Rattle.matroid_theory.specs.Minor.{Matroid}
-use Rattle.minor_test.specs.Twins.{swapped, IsSwapped, AreTwins, AreTwinsOf}
 use Rattle.minor_test.proofs.Reordered.{swapped_first, swapped_second, swapped_other, swapped_cases}
 
 -- ---- the exchange in a mask
@@ -80,3 +80,16 @@ more_twins N twins longer o j e n t h i x s =
             let past : slice_index_or (twins ++ o ∷ []) x None ≡ None = get_or_past (twins ++ o ∷ []) x None (omega arith) in absurd (let c : None ≡ Some i = sym past ∙ d in cc))
       ]
     ]
+
+pub more_found : (N : Matroid) (twins longer : List (Option ℕ)) (o : Option ℕ) (j : ℕ) → longer ≡ twins ++ o ∷ [] → length twins ≡ j
+    → MatchOption o ((i : ℕ) → i < j → ¬ (AreTwins N i j)) (λ i. AreTwins N i j) → AreAllFound N twins j → AreAllFound N longer (j + 1)
+more_found N twins longer o j e n found h i x l t =
+    ap (λ (xs : List (Option ℕ)). is_some (slice_index_or xs x None)) e ∙ elim (cases_lt x (length twins)) [
+      | inl b ↦ ap is_some (get_or_append_left twins (o ∷ []) None x b) ∙ h i x (omega arith) t
+      | inr g ↦ (let z : x ≡ length twins + 0 = omega arith in let q : x ≡ j = omega arith in
+          ap (λ y. is_some (slice_index_or (twins ++ o ∷ []) y None)) z ∙ ap is_some (get_or-append-add twins (o ∷ []) 0 None) ∙ is_found o found (subst (λ (y : ℕ). AreTwins N i y) q t))
+    ]
+  where
+    is_found : (o : Option ℕ) → MatchOption o ((i : ℕ) → i < j → ¬ (AreTwins N i j)) (λ i. AreTwins N i j) → AreTwins N i j → is_some o ≡ true
+    is_found None none t = absurd (none i t.before t)
+    is_found (Some k) k_is t = refl

@@ -1,5 +1,5 @@
 -- Elements of a small matroid that may change places.
-use Rattle.std.specs.Prelude.{ℕ, ◌<◌, ◌≡◌, ◌^◌, ◌==◌, if◌then◌else◌, List, Option, Some, None, slice_index_or}
+use Rattle.std.specs.Prelude.{ℕ, ◌<◌, ◌≡◌, ◌^◌, ◌==◌, if◌then◌else◌, List, Option, Some, None, IsSome, slice_index_or}
 use Rattle.std.specs.List.{Contains}
 use Rattle.matroid_theory.specs.Matroid.{members}
 use Rattle.matroid_theory.specs.Minor.{Matroid}
@@ -21,6 +21,10 @@ pub record AreTwins (N : Matroid) (i j : ℕ) : Type 0 where
 -- at the place of an element a twin before it, if there is one
 abbrev pub AreTwinsOf : Matroid → List (Option ℕ) → Type 0
 AreTwinsOf N twins = (i j : ℕ) → slice_index_or twins j None ≡ Some i → AreTwins N i j
+
+-- each element before n that has a twin before it has one in the list
+abbrev pub AreAllFound : Matroid → List (Option ℕ) → ℕ → Type 0
+AreAllFound N twins n = (i j : ℕ) → j < n → AreTwins N i j → IsSome (slice_index_or twins j None)
 
 -- of these twins the earlier one has the lower image
 abbrev pub KeepsOrder : List (Option ℕ) → (ℕ → ℕ) → Type 0

@@ -18,11 +18,13 @@ use product_rep::Rep;
 /// Where a minor was found: the images of its elements, and the set that is contracted. The other elements are deleted.
 #[derive(Drop)]
 pub struct Embedding {
+    /// The column of each element, in their order.
     pub image: ArrayVec<u8, 10>,
+    /// Bit j stands for column j.
     pub contracted: Mask,
 }
 
-/// Whether the matroid is a minor of that of the first factor, and where (Oxley, chapter 3).
+/// Whether the matroid is a minor of that of the first factor, and where (Oxley, chapter 3). It takes no memory.
 pub fn has_minor(rep: &Rep, minor: &Minor) -> Option<Embedding>
     requires { Agrees rep.now }
     ensures found { IfSome result (λ e. IsMinorBy minor.now rep.now (slice_index e.image.items) (members e.contracted)) }
@@ -49,7 +51,8 @@ pub fn has_minor(rep: &Rep, minor: &Minor) -> Option<Embedding>
     None
 }
 
-/// Whether the rank is at most that of the whole matroid, and there are elements enough for the minor and for what is contracted.
+/// Whether the rank is at most that of the whole matroid, and there are elements enough for the minor and for what is
+/// contracted.
 fn leaves_room(rep: &Rep, minor: &Minor) -> bool
     ensures { IsTrue result ↔ ((minor.now.rank ≤ rep.now.rank) × (minor.now.size + rep.now.rank ≤ size rep.now + minor.now.rank)) }
 {
@@ -73,7 +76,8 @@ fn by_contracting(
     requires sets { length sets.old ≡ 1024 }
     ensures found { IfSome result (λ list. IsMinorBy minor.now rep.now (slice_index list.items) (members contracted)) }
     ensures all { IfSome result (λ list. length list.items ≡ minor.now.size) }
-    ensures none { IsNone result → (f : ℕ → ℕ) → KeepsOrder tables.now.twins.items f → ¬ (IsMinorBy minor.now rep.now f (members contracted)) }
+    ensures none { IsNone result → (f : ℕ → ℕ) → KeepsOrder tables.now.twins.items f →
+        ¬ (IsMinorBy minor.now rep.now f (members contracted)) }
 {
     // The proof learns here that there is a basis.
     minor.size();
@@ -88,7 +92,8 @@ fn by_contracting(
     complete(rep, minor, tables, contracted, &images, sets)
 }
 
-/// Whether the set has as many elements as the rank falls by and is in a basis, and is one exactly where the minor has the empty basis.
+/// Whether the set has as many elements as the rank falls by and is in a basis, and is one exactly where the minor has the
+/// empty basis.
 fn may_be_contracted(rep: &Rep, minor: &Minor, tables: &Tables, contracted: Mask) -> bool
     requires rank { minor.now.rank ≤ rep.now.rank }
     requires set { contracted < 2 ^ size rep.now }

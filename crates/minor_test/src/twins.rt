@@ -2,7 +2,7 @@
 ghost use Rattle.std.specs.Prelude.{◌≡◌, ◌<◌, ◌^◌, ◌↔◌, ℕ, IsTrue, MatchOption};
 ghost use Rattle.matroid_theory.specs.Matroid.{members};
 ghost use Rattle.minor_test.specs.Tables.{HasMasks};
-ghost use Rattle.minor_test.specs.Twins.{swapped, AreTwins, AreTwinsOf};
+ghost use Rattle.minor_test.specs.Twins.{swapped, AreAllFound, AreTwins, AreTwinsOf};
 
 use crate::table::Table;
 use arrayvec::ArrayVec;
@@ -12,7 +12,8 @@ use named_matroids::Minor;
 /// For each element a twin before it, if there is one. The table has the bases.
 pub fn twins_of(minor: &Minor, table: &Table) -> ArrayVec<Option<u8>, 10>
     requires { HasMasks minor.now.bases table.now.words }
-    ensures { AreTwinsOf minor.now result.items }
+    ensures twins { AreTwinsOf minor.now result.items }
+    ensures all { AreAllFound minor.now result.items minor.now.size }
 {
     let mut twins = ArrayVec::new();
     for j in 0..minor.size() {
