@@ -1,9 +1,14 @@
+pub mod Asking
 pub mod Avoiding
 pub mod ColumnLists
 pub mod Counts
+pub mod Earlier
 pub mod KeyLemmas
+pub mod MatroidLists
 pub mod MinorsCarried
 pub mod NextLevel
+pub mod SameMatroid
+pub mod Sifted
 pub mod Tried
 pub mod Tries
 pub mod UnitLevel

@@ -1,4 +1,6 @@
+pub mod Asked
 pub mod Children
 pub mod Forbidden
 pub mod Grown
 pub mod Keys
+pub mod Listed

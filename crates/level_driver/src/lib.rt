@@ -4,17 +4,21 @@
 //! followed by a column by which it can be extended. What has a forbidden minor is left out, before its form is sought.
 #![tactic(auto)]
 
+mod distinct;
 mod filter;
+mod filters;
 mod forbidden;
 mod form_list;
 mod found;
 mod growth;
 mod level;
+mod shown;
 
 pub use filter::passes;
 pub use form_list::FormList;
 pub use growth::grow_alone;
 pub use level::{Level, first_level};
+pub use shown::listed;
 
 #[cfg(test)]
 mod tests;

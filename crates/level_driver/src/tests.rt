@@ -48,7 +48,7 @@ fn forms_by_their_places(rt: HostRuntime) -> Result<(), Fail> {
     assert!(rt; level.forms.get(0).is_some());
     assert!(rt; level.forms.get(1).is_none());
     if level.forms.len() > 0 {
-        assert!(rt; passes(&request, &level.forms, 0)?);
+        assert!(rt; passes(rt.alloc(), &request, &level.forms, 0)?);
     }
     Ok(())
 }

@@ -1,5 +1,5 @@
--- What the listing tells of a level, so far as there is no filter.
-use Rattle.std.proofs.Common.{◌≡◌, ◌∙◌, ℕ, List, [], ◌∷◌, ◌++◌, map, length, None, false, refl, sym, ap, subst, arith, Bor}
+-- What the listing tells of a level.
+use Rattle.std.proofs.Common.{◌≡◌, ◌∙◌, ℕ, List, [], ◌∷◌, ◌++◌, map, length, None, refl, sym, ap, subst, arith, Bor}
 use Rattle.std.specs.Prelude.{option_to_list, Option}
 use Rattle.std.specs.List.{concat}
 use Rattle.std.proofs.lemmas.List.{length-map}
@@ -14,20 +14,20 @@ use Rattle.formats.specs.Minors.{given_as}
 use Rattle.formats.specs.Request.{Request}
 use Rattle.formats.specs.Listing.{LevelEntry, level_text, form_text, level_pieces}
 use Rattle.formats.specs.Levels.{columns_of, AreGivenBy, Grows, Keeps, IsLevelEntry}
-use Rattle.request_reader.specs.Plain.{request_with}
 use Rattle.level_driver.specs.Grown.{IsLevelOf, AreTriesOf}
-use Rattle.macek_run.specs.Steps.{AreListed, TellsLevel}
-
--- a request for forms, with no filter
-abbrev pub IsPlain : Request → Type 0
-IsPlain q = q ≡ request_with q.factors q.rank q.size q.forbid
+use Rattle.level_driver.specs.Listed.{AreListed}
+use Rattle.macek_run.specs.Steps.{TellsLevel}
 
 -- what the listing tells of a level
 abbrev pub entry_of : ℕ → List Rep → List Rep → ℕ → LevelEntry
 entry_of n forms shown tried = record { size = n; classes = length forms; listed = map columns_of shown; tried = tried }
 
--- a request that forbids these matroids
-module _ (q : Request) (plain : IsPlain q) (forbidden : List Matroid) (given : AreGivenBy (map given_as q.forbid) forbidden) where
+-- nothing is wanted where the request names no minor
+pub none_wanted : (q : Request) → q.has ≡ None → AreGivenBy (map given_as (option_to_list q.has)) []
+none_wanted q none = subst (λ (minor : Option Minor). AreGivenBy (map given_as (option_to_list minor)) []) (sym none) tt
+
+-- a request for forms that forbids these matroids, and wants this one
+module _ (q : Request) (prints : q.print ≡ Forms) (forbidden : List Matroid) (given : AreGivenBy (map given_as q.forbid) forbidden) (wanted : Option Matroid) (is_wanted : AreGivenBy (map given_as (option_to_list q.has)) (option_to_list wanted)) where
   grown : Family
   grown = record { factors = q.factors; rank = q.rank; mode = Linear; forbidden = forbidden }
 
@@ -40,17 +40,17 @@ module _ (q : Request) (plain : IsPlain q) (forbidden : List Matroid) (given : A
     forbids = given;
   }
 
-  no_filters : Filters
-  no_filters = record { connected = false; three = false; cosimple = false; distinct = false; has = None }
+  kept : Filters
+  kept = record { connected = q.connected; three = q.three_connected; cosimple = q.cosimple; distinct = q.distinct; has = wanted }
 
-  keeps : Keeps q no_filters
-  unfolding no_filters
+  keeps : Keeps q kept
+  unfolding kept
   keeps = record {
-    connected = sym (ap (λ r. r.connected) plain);
-    three = sym (ap (λ r. r.three_connected) plain);
-    cosimple = sym (ap (λ r. r.cosimple) plain);
-    distinct = sym (ap (λ r. r.distinct) plain);
-    has = subst (λ (minor : Option Minor). AreGivenBy (map given_as (option_to_list minor)) []) (sym (ap (λ r. r.has) plain)) tt;
+    connected = refl;
+    three = refl;
+    cosimple = refl;
+    distinct = refl;
+    has = is_wanted;
   }
 
   -- a level that was grown, the forms that are listed and its tries are such an entry
@@ -58,13 +58,13 @@ module _ (q : Request) (plain : IsPlain q) (forbidden : List Matroid) (given : A
   is_entry n forms shown tried level tries listed = record {
     family = grown;
     grows = grows;
-    filters = no_filters;
+    filters = kept;
     keeps = keeps;
     forms = forms;
     are_level = level grown grows;
     classes_are = refl;
     shown = shown;
-    are_listed = listed n grown no_filters grows keeps (level grown grows);
+    are_listed = listed n grown kept grows keeps (level grown grows);
     listed_are = refl;
     tries = tries grown grows;
   }
@@ -79,7 +79,7 @@ module _ (q : Request) (plain : IsPlain q) (forbidden : List Matroid) (given : A
       let count : length shown ≡ length (map columns_of (map (λ form. form.now) shown)) = omega (arith, length-map shown (λ form. form.now), length-map (map (λ form. form.now) shown) columns_of) in
       let here : level_text n (length forms) (length shown) tried ++ concat (map (λ form. form_text (columns_of form.now)) shown) ≡ concat (level_pieces Forms (entry_of n forms (map (λ form. form.now) shown) tried)) =
       λ i. level_text n (length forms) (count i) tried ++ concat (lines_same shown i) in
-      here ∙ ap (λ (print : PrintMode). concat (level_pieces print (entry_of n forms (map (λ form. form.now) shown) tried))) (sym (ap (λ r. r.print) plain))
+      here ∙ ap (λ (print : PrintMode). concat (level_pieces print (entry_of n forms (map (λ form. form.now) shown) tried))) (sym prints)
 
   -- what was written tells of the level
   pub tells : (Part : List ℕ → Type 0) (n : ℕ) (front line : List ℕ) (forms : List Rep) (shown given : List (Bor Rep)) (classes count tried : ℕ) → IsLevelOf q n forms → AreTriesOf q n tried → AreListed q forms (map (λ form. form.now) shown) → line ≡ level_text n classes count tried → classes ≡ length forms → count ≡ length shown → given ≡ shown → Part (front ++ (line ++ concat (map (λ form. form_text (columns_of form.now)) given))) → TellsLevel q n front Part

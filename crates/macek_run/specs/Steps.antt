@@ -1,17 +1,11 @@
 -- What the steps of a run leave.
 use Rattle.std.specs.Prelude.{◌≡◌, ℕ, List, ◌++◌}
 use Rattle.std.specs.List.{concat}
-use Rattle.matroid_theory.specs.Rep.{Rep}
-use Rattle.matroid_theory.specs.Level.{Family, Filters, IsLevel, IsListed}
 use Rattle.formats.specs.Request.{Request}
 use Rattle.formats.specs.Listing.{LevelEntry, level_pieces}
-use Rattle.formats.specs.Levels.{Grows, Keeps, IsLevelEntry, IsListingUpTo, IsCutListing}
+use Rattle.formats.specs.Levels.{IsLevelEntry, IsListingUpTo, IsCutListing}
 use Rattle.macek_run.specs.declared.write.Stop.{Stop}
 use Rattle.macek_run.specs.declared.write.Stop.TheVariants.{Failed, NoMemory}
-
--- These forms of a level are those that the request lists.
-abbrev pub AreListed : Request → List Rep → List Rep → Type 0
-AreListed q forms shown = (n : ℕ) (family : Family) (filters : Filters) → Grows q family → Keeps q filters → IsLevel family n forms → IsListed family n filters shown
 
 -- `Part` holds of the bytes that tell of the level of a size, behind a front.
 pub record TellsLevel (q : Request) (n : ℕ) (front : List ℕ) (Part : List ℕ → Type 0) : Type 0 where

@@ -9,8 +9,7 @@ ghost use Rattle.formats.specs.Listing.{form_text as text_of_form};
 ghost use Rattle.level_driver.specs.Grown.{IsLevelOf, AreTriesOf};
 ghost use Rattle.macek_run.specs.Steps.{TellsLevel};
 
-use crate::shown::listed;
-use level_driver::Level;
+use level_driver::{Level, listed};
 use lister::{form_text, level_text};
 use outside::{Failed, Sink, put};
 use product_rep::Rep;

@@ -1,14 +1,21 @@
-// Which forms of a level are listed.
+// The forms of a level that are listed.
 ghost use Rattle.std.specs.Prelude.{ℕ, map, IfOk};
 ghost use Rattle.level_driver.specs.Grown.{IsLevelOf};
-ghost use Rattle.macek_run.specs.Steps.{AreListed};
+ghost use Rattle.level_driver.specs.Listed.{AreListed};
 
-use level_driver::{FormList, passes};
+use crate::FormList;
+use crate::distinct::lists_where;
+use crate::filter::passes_all;
+use crate::filters::asked;
 use product_rep::Rep;
 use request_reader::Request;
 use std::alloc::{AllocError, Global};
 
 /// The forms of a level that pass every filter of the request, in their order.
+///
+/// # Errors
+///
+/// `AllocError` where there was no memory for the list, or to compare the forms with each other.
 pub fn listed<'a>(
     alloc: Global,
     request: &Request,
@@ -17,15 +24,15 @@ pub fn listed<'a>(
     requires { (n : ℕ) × IsLevelOf request.now n forms.now }
     ensures { IfOk result (λ shown. AreListed request.now forms.now (map (λ form. form.now) shown.items)) }
 {
+    // The proof learns here which matroids are forbidden.
+    request.forbid();
+    let filters = asked(request);
+    let lists = lists_where(alloc, filters.distinct, forms.as_slice())?;
     let mut shown = Vec::new(alloc);
-    // The length tells the proof that the place can't wrap.
-    let _count = forms.len();
-    let mut i = 0;
-    while let Some(form) = forms.get(i) {
-        if passes(request, forms, i)? {
+    for (i, form) in forms.as_slice().iter().enumerate() {
+        if passes_all(&filters, &lists, form, i) {
             shown.push(form)?;
         }
-        i += 1;
     }
     Ok(shown)
 }
