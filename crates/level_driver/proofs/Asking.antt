@@ -14,10 +14,12 @@ use Rattle.formats.specs.Request.{Request}
 use Rattle.formats.specs.Minors.{given_as}
 use Rattle.formats.specs.Levels.{AreGivenBy, Keeps}
 use Rattle.named_matroids.specs.Names.{NamedMatroid, named_by}
-use Rattle.level_driver.specs.declared.filters.Filters.{Filters}
+use Rattle.request_reader.specs.declared.filters.Filters.{Filters}
+use Rattle.request_reader.specs.Filters.{wanted_matroid}
 use Rattle.level_driver.specs.Asked.{filters_of}
 use Rattle.level_driver.specs.Grown.{IsLevelOf, TellsPassing}
 use Rattle.level_driver.specs.Listed.{PassesAlone, AreMatroidsOf, IsFirst}
+use Rattle.level_driver.proofs.MinorsCarried.{all_given_unique}
 use Rattle.level_driver.proofs.Earlier.{IsEarliest, earliest, first, passes_all, passes_alone, is_earliest}
 
 -- these are the filters of the request, and the wanted minor is that of its name
@@ -26,15 +28,13 @@ pub record AreAsked (q : Request) (f : Filters) : Type 0 where
   pub three : f.three ≡ q.three_connected
   pub cosimple : f.cosimple ≡ q.cosimple
   pub distinct : f.distinct ≡ q.distinct
-  pub has : option_map (λ item. named_by item.spelling) f.has ≡ q.has
-  pub given : IfSome f.has (λ item. IsGivenBy (given_as (named_by item.spelling)) item.matroid)
+  pub given : AreGivenBy (map given_as (option_to_list q.has)) (option_to_list (wanted_matroid f))
 
-same_wanted : (wanted : Option NamedMatroid) (has : Option Matroid) → IfSome wanted (λ item. IsGivenBy (given_as (named_by item.spelling)) item.matroid)
-    → AreGivenBy (map given_as (option_to_list (option_map (λ item. named_by item.spelling) wanted))) (option_to_list has) → has ≡ option_map (λ item. item.matroid) wanted
-same_wanted None None given are = refl
-same_wanted None (Some N) given are = absurd are
-same_wanted (Some item) None given are = absurd are
-same_wanted (Some item) (Some N) given are = ap Some (given_unique (given_as (named_by item.spelling)) N item.matroid are.0 given)
+same_option : (a b : Option Matroid) → option_to_list a ≡ option_to_list b → a ≡ b
+same_option None None e = refl
+same_option None (Some N) e = cc
+same_option (Some N) None e = cc
+same_option (Some N) (Some L) e = cc
 
 pub same_filters : (q : Request) (f : Filters) (filters : theory.Filters) → AreAsked q f → Keeps q filters → filters ≡ filters_of f
 same_filters q f filters asked keeps = λ i. record {
@@ -45,8 +45,8 @@ same_filters q f filters asked keeps = λ i. record {
   has = has i;
 }
   where
-    has : filters.has ≡ option_map (λ item. item.matroid) f.has
-    has = same_wanted f.has filters.has asked.given (subst (λ (minor : Option _). AreGivenBy (map given_as (option_to_list minor)) (option_to_list filters.has)) (sym asked.has) keeps.has)
+    has : filters.has ≡ wanted_matroid f
+    has = same_option filters.has (wanted_matroid f) (all_given_unique (map given_as (option_to_list q.has)) (option_to_list filters.has) (option_to_list (wanted_matroid f)) keeps.has asked.given)
 
 -- the form passes alone, and none before it has its matroid, where that is asked
 pub record PassesAt (f : Filters) (forms : List Rep) (i : ℕ) (M : Rep) : Type 0 where

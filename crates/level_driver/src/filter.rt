@@ -9,13 +9,12 @@ ghost use Rattle.level_driver.specs.Asked.{filters_of};
 
 use crate::FormList;
 use crate::distinct::{base_lists, is_first};
-use crate::filters::{Filters, asked};
 use bases::BaseList;
 use connectivity::{connected, cosimple, three_connected};
 use minor_test::has_minor;
 use named_matroids::Minor;
 use product_rep::Rep;
-use request_reader::Request;
+use request_reader::{Filters, Request};
 use std::alloc::{AllocError, Global};
 
 /// Whether form `i` of a level is listed: whether it passes every filter of the request.
@@ -37,9 +36,9 @@ pub fn passes(
 {
     // The proof learns here which matroids are forbidden.
     request.forbid();
-    let filters = asked(request);
+    let filters = request.filters();
     let forms = forms.as_slice();
-    if !passes_alone(&filters, &forms[i]) {
+    if !passes_alone(filters, &forms[i]) {
         return Ok(false);
     }
     if !filters.distinct {

@@ -6,7 +6,6 @@
 
 mod distinct;
 mod filter;
-mod filters;
 mod forbidden;
 mod form_list;
 mod found;

@@ -6,7 +6,6 @@ ghost use Rattle.level_driver.specs.Listed.{AreListed};
 use crate::FormList;
 use crate::distinct::lists_where;
 use crate::filter::passes_all;
-use crate::filters::asked;
 use product_rep::Rep;
 use request_reader::Request;
 use std::alloc::{AllocError, Global};
@@ -26,11 +25,11 @@ pub fn listed<'a>(
 {
     // The proof learns here which matroids are forbidden.
     request.forbid();
-    let filters = asked(request);
+    let filters = request.filters();
     let lists = lists_where(alloc, filters.distinct, forms.as_slice())?;
     let mut shown = Vec::new(alloc);
     for (i, form) in forms.as_slice().iter().enumerate() {
-        if passes_all(&filters, &lists, form, i) {
+        if passes_all(filters, &lists, form, i) {
             shown.push(form)?;
         }
     }

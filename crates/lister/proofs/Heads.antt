@@ -1,13 +1,13 @@
 -- The lines of a head, one after another.
-use Rattle.std.proofs.Common.{◌≡◌, ◌∙◌, ℕ, ◌+◌, ◌<◌, List, [], ◌∷◌, ◌++◌, map, length, take, slice_index_or, sym, ap, append_assoc}
+use Rattle.std.proofs.Common.{◌≡◌, ◌∙◌, ℕ, ◌+◌, ◌<◌, Bool, true, false, List, [], ◌∷◌, ◌++◌, map, length, take, slice_index_or, codes, sym, ap, append_assoc}
+use Rattle.std.specs.Prelude.{IsTrue}
 use Rattle.std.proofs.lemmas.List.{append-nil, map-append, take_more}
 use Rattle.std.proofs.lemmas.List.Concat.{flat_map-append}
 use Rattle.named_matroids.specs.Names.{NamedMatroid, named_by}
-use Rattle.formats.specs.declared.refusal.PrintMode.TheVariants.{Forms}
 use Rattle.formats.specs.Lines.{line_of_words}
-use Rattle.formats.specs.Entry.{Minor, Entry, Version, FieldIs, RankIs, SizeIs, Forbids, Prints, spelling}
-use Rattle.formats.specs.Listing.{head_entries, text_of_entries}
-use Rattle.request_reader.specs.Plain.{request_with, minors_of}
+use Rattle.formats.specs.Entry.{Minor, Entry, Version, FieldIs, RankIs, SizeIs, Forbids, spelling}
+use Rattle.formats.specs.Listing.{where_set, text_of_entries}
+use Rattle.request_reader.specs.Plain.{minors_of}
 
 -- the line of an entry
 abbrev pub entry_text : Entry → List ℕ
@@ -17,7 +17,7 @@ entry_text e = line_of_words (spelling e)
 text_append : (es fs : List Entry) → text_of_entries (es ++ fs) ≡ text_of_entries es ++ text_of_entries fs
 text_append es fs = flat_map-append entry_text es fs
 
-one_text : (e : Entry) → text_of_entries (e ∷ []) ≡ entry_text e
+pub one_text : (e : Entry) → text_of_entries (e ∷ []) ≡ entry_text e
 one_text e = append-nil (entry_text e)
 
 -- the lines of one more minor
@@ -34,17 +34,16 @@ forbid_more items i d l =
 abbrev pub first_entries : List ℕ → ℕ → ℕ → List Entry
 first_entries factors rank size = Version ∷ FieldIs factors ∷ RankIs rank ∷ SizeIs size ∷ []
 
--- the head of a request without a filter
-pub head_parts : (title : List ℕ) (factors : List ℕ) (rank size : ℕ) (forbid : List Minor) →
-    ((title ++ text_of_entries (first_entries factors rank size)) ++ text_of_entries (map Forbids forbid)) ++ entry_text (Prints Forms)
-    ≡ title ++ text_of_entries (head_entries (request_with factors rank size forbid))
-head_parts title factors rank size forbid =
-    let first = first_entries factors rank size in
-    let minors = map Forbids forbid in
-    let plain : ((((minors ++ []) ++ []) ++ []) ++ []) ++ [] ≡ minors = simp append-nil in
-    let end : text_of_entries (minors ++ Prints Forms ∷ []) ≡ text_of_entries minors ++ entry_text (Prints Forms) = text_append minors (Prints Forms ∷ []) ∙ ap (λ (t : List ℕ). text_of_entries minors ++ t) (one_text (Prints Forms)) in
-    let all : text_of_entries (head_entries (request_with factors rank size forbid)) ≡ text_of_entries first ++ (text_of_entries minors ++ entry_text (Prints Forms)) =
-    ap (λ (es : List Entry). text_of_entries (first ++ (es ++ Prints Forms ∷ []))) plain ∙ text_append first (minors ++ Prints Forms ∷ []) ∙ ap (λ (t : List ℕ). text_of_entries first ++ t) end in
-    append_assoc (title ++ text_of_entries first) (text_of_entries minors) (entry_text (Prints Forms))
-    ∙ append_assoc title (text_of_entries first) (text_of_entries minors ++ entry_text (Prints Forms))
-    ∙ ap (λ (t : List ℕ). title ++ t) (sym all)
+-- a title and the text of some entries, with those of more
+pub more_text : (title before after : List ℕ) (es fs : List Entry) → before ≡ title ++ text_of_entries es → after ≡ before ++ text_of_entries fs → after ≡ title ++ text_of_entries (es ++ fs)
+more_text title before after es fs b a =
+    a
+    ∙ ap (λ (t : List ℕ). t ++ text_of_entries fs) b
+    ∙ append_assoc title (text_of_entries es) (text_of_entries fs)
+    ∙ ap (λ (t : List ℕ). title ++ t) (sym (text_append es fs))
+
+-- the line of a filter that is set, and none of one that isn't
+pub flag_text : (before after : List ℕ) (set asked : Bool) (e : Entry) (word : List ℕ) → spelling e ≡ codes "filter" ∷ word ∷ [] → set ≡ asked → (IsTrue set → after ≡ before ++ line_of_words (codes "filter" ∷ word ∷ [])) → (set ≡ false → after ≡ before) → after ≡ before ++ text_of_entries (where_set asked e)
+flag_text before after set true e word spelled is there none =
+    there is ∙ ap (λ (t : List ℕ). before ++ t) (ap line_of_words (sym spelled) ∙ sym (one_text e))
+flag_text before after set false e word spelled is there none = none is ∙ sym (append-nil before)

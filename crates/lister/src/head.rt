@@ -1,9 +1,10 @@
-ghost use Rattle.std.specs.Prelude.{◌≡◌, ◌+◌, ◌*◌, ◌≤◌, [], ◌∷◌, ◌++◌, length, map, codes};
+ghost use Rattle.std.specs.Prelude.{◌≡◌, ◌+◌, ◌*◌, ◌≤◌, [], ◌∷◌, ◌++◌, false, IsTrue, length, map, option_to_list, codes};
 ghost use Rattle.named_matroids.specs.Names.{named_by};
 ghost use Rattle.formats.specs.Lines.{line_of_words};
-ghost use Rattle.formats.specs.Entry.{Version, FieldIs, RankIs, SizeIs, Forbids, minor_words, spelling};
+ghost use Rattle.formats.specs.Entry.{Version, FieldIs, RankIs, SizeIs, Forbids, ListsWith, minor_words, spelling};
 ghost use Rattle.formats.specs.Listing.{text_of_entries};
 ghost use Rattle.formats.specs.Listing as listing;
+ghost use Rattle.request_reader.specs.Filters.{wanted_of};
 ghost use Rattle.request_reader.specs.Plain.{minors_of};
 
 use crate::line::{Head, Line, push_bytes, push_line};
@@ -11,7 +12,7 @@ use arrayvec::ArrayVec;
 use itoa::Buffer;
 use named_matroids::{MinorItem, Spelling};
 use product_rep::Factors;
-use request_reader::Request;
+use request_reader::{Filters, Request};
 
 /// Appends the line of the factors.
 fn push_field_line(head: &mut Head, factors: &Factors)
@@ -83,6 +84,31 @@ fn push_forbid_lines(head: &mut Head, items: &[MinorItem])
     }
 }
 
+/// Appends the line of a filter, where it is set.
+fn push_flag_line(head: &mut Head, is_set: bool, word: &[u8])
+    requires room { length head.old.items ≤ 900 }
+    requires word { length word.now ≤ 9 }
+    ensures set { IsTrue is_set → head.new.items ≡ head.old.items ++ line_of_words (codes "filter" ∷ word.now ∷ []) }
+    ensures unset { is_set ≡ false → head.new.items ≡ head.old.items }
+    ensures short { length head.new.items ≤ length head.old.items + 17 }
+{
+    if is_set {
+        push_line(head, &[b"filter".as_slice(), word]);
+    }
+}
+
+/// Appends the line of the minor that a form must have, where there is one.
+fn push_has_line(head: &mut Head, filters: &Filters)
+    requires { length head.old.items ≤ 900 }
+    ensures bytes { head.new.items ≡ head.old.items ++ text_of_entries (map ListsWith (option_to_list (wanted_of filters.now))) }
+    ensures short { length head.new.items ≤ length head.old.items + 20 }
+{
+    if let Some(item) = &filters.has {
+        let name = name_of(item.spelling());
+        push_line(head, &[b"filter".as_slice(), b"has", name.as_slice()]);
+    }
+}
+
 /// The lines of a head before those that forbid minors.
 fn first_lines(factors: &Factors, rank: u8, size: u8) -> Head
     ensures bytes { result.items ≡ codes "macek listing 1\n" ++ text_of_entries (Version ∷ FieldIs factors.now ∷ RankIs rank ∷ SizeIs size ∷ []) }
@@ -107,6 +133,12 @@ pub fn head_text(request: &Request) -> Head
 {
     let mut head = first_lines(&request.factors(), request.rank(), request.size());
     push_forbid_lines(&mut head, request.forbid());
+    let filters = request.filters();
+    push_flag_line(&mut head, filters.connected, b"connected");
+    push_flag_line(&mut head, filters.three, b"3conn");
+    push_flag_line(&mut head, filters.cosimple, b"cosimple");
+    push_flag_line(&mut head, filters.distinct, b"distinct");
+    push_has_line(&mut head, filters);
     push_line(&mut head, &[b"print".as_slice(), b"forms"]);
     head
 }

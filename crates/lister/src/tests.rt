@@ -32,6 +32,19 @@ fn head_with_forbidden_minors(rt: HostRuntime) -> Result<(), Fail> {
 }
 
 #[test]
+fn head_with_filters(rt: HostRuntime) -> Result<(), Fail> {
+    let request = read_request(
+        b"filter distinct\nfilter has U2,4\nrank 2\nforbid K4\nfilter connected\nfield 5\nsize 5\nfilter 3conn\nfilter cosimple\n",
+    ).ok()
+        .ok_or("no request")?;
+    assert_eq!(rt;
+        head_text(&request).as_slice(),
+        b"macek listing 1\nversion 1\nfield 5\nrank 2\nsize 5\nforbid K4\nfilter connected\nfilter 3conn\nfilter cosimple\nfilter distinct\nfilter has U2,4\nprint forms\n".as_slice()
+    );
+    Ok(())
+}
+
+#[test]
 fn line_of_a_level(rt: HostRuntime) {
     assert_eq!(rt;
         level_text(16, 60, 9, 12_345).as_slice(),

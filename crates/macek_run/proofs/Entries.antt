@@ -1,5 +1,5 @@
 -- What the listing tells of a level.
-use Rattle.std.proofs.Common.{◌≡◌, ◌∙◌, ℕ, List, [], ◌∷◌, ◌++◌, map, length, None, refl, sym, ap, subst, arith, Bor}
+use Rattle.std.proofs.Common.{◌≡◌, ◌∙◌, ℕ, List, [], ◌∷◌, ◌++◌, map, length, refl, sym, ap, subst, arith, Bor}
 use Rattle.std.specs.Prelude.{option_to_list, Option}
 use Rattle.std.specs.List.{concat}
 use Rattle.std.proofs.lemmas.List.{length-map}
@@ -9,7 +9,6 @@ use Rattle.matroid_theory.specs.Minor.{Matroid}
 use Rattle.matroid_theory.specs.Level.{Family, Filters}
 use Rattle.formats.specs.declared.refusal.PrintMode.{PrintMode}
 use Rattle.formats.specs.declared.refusal.PrintMode.TheVariants.{Forms}
-use Rattle.formats.specs.Entry.{Minor}
 use Rattle.formats.specs.Minors.{given_as}
 use Rattle.formats.specs.Request.{Request}
 use Rattle.formats.specs.Listing.{LevelEntry, level_text, form_text, level_pieces}
@@ -21,10 +20,6 @@ use Rattle.macek_run.specs.Steps.{TellsLevel}
 -- what the listing tells of a level
 abbrev pub entry_of : ℕ → List Rep → List Rep → ℕ → LevelEntry
 entry_of n forms shown tried = record { size = n; classes = length forms; listed = map columns_of shown; tried = tried }
-
--- nothing is wanted where the request names no minor
-pub none_wanted : (q : Request) → q.has ≡ None → AreGivenBy (map given_as (option_to_list q.has)) []
-none_wanted q none = subst (λ (minor : Option Minor). AreGivenBy (map given_as (option_to_list minor)) []) (sym none) tt
 
 -- a request for forms that forbids these matroids, and wants this one
 module _ (q : Request) (prints : q.print ≡ Forms) (forbidden : List Matroid) (given : AreGivenBy (map given_as q.forbid) forbidden) (wanted : Option Matroid) (is_wanted : AreGivenBy (map given_as (option_to_list q.has)) (option_to_list wanted)) where

@@ -1,126 +1,32 @@
 -- What one more entry does to the values.
-use Rattle.std.proofs.Common.{◌≡◌, ◌∙◌, ℕ, ◌+◌, ◌<◌, ◌≤◌, ◌==◌, inl, inr, Bool, true, false, cond, List, [], ◌∷◌, ◌++◌, length, Option, None, Some, refl, sym, ap, subst, arith, add-zero, not}
+use Rattle.std.proofs.Common.{◌≡◌, ◌∙◌, ℕ, ◌<◌, Bool, true, false, cond, List, [], ◌∷◌, ◌++◌, length, None, Some, refl, sym, ap, subst, arith, add-zero}
 use Rattle.std.specs.Option.{is_some}
-use Rattle.std.proofs.lemmas.List.{append-nil, map-append, length-map}
+use Rattle.std.proofs.lemmas.List.{map-append, length-map}
 use Rattle.std.specs.Prelude.{IsTrue, filter_map, option_to_list}
-use Rattle.std.specs.List.{AllByRecursion, cons_option}
-use Rattle.std.proofs.lemmas.Bool.{cases_Bool}
-use Rattle.std.proofs.lemmas.Bool.Decides.{nat_tests}
-use Rattle.std.proofs.lemmas.List.Sums.{sum_by-append, sum_by-cons}
-use Rattle.std.proofs.lemmas.List.Elements.{filter_map-append}
 use Rattle.matroid_theory.specs.Given.{IsGivenBy}
-use Rattle.named_matroids.specs.declared.spelling.Spelling.{Spelling}
-use Rattle.named_matroids.specs.declared.spelling.Spelling.TheVariants as spelling
 use Rattle.named_matroids.specs.Names.{NamedMatroid, named_by, IsSmallName}
-use Rattle.formats.specs.Entry.{Entry, Version, RankIs, FieldIs, SizeIs, Forbids, Prints, kind_number, most_of_kind, named_elements}
+use Rattle.formats.specs.Entry.{Entry, Version, RankIs, FieldIs, SizeIs, Forbids, Prints, kind_number}
 use Rattle.formats.specs.Minors.{given_as}
-use Rattle.formats.specs.Request.{AreInOrder, count_of_kind, rank_in, field_in, size_in, forbidden_in}
+use Rattle.formats.specs.Request.{count_of_kind, rank_in, field_in, size_in, forbidden_in}
 use Rattle.formats.specs.declared.refusal.PrintMode.TheVariants.{Forms}
+use Rattle.request_reader.specs.declared.filters.Flag.{Flag}
+use Rattle.request_reader.specs.declared.filters.Flag.TheVariants as flag
+use Rattle.request_reader.specs.declared.filters.Filter.{Filter}
+use Rattle.request_reader.specs.declared.filters.Filter.TheVariants as filter
+use Rattle.request_reader.specs.declared.filters.Filters.{Filters}
 use Rattle.request_reader.specs.declared.values.Values.{Values}
+use Rattle.request_reader.specs.declared.values.Wrong.{Wrong}
 use Rattle.request_reader.specs.declared.values.Wrong.TheVariants as wrong
 use Rattle.request_reader.specs.declared.line.NamedMinor.{NamedMinor}
 use Rattle.request_reader.specs.declared.line.NamedMinor.TheVariants as minor
 use Rattle.request_reader.specs.declared.line.Said.{Said}
 use Rattle.request_reader.specs.declared.line.Said.TheVariants as said
-use Rattle.request_reader.specs.Now.{is_name, forms_now}
-use Rattle.request_reader.specs.Plain.{AreGiven}
-use Rattle.request_reader.specs.Said.{IsSaid, IsWrong}
+use Rattle.request_reader.specs.Filters.{HoldsFilters, IsNewFilter}
+use Rattle.request_reader.specs.Now.{forms_now}
+use Rattle.request_reader.specs.Said.{flag_entry, IsFilter, IsSaid, IsWrong}
 use Rattle.request_reader.specs.Values.{Holds}
-
--- an entry is one of a kind, or not
-abbrev of_kind : ℕ → Entry → ℕ
-of_kind kind e = cond (kind_number e == kind) 1 0
-
-count_cons : (kind : ℕ) (e : Entry) (es : List Entry) → count_of_kind kind (e ∷ es) ≡ of_kind kind e + count_of_kind kind es
-count_cons kind e es = sum_by-cons (of_kind kind) e es
-
-count_end : (kind : ℕ) (es : List Entry) (e : Entry) → count_of_kind kind (es ++ e ∷ []) ≡ count_of_kind kind es + of_kind kind e
-count_end kind es e = sum_by-append (of_kind kind) es (e ∷ []) ∙ ap (λ (n : ℕ). count_of_kind kind es + n) (count_cons kind e [] ∙ add)
-  where
-    add : of_kind kind e + 0 ≡ of_kind kind e
-    add = omega arith
-
-pub all_end : (P : Entry → Type 0) (es : List Entry) (e : Entry) → AllByRecursion P es → P e → AllByRecursion P (es ++ e ∷ [])
-all_end P [] e all p = (p, tt)
-all_end P (x ∷ es) e all p = (all.0, all_end P es e all.1 p)
-
--- one of each kind may stand
-some_allowed : (kind : ℕ) → 1 ≤ most_of_kind kind
-some_allowed kind = grind (arith, nat_tests)
-
--- the entries stay in order by one of a kind of which there were fewer than may be
-order_end : (es : List Entry) (e : Entry) → AreInOrder es → named_elements e ≤ 10 → count_of_kind (kind_number e) es < most_of_kind (kind_number e) → AreInOrder (es ++ e ∷ [])
-order_end es e order small fewer = record {
-  not_often = λ kind. often kind;
-  not_big = all_end (λ x. named_elements x ≤ 10) es e order.not_big small;
-}
-  where
-    often : (kind : ℕ) → count_of_kind kind (es ++ e ∷ []) ≤ most_of_kind kind
-    often kind = elim (cases_Bool (kind_number e == kind)) [
-      | inl same ↦
-          let one : of_kind kind e ≡ 1 = ap (λ (b : Bool). cond b 1 0) same in
-          let alike : kind_number e ≡ kind = grind (arith, nat_tests, same) in
-          let room : count_of_kind kind es < most_of_kind kind = subst (λ (k : ℕ). count_of_kind k es < most_of_kind k) alike fewer in
-          omega (arith, count_end kind es e, one, room)
-      | inr other ↦
-          let no : of_kind kind e ≡ 0 = ap (λ (b : Bool). cond b 1 0) other in
-          omega (arith, count_end kind es e, no, order.not_often kind)
-    ]
-
--- the entries stay in order by one of a kind that wasn't there
-order_new : (es : List Entry) (e : Entry) → AreInOrder es → named_elements e ≤ 10 → count_of_kind (kind_number e) es ≡ 0 → AreInOrder (es ++ e ∷ [])
-order_new es e order small new = order_end es e order small (omega (arith, new, some_allowed (kind_number e)))
-
--- as many entries of a kind as values of it
-rank_count : (es : List Entry) → count_of_kind 1 es ≡ length (filter_map rank_in es)
-rank_count [] = refl
-rank_count (RankIs n ∷ es) = omega (arith, count_cons 1 (RankIs n) es, rank_count es)
-rank_count (e ∷ es) = omega (arith, count_cons 1 e es, rank_count es)
-
-field_count : (es : List Entry) → count_of_kind 2 es ≡ length (filter_map field_in es)
-field_count [] = refl
-field_count (FieldIs n ∷ es) = omega (arith, count_cons 2 (FieldIs n) es, field_count es)
-field_count (e ∷ es) = omega (arith, count_cons 2 e es, field_count es)
-
-size_count : (es : List Entry) → count_of_kind 3 es ≡ length (filter_map size_in es)
-size_count [] = refl
-size_count (SizeIs n ∷ es) = omega (arith, count_cons 3 (SizeIs n) es, size_count es)
-size_count (e ∷ es) = omega (arith, count_cons 3 e es, size_count es)
-
-forbid_count : (es : List Entry) → count_of_kind 4 es ≡ length (filter_map forbidden_in es)
-forbid_count [] = refl
-forbid_count (Forbids minor ∷ es) = omega (arith, count_cons 4 (Forbids minor) es, forbid_count es)
-forbid_count (e ∷ es) = omega (arith, count_cons 4 e es, forbid_count es)
-
--- one value more
-values_end : {X : Type 0} (value : Entry → Option X) (es : List Entry) (e : Entry) (o : Option X) → filter_map value es ≡ [] → value e ≡ o → filter_map value (es ++ e ∷ []) ≡ option_to_list o
-values_end value es e o none is = filter_map-append value es (e ∷ []) ∙ ap (λ l. l ++ filter_map value (e ∷ [])) none ∙ one o is
-  where
-    one : (o : Option _) → value e ≡ o → filter_map value (e ∷ []) ≡ option_to_list o
-    one None is = ap (λ o. cons_option o []) is
-    one (Some x) is = ap (λ o. cons_option o []) is
-
--- no value more
-values_kept : {X : Type 0} (value : Entry → Option X) (es : List Entry) (e : Entry) (xs : List X) → filter_map value es ≡ xs → value e ≡ None → filter_map value (es ++ e ∷ []) ≡ xs
-values_kept value es e xs held none = filter_map-append value es (e ∷ []) ∙ ap (λ o. filter_map value es ++ cons_option o []) none ∙ append-nil (filter_map value es) ∙ held
-
--- one value more after others
-values_more : {X : Type 0} (value : Entry → Option X) (es : List Entry) (e : Entry) (x : X) (xs : List X) → filter_map value es ≡ xs → value e ≡ Some x → filter_map value (es ++ e ∷ []) ≡ xs ++ x ∷ []
-values_more value es e x xs held is = filter_map-append value es (e ∷ []) ∙ ap (λ o. filter_map value es ++ cons_option o []) is ∙ ap (λ l. l ++ x ∷ []) held
-
--- one matroid more
-given_end : (items : List NamedMatroid) (item : NamedMatroid) → AreGiven items → IsGivenBy (given_as (named_by item.spelling)) item.matroid → AreGiven (items ++ item ∷ [])
-given_end [] item all given = (given, tt)
-given_end (x ∷ items) item all given = (all.0, given_end items item all.1 given)
-
--- a name is read
-name_read : (s : Spelling) → IsTrue (is_name (named_by s))
-name_read (spelling.Uniform rank size) = refl
-name_read spelling.Fano = refl
-name_read spelling.FanoDual = refl
-name_read spelling.NonFano = refl
-name_read spelling.KFour = refl
-name_read spelling.KFive = refl
+use Rattle.request_reader.proofs.EntryCounts.{of_kind, count_end, count_kept, all_end, order_end, order_new, rank_count, field_count, size_count, forbid_count, values_end, values_kept, values_more, given_end, name_read, flag_again, value_again, none_there}
+use Rattle.request_reader.proofs.FilterValues.{filters_kept}
 
 -- one entry more, of a kind that wasn't there
 pub version_end : (es : List Entry) (values : Values) → Holds es values → values.version ≡ false → Holds (es ++ Version ∷ []) (record values { version = true })
@@ -135,6 +41,7 @@ version_end es values h new =
       size = values_kept size_in es Version _ h.size refl;
       forbid = values_kept forbidden_in es Version _ h.forbid refl;
       given = h.given;
+      filters = filters_kept es Version values.filters h.filters refl refl refl refl refl;
       print = count_end 10 es Version ∙ add-zero _ ∙ h.print;
     }
 
@@ -150,6 +57,7 @@ rank_end es values n h new =
       size = values_kept size_in es (RankIs n) _ h.size refl;
       forbid = values_kept forbidden_in es (RankIs n) _ h.forbid refl;
       given = h.given;
+      filters = filters_kept es (RankIs n) values.filters h.filters refl refl refl refl refl;
       print = count_end 10 es (RankIs n) ∙ add-zero _ ∙ h.print;
     }
 
@@ -165,6 +73,7 @@ field_end es values fs h new =
       size = values_kept size_in es (FieldIs fs) _ h.size refl;
       forbid = values_kept forbidden_in es (FieldIs fs) _ h.forbid refl;
       given = h.given;
+      filters = filters_kept es (FieldIs fs) values.filters h.filters refl refl refl refl refl;
       print = count_end 10 es (FieldIs fs) ∙ add-zero _ ∙ h.print;
     }
 
@@ -180,6 +89,7 @@ size_end es values n h new =
       size = values_end size_in es (SizeIs n) (Some n) none refl;
       forbid = values_kept forbidden_in es (SizeIs n) _ h.forbid refl;
       given = h.given;
+      filters = filters_kept es (SizeIs n) values.filters h.filters refl refl refl refl refl;
       print = count_end 10 es (SizeIs n) ∙ add-zero _ ∙ h.print;
     }
 
@@ -195,6 +105,7 @@ print_end es values h new =
       size = values_kept size_in es (Prints Forms) _ h.size refl;
       forbid = values_kept forbidden_in es (Prints Forms) _ h.forbid refl;
       given = h.given;
+      filters = filters_kept es (Prints Forms) values.filters h.filters refl refl refl refl refl;
       print = omega (arith, count_end 10 es (Prints Forms), none);
     }
 
@@ -215,20 +126,49 @@ forbid_end es values item h room small given =
       size = values_kept size_in es e _ h.size refl;
       forbid = values_more forbidden_in es e (named_by item.spelling) _ h.forbid refl ∙ sym (map-append (λ (x : NamedMatroid). named_by x.spelling) values.forbid.items (item ∷ []));
       given = given_end values.forbid.items item h.given given;
+      filters = filters_kept es e values.filters h.filters refl refl refl refl refl;
       print = count_end 10 es e ∙ add-zero _ ∙ h.print;
     }
 
--- a kind that has a value was there
-flag_again : (es : List Entry) (kind : ℕ) (flag : Bool) → count_of_kind kind es ≡ cond flag 1 0 → flag ≡ true → 1 ≤ count_of_kind kind es
-flag_again es kind flag e set = let one : count_of_kind kind es ≡ 1 = e ∙ ap (λ (b : Bool). cond b 1 0) set in omega arith
+-- an entry that is a filter tells nothing else
+record TellsNoLine (e : Entry) : Type 0 where
+  version : of_kind 0 e ≡ 0
+  rank : rank_in e ≡ None
+  field : field_in e ≡ None
+  size : size_in e ≡ None
+  forbid : forbidden_in e ≡ None
+  print : of_kind 10 e ≡ 0
 
-value_again : {X : Type 0} (o : Option X) (xs : List X) (n : ℕ) → n ≡ length xs → xs ≡ option_to_list o → is_some o ≡ true → 1 ≤ n
-value_again None xs n m e is = cc (is)
-value_again (Some x) xs n m e is = let l : length xs ≡ 1 = ap length e in omega arith
+flag_tells : (flag : Flag) → TellsNoLine (flag_entry flag)
+flag_tells flag.Connected = record { version = refl; rank = refl; field = refl; size = refl; forbid = refl; print = refl }
+flag_tells flag.Three = record { version = refl; rank = refl; field = refl; size = refl; forbid = refl; print = refl }
+flag_tells flag.Cosimple = record { version = refl; rank = refl; field = refl; size = refl; forbid = refl; print = refl }
+flag_tells flag.Distinct = record { version = refl; rank = refl; field = refl; size = refl; forbid = refl; print = refl }
 
-none_there : {X : Type 0} (o : Option X) → is_some o ≡ false → o ≡ None
-none_there None is = refl
-none_there (Some x) is = cc (is)
+filter_tells : (filter : Filter) (e : Entry) → IsFilter filter e → TellsNoLine e
+filter_tells (filter.Flag flag) e is = subst TellsNoLine (sym is) (flag_tells flag)
+filter_tells (filter.Has item) e is = subst TellsNoLine (sym is.1) (record { version = refl; rank = refl; field = refl; size = refl; forbid = refl; print = refl })
+
+pub filter_new : (es : List Entry) (values : Values) (s : Said) (e : Entry) (filter : Filter) (filters : Filters) → Holds es values → IsSaid s e → s ≡ said.Filter filter → (HoldsFilters es values.filters → IsFilter filter e → IsNewFilter es e filters) → Holds (es ++ e ∷ []) (record values { filters = filters })
+filter_new es values s e filter filters h said is with_it =
+    let at : IsFilter filter e = subst (λ (s : Said). IsSaid s e) is said in
+    let new = with_it h.filters at in
+    let tells = filter_tells filter e at in
+    record {
+      are_read = all_end (λ e. IsTrue (forms_now e)) es e h.are_read new.is_read;
+      in_order = order_new es e h.in_order new.not_big new.new;
+      version = count_kept 0 es e _ h.version tells.version;
+      rank = values_kept rank_in es e _ h.rank tells.rank;
+      field = values_kept field_in es e _ h.field tells.field;
+      size = values_kept size_in es e _ h.size tells.size;
+      forbid = values_kept forbidden_in es e _ h.forbid tells.forbid;
+      given = h.given;
+      filters = new.holds;
+      print = count_kept 10 es e _ h.print tells.print;
+    }
+
+pub filter_wrong : (es : List Entry) (values : Values) (s : Said) (e : Entry) (filter : Filter) (w : Wrong) → Holds es values → IsSaid s e → s ≡ said.Filter filter → (HoldsFilters es values.filters → IsFilter filter e → IsWrong es e w) → IsWrong es e w
+filter_wrong es values s e filter w h said is with_it = with_it h.filters (subst (λ (s : Said). IsSaid s e) is said)
 
 -- what is said was not said before, or was
 pub version_new : (es : List Entry) (values : Values) (s : Said) (e : Entry) → Holds es values → IsSaid s e → s ≡ said.Version → values.version ≡ false → Holds (es ++ e ∷ []) (record values { version = true })
@@ -299,10 +239,3 @@ too_big es values s e h said is room =
     let at = subst (λ (s : Said). IsSaid s e) is said in
     let fewer : count_of_kind 4 es < 8 = omega (arith, forbids_held es values h) in
     subst (λ (e : Entry). IsWrong es e wrong.TooBig) (sym at.1) (fewer, at.2)
-
--- what a test for none says of what is there
-pub is_there : (there none : Bool) → there ≡ not none → none ≡ false → there ≡ true
-is_there there none e is = cc
-
-pub not_there : (there none : Bool) → there ≡ not none → none ≡ true → there ≡ false
-not_there there none e is = cc

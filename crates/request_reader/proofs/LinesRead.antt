@@ -13,7 +13,7 @@ use Rattle.request_reader.specs.declared.values.Wrong.TheVariants as wrong
 use Rattle.request_reader.specs.Now.{forms_now}
 use Rattle.request_reader.specs.Said.{IsWrong, refusal_at}
 use Rattle.request_reader.specs.Values.{Holds}
-use Rattle.request_reader.proofs.EntryValues.{all_end}
+use Rattle.request_reader.proofs.EntryCounts.{all_end}
 
 -- so many lines were read, they say entries with these values, and the rest is left
 pub record HasRead (text : List ℕ) (values : Values) (number : ℕ) (rest : List ℕ) : Type 0 where

@@ -1,60 +1,33 @@
--- What entries without a filter ask for, and how a text is accepted or refused by its values.
-use Rattle.std.proofs.Common.{◌≡◌, ◌∙◌, ℕ, ◌==◌, Bool, false, List, [], ◌∷◌, Option, None, Some, refl, sym, ap, subst}
-use Rattle.std.specs.Prelude.{IsTrue, filter_map, option_to_list, Result, Ok, Err, IfOk, IfErr, if◌then◌else◌}
-use Rattle.std.specs.List.{AllByRecursion, list_any, cons_option}
+-- What entries ask for, and how a text is accepted or refused by its values.
+use Rattle.std.proofs.Common.{◌≡◌, ◌∙◌, ℕ, Bool, false, List, [], ◌∷◌, Some, refl, sym, ap, subst}
+use Rattle.std.specs.Prelude.{IsTrue, option_to_list, Result, Ok, Err, IfOk, IfErr, if◌then◌else◌}
+use Rattle.std.specs.List.{AllByRecursion, list_any}
 use Rattle.formats.specs.declared.refusal.PrintMode.TheVariants.{Forms, Counts}
 use Rattle.formats.specs.declared.refusal.Refusal.{Refusal}
 use Rattle.formats.specs.declared.refusal.Refusal.TheVariants as refusal
-use Rattle.formats.specs.Entry.{Minor, Entry, ListsConnected, ListsThreeConnected, ListsCosimple, ListsDistinct, ListsWith, Prints, kind_number}
-use Rattle.formats.specs.Request.{Request, AskFor, StandsFor, IsWithinLimits, IsRank, IsSize, forbidden_in, wanted_in, prints_counts}
+use Rattle.formats.specs.Entry.{Entry, Prints}
+use Rattle.formats.specs.Request.{Request, AskFor, StandsFor, IsWithinLimits, IsRank, IsSize, prints_counts}
 use Rattle.formats.specs.Refusal.{AreValues, HasValues}
 use Rattle.request_reader.specs.declared.values.Values.{Values}
 use Rattle.request_reader.specs.Limits.{IsLate}
 use Rattle.request_reader.specs.Now.{forms_now, IsAccepted, IsRefused}
 use Rattle.request_reader.specs.Plain.{request_with, minors_of}
 use Rattle.request_reader.specs.Values.{Holds, AreSaid}
+use Rattle.request_reader.proofs.EntryCounts.{flag_there}
 
 -- all of them are read
 abbrev AllRead : List Entry → Type 0
 AllRead entries = AllByRecursion (λ e. IsTrue (forms_now e)) entries
 
 -- what isn't read isn't there
-none_found : {X : Type 0} (value : Entry → Option X) → ((e : Entry) → IsTrue (forms_now e) → value e ≡ None) → (entries : List Entry) → AllRead entries → filter_map value entries ≡ []
-none_found value none [] all = refl
-none_found value none (e ∷ entries) all = ap (λ o. cons_option o (filter_map value entries)) (none e all.0) ∙ none_found value none entries all.1
-
 none_any : (test : Entry → Bool) → ((e : Entry) → IsTrue (forms_now e) → test e ≡ false) → (entries : List Entry) → AllRead entries → list_any test entries ≡ false
 none_any test never [] all = refl
 none_any test never (e ∷ entries) all = let here = never e all.0 in let later = none_any test never entries all.1 in cc
-
-not_wanted : (e : Entry) → IsTrue (forms_now e) → wanted_in e ≡ None
-not_wanted (ListsWith minor) is_read = cc (is_read)
-not_wanted _ is_read = refl
 
 not_counts : (e : Entry) → IsTrue (forms_now e) → prints_counts e ≡ false
 not_counts (Prints Forms) is_read = refl
 not_counts (Prints Counts) is_read = cc (is_read)
 not_counts _ is_read = refl
-
--- another entry is of the same kind
-abbrev SameKind : Entry → Entry → Bool
-SameKind entry other = kind_number other == kind_number entry
-
-not_connected : (e : Entry) → IsTrue (forms_now e) → SameKind ListsConnected e ≡ false
-not_connected ListsConnected is_read = cc (is_read)
-not_connected _ is_read = refl
-
-not_three : (e : Entry) → IsTrue (forms_now e) → SameKind ListsThreeConnected e ≡ false
-not_three ListsThreeConnected is_read = cc (is_read)
-not_three _ is_read = refl
-
-not_cosimple : (e : Entry) → IsTrue (forms_now e) → SameKind ListsCosimple e ≡ false
-not_cosimple ListsCosimple is_read = cc (is_read)
-not_cosimple _ is_read = refl
-
-not_distinct : (e : Entry) → IsTrue (forms_now e) → SameKind ListsDistinct e ≡ false
-not_distinct ListsDistinct is_read = cc (is_read)
-not_distinct _ is_read = refl
 
 -- the values that are there
 are_values : (entries : List Entry) (values : Values) (rank : ℕ) (factors : List ℕ) (size : ℕ) → Holds entries values → values.rank ≡ Some rank → values.factors ≡ Some factors → values.size ≡ Some size → AreValues entries rank factors size
@@ -67,29 +40,29 @@ are_values entries values rank factors size h r f s = record {
 has_values : (text : List ℕ) (values : Values) (rank : ℕ) (factors : List ℕ) (size : ℕ) → AreSaid text values → values.rank ≡ Some rank → values.factors ≡ Some factors → values.size ≡ Some size → HasValues forms_now text rank factors size
 has_values text values rank factors size said r f s = record { entries = said.entries; none = said.none; values = are_values said.entries values rank factors size said.holds r f s }
 
--- Entries that are read ask for a request without a filter.
-asks : (entries : List Entry) (rank : ℕ) (factors : List ℕ) (size : ℕ) (forbid : List Minor) → AllRead entries → AreValues entries rank factors size → filter_map forbidden_in entries ≡ forbid → AskFor entries (request_with factors rank size forbid)
-asks entries rank factors size forbid all values forbids = record {
-  rank = values.rank_said;
-  field = values.field_said;
-  size = values.size_said;
-  forbid = forbids;
-  connected = none_any (SameKind ListsConnected) not_connected entries all;
-  three_connected = none_any (SameKind ListsThreeConnected) not_three entries all;
-  cosimple = none_any (SameKind ListsCosimple) not_cosimple entries all;
-  distinct = none_any (SameKind ListsDistinct) not_distinct entries all;
-  has = none_found wanted_in not_wanted entries all;
-  print = ap (λ (b : Bool). if b then Counts else Forms) (none_any prints_counts not_counts entries all);
+-- Entries with these values ask for this request.
+asks : (entries : List Entry) (values : Values) (rank : ℕ) (factors : List ℕ) (size : ℕ) → Holds entries values → AreValues entries rank factors size → AskFor entries (request_with factors rank size (minors_of values.forbid.items) values.filters)
+asks entries values rank factors size h are = record {
+  rank = are.rank_said;
+  field = are.field_said;
+  size = are.size_said;
+  forbid = h.forbid;
+  connected = flag_there 5 entries values.filters.connected h.filters.connected;
+  three_connected = flag_there 6 entries values.filters.three h.filters.three;
+  cosimple = flag_there 7 entries values.filters.cosimple h.filters.cosimple;
+  distinct = flag_there 8 entries values.filters.distinct h.filters.distinct;
+  has = h.filters.has;
+  print = ap (λ (b : Bool). if b then Counts else Forms) (none_any prints_counts not_counts entries h.are_read);
 }
 
 -- a text with values within the limits stands for a request
-stands : (text : List ℕ) (values : Values) (rank : ℕ) (factors : List ℕ) (size : ℕ) → (said : AreSaid text values) → AreValues said.entries rank factors size → IsWithinLimits (request_with factors rank size (minors_of values.forbid.items)) → StandsFor forms_now text (request_with factors rank size (minors_of values.forbid.items))
+stands : (text : List ℕ) (values : Values) (rank : ℕ) (factors : List ℕ) (size : ℕ) → (said : AreSaid text values) → AreValues said.entries rank factors size → IsWithinLimits (request_with factors rank size (minors_of values.forbid.items) values.filters) → StandsFor forms_now text (request_with factors rank size (minors_of values.forbid.items) values.filters)
 stands text values rank factors size said are limits = record {
   short = said.none.short;
   entries = said.entries;
   said = said.none.said;
   in_order = said.none.in_order;
-  asked = asks said.entries rank factors size (minors_of values.forbid.items) said.none.said.are_read are said.holds.forbid;
+  asked = asks said.entries values rank factors size said.holds are;
   limits = limits;
 }
 
@@ -101,7 +74,7 @@ late text rank factors size (refusal.TooWide c) h l = (rank, factors, size, h, l
 late text rank factors size _ h l = absurd l
 
 -- the answer where all values are there
-pub accepted : (text : List ℕ) (values : Values) (rank : ℕ) (factors : List ℕ) (size : ℕ) (result : Result Request Refusal) → AreSaid text values → values.rank ≡ Some rank → values.factors ≡ Some factors → values.size ≡ Some size → IfOk result (λ request. request ≡ request_with factors rank size (minors_of values.forbid.items)) → IfOk result (λ request. IsWithinLimits request) → IfOk result (λ request. IsAccepted text request)
+pub accepted : (text : List ℕ) (values : Values) (rank : ℕ) (factors : List ℕ) (size : ℕ) (result : Result Request Refusal) → AreSaid text values → values.rank ≡ Some rank → values.factors ≡ Some factors → values.size ≡ Some size → IfOk result (λ request. request ≡ request_with factors rank size (minors_of values.forbid.items) values.filters) → IfOk result (λ request. IsWithinLimits request) → IfOk result (λ request. IsAccepted text request)
 accepted text values rank factors size (Ok request) said r f s is limits = subst (λ (q : Request). StandsFor forms_now text q) (sym is) (stands text values rank factors size said (are_values said.entries values rank factors size said.holds r f s) (subst IsWithinLimits is limits))
 accepted text values rank factors size (Err why) said r f s is limits = tt
 

@@ -1,3 +1,4 @@
+pub mod Filters
 pub mod Limits
 pub mod Now
 pub mod Plain

@@ -1,8 +1,8 @@
--- Which requests are read so far: those whose lines have no matrix, no filter and no counts.
+-- Which requests are read so far: those whose lines have no matrix and no counts.
 use Rattle.std.specs.Prelude.{ℕ, List, Bool, true, false}
-use Rattle.formats.specs.declared.refusal.PrintMode.TheVariants.{Forms}
+use Rattle.formats.specs.declared.refusal.PrintMode.TheVariants.{Forms, Counts}
 use Rattle.formats.specs.declared.refusal.Refusal.{Refusal}
-use Rattle.formats.specs.Entry.{Minor, Matrix, Entry, Version, RankIs, FieldIs, SizeIs, Forbids, Prints}
+use Rattle.formats.specs.Entry.{Minor, Matrix, Entry, Version, RankIs, FieldIs, SizeIs, Forbids, ListsConnected, ListsThreeConnected, ListsCosimple, ListsDistinct, ListsWith, Prints}
 use Rattle.formats.specs.Request.{Request, StandsFor}
 use Rattle.formats.specs.Refusal.{HasRefusal}
 
@@ -18,8 +18,13 @@ forms_now (RankIs n) = true
 forms_now (FieldIs factors) = true
 forms_now (SizeIs n) = true
 forms_now (Forbids minor) = is_name minor
+forms_now ListsConnected = true
+forms_now ListsThreeConnected = true
+forms_now ListsCosimple = true
+forms_now ListsDistinct = true
+forms_now (ListsWith minor) = is_name minor
 forms_now (Prints Forms) = true
-forms_now _ = false
+forms_now (Prints Counts) = false
 
 -- the text stands for the request
 abbrev pub IsAccepted : List ℕ → Request → Type 0

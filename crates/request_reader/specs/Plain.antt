@@ -1,5 +1,5 @@
--- A request for forms without a filter, and what the fields of a request keep.
-use Rattle.std.specs.Prelude.{ℕ, List, None, false, map}
+-- A request for forms, and what the fields of a request keep.
+use Rattle.std.specs.Prelude.{ℕ, List, map}
 use Rattle.matroid_theory.specs.Field.{IsFactors}
 use Rattle.named_matroids.specs.Names.{NamedMatroid, named_by}
 use Rattle.formats.specs.declared.refusal.PrintMode.TheVariants.{Forms}
@@ -7,10 +7,23 @@ use Rattle.formats.specs.Entry.{Minor}
 use Rattle.formats.specs.Minors.{given_as}
 use Rattle.formats.specs.Levels.{AreGivenBy}
 use Rattle.formats.specs.Request.{Request, IsWithinLimits}
+use Rattle.request_reader.specs.declared.filters.Filters.{Filters}
+use Rattle.request_reader.specs.Filters.{wanted_of, IsWantedGiven}
 use Rattle.request_reader.specs.declared.request.Request.TheInside.{Inside}
 
-abbrev pub request_with : List ℕ → ℕ → ℕ → List Minor → Request
-request_with factors rank size forbid = record { factors = factors; rank = rank; size = size; forbid = forbid; connected = false; three_connected = false; cosimple = false; distinct = false; has = None; print = Forms }
+abbrev pub request_with : List ℕ → ℕ → ℕ → List Minor → Filters → Request
+request_with factors rank size forbid filters = record {
+  factors = factors;
+  rank = rank;
+  size = size;
+  forbid = forbid;
+  connected = filters.connected;
+  three_connected = filters.three;
+  cosimple = filters.cosimple;
+  distinct = filters.distinct;
+  has = wanted_of filters;
+  print = Forms;
+}
 
 -- the minors, as lines name them
 abbrev pub minors_of : List NamedMatroid → List Minor
@@ -22,9 +35,10 @@ AreGiven items = AreGivenBy (map given_as (minors_of items)) (map (λ item. item
 
 -- the request that the fields stand for
 abbrev pub request_of : Inside → Request
-request_of a = request_with a.factors a.rank a.size (minors_of a.forbid.items)
+request_of a = request_with a.factors a.rank a.size (minors_of a.forbid.items) a.filters
 
 pub record KeepsLimits (a : Inside) : Type 0 where
   pub are_factors : IsFactors a.factors
   pub limits : IsWithinLimits (request_of a)
   pub given : AreGiven a.forbid.items
+  pub wanted : IsWantedGiven a.filters

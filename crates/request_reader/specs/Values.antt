@@ -5,6 +5,7 @@ use Rattle.formats.specs.Entry.{Entry}
 use Rattle.formats.specs.Request.{AreInOrder, count_of_kind, rank_in, field_in, size_in, forbidden_in}
 use Rattle.formats.specs.Refusal.{NoFault}
 use Rattle.request_reader.specs.declared.values.Values.{Values}
+use Rattle.request_reader.specs.Filters.{HoldsFilters}
 use Rattle.request_reader.specs.Now.{forms_now}
 use Rattle.request_reader.specs.Plain.{minors_of, AreGiven}
 
@@ -18,6 +19,7 @@ pub record Holds (entries : List Entry) (values : Values) : Type 0 where
   pub size : filter_map size_in entries ≡ option_to_list values.size
   pub forbid : filter_map forbidden_in entries ≡ minors_of values.forbid.items
   pub given : AreGiven values.forbid.items
+  pub filters : HoldsFilters entries values.filters
   pub print : count_of_kind 10 entries ≡ cond values.print 1 0
 
 -- The lines of the text say entries that are in order, and the values are theirs.

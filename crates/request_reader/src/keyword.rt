@@ -10,6 +10,7 @@ pub enum Keyword {
     Field,
     Size,
     Forbid,
+    Filter,
     Print,
 }
 
@@ -25,6 +26,7 @@ pub fn keyword_of(word: &[u8]) -> Option<Keyword>
         b"field" => Some(Keyword::Field),
         b"size" => Some(Keyword::Size),
         b"forbid" => Some(Keyword::Forbid),
+        b"filter" => Some(Keyword::Filter),
         b"print" => Some(Keyword::Print),
         _ => None,
     }

@@ -4,6 +4,7 @@
 mod columns;
 mod cut;
 mod field_line;
+mod filters;
 mod keyword;
 mod line;
 mod number;
@@ -11,6 +12,7 @@ mod read;
 mod request;
 mod values;
 
+pub use filters::Filters;
 pub use read::read_request;
 pub use request::Request;
 

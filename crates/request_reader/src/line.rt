@@ -1,11 +1,12 @@
-ghost use Rattle.std.specs.Prelude.{◌≡◌, ◌↔◌, ◌∷◌, [], IsTrue, ℕ, List, MatchOption, decimal};
+ghost use Rattle.std.specs.Prelude.{◌≡◌, ◌↔◌, ◌∷◌, [], IsTrue, ℕ, List, MatchOption, codes, decimal};
 ghost use Rattle.formats.specs.Lines.{words_of};
 ghost use Rattle.formats.specs.Entry.{Minor, IsMinor, minor_words, Entry, IsNumber, Says};
 ghost use Rattle.request_reader.specs.Now.{is_name, forms_now};
-ghost use Rattle.request_reader.specs.Said.{IsNamed, IsSaid};
+ghost use Rattle.request_reader.specs.Said.{IsNamed, IsFilter, IsSaid};
 
 use crate::cut::next_word;
 use crate::field_line::factors_of;
+use crate::filters::{Filter, flag_of};
 use crate::keyword::{Keyword, keyword_of};
 use crate::number::number_of;
 use named_matroids::{MinorItem, NameFault, named};
@@ -27,6 +28,7 @@ pub enum Said {
     Field(Factors),
     Size(u32),
     Forbid(NamedMinor),
+    Filter(Filter),
     PrintsForms,
 }
 
@@ -73,6 +75,18 @@ fn only_minor(rest: &[u8]) -> Option<NamedMinor>
     }
 }
 
+// The filter that a text spells behind the word `filter`.
+fn filter_of(rest: &[u8]) -> Option<Filter>
+    ensures { MatchOption result
+        ((entry : Entry) → Says forms_now (codes "filter" ∷ words_of rest.now) entry → ⊥)
+        (λ filter. (entry : Entry) × Says forms_now (codes "filter" ∷ words_of rest.now) entry × IsFilter filter entry) }
+{
+    match next_word(rest)? {
+        (b"has", after) => Some(Filter::Has(only_minor(after)?)),
+        _ => Some(Filter::Flag(flag_of(only_word(rest)?)?)),
+    }
+}
+
 /// What a line says, where it has one of the forms that are read so far.
 pub fn said_by(line: &[u8]) -> Option<Said>
     ensures { MatchOption result
@@ -86,6 +100,7 @@ pub fn said_by(line: &[u8]) -> Option<Said>
         Keyword::Field => Some(Said::Field(factors_of(rest)?)),
         Keyword::Size => Some(Said::Size(only_number(rest)?)),
         Keyword::Forbid => Some(Said::Forbid(only_minor(rest)?)),
+        Keyword::Filter => Some(Said::Filter(filter_of(rest)?)),
         Keyword::Print if is_only_word(rest, b"forms") => Some(Said::PrintsForms),
         _ => None,
     }

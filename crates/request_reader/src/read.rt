@@ -27,6 +27,7 @@ pub fn read_request(text: &[u8]) -> Result<Request, Refusal>
         factors,
         size,
         forbid,
+        filters,
         ..
     } = read_values(text)?;
     let Some(rank) = rank else {
@@ -38,7 +39,7 @@ pub fn read_request(text: &[u8]) -> Result<Request, Refusal>
     let Some(size) = size else {
         return Err(Refusal::Missing(Word::Size));
     };
-    request_for(rank, factors, size, forbid)
+    request_for(rank, factors, size, forbid, filters)
 }
 
 // What the lines say, each kind at most once.

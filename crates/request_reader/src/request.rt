@@ -1,12 +1,15 @@
-ghost use Rattle.std.specs.Prelude.{◌≡◌, ◌≤◌, length, map, IfOk, IfErr};
+ghost use Rattle.std.specs.Prelude.{◌≡◌, ◌≤◌, length, map, option_to_list, IfOk, IfErr};
 ghost use Rattle.matroid_theory.specs.Field.{IsFactors};
 ghost use Rattle.formats.specs.Levels.{AreGivenBy};
 ghost use Rattle.formats.specs.Minors.{given_as};
 ghost use Rattle.formats.specs.Request.{IsWithinLimits};
+ghost use Rattle.formats.specs.declared.refusal.PrintMode.TheVariants.{Forms};
+ghost use Rattle.request_reader.specs.Filters.{wanted_of, wanted_matroid, IsWantedGiven};
 ghost use Rattle.request_reader.specs.Plain.{request_with, minors_of, AreGiven};
 ghost use Rattle.request_reader.specs.Limits.{IsLate};
 
 use crate::columns::column_count;
+use crate::filters::Filters;
 use arrayvec::ArrayVec;
 use formats::Refusal;
 use named_matroids::MinorItem;
@@ -19,17 +22,20 @@ const MOST_SIZE: u32 = 16;
 
 const MOST_COLUMNS: u64 = 1_000_000;
 
-/// A request within its limits. So far there is no filter, and its forms are printed. Contracts see what it asks for.
+/// A request within its limits. So far its forms are printed. Contracts see what it asks for.
 #[derive(Drop)]
 pub struct Request {
     factors: Factors,
     rank: u8,
     size: u8,
     forbid: ArrayVec<MinorItem, 8>,
+    filters: Filters,
 }
 
 impl Model for Request {
     ghost use Rattle.formats.specs.Request.{Request as Asked};
+    ghost use Rattle.formats.specs.declared.refusal.PrintMode.TheVariants.{Forms};
+    ghost use Rattle.request_reader.specs.Filters.{wanted_of, wanted_matroid, IsWantedGiven};
     ghost use Rattle.request_reader.specs.Plain.{request_of, KeepsLimits};
 
     ghost Value = { Asked };
@@ -52,7 +58,7 @@ impl Request {
         ensures rank { result ≡ self.now.rank }
         ensures limits { IsWithinLimits self.now }
         ensures factors { IsFactors self.now.factors }
-        ensures plain { self.now ≡ request_with self.now.factors self.now.rank self.now.size self.now.forbid }
+        ensures plain { self.now.print ≡ Forms }
     {
         self.rank
     }
@@ -72,6 +78,18 @@ impl Request {
     {
         self.forbid.as_slice()
     }
+
+    /// The filters.
+    pub fn filters(&self) -> &Filters
+        ensures connected { result.now.connected ≡ self.now.connected }
+        ensures three { result.now.three ≡ self.now.three_connected }
+        ensures cosimple { result.now.cosimple ≡ self.now.cosimple }
+        ensures distinct { result.now.distinct ≡ self.now.distinct }
+        ensures has { wanted_of result.now ≡ self.now.has }
+        ensures given { AreGivenBy (map given_as (option_to_list self.now.has)) (option_to_list (wanted_matroid result.now)) }
+    {
+        &self.filters
+    }
 }
 
 /// The request for these values, where they are within the limits.
@@ -80,9 +98,11 @@ pub fn request_for(
     factors: Factors,
     size: u32,
     forbid: ArrayVec<MinorItem, 8>,
+    filters: Filters,
 ) -> Result<Request, Refusal>
-    requires { AreGiven forbid.items }
-    ensures request { IfOk result (λ request. request ≡ request_with factors rank size (minors_of forbid.items)) }
+    requires forbid { AreGiven forbid.items }
+    requires wanted { IsWantedGiven filters }
+    ensures request { IfOk result (λ request. request ≡ request_with factors rank size (minors_of forbid.items) filters) }
     ensures limits { IfOk result (λ request. IsWithinLimits request) }
     ensures refused { IfErr result (λ why. IsLate rank factors size why) }
 {
@@ -102,5 +122,6 @@ pub fn request_for(
         rank,
         size,
         forbid,
+        filters,
     })
 }

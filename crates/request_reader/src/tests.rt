@@ -1,4 +1,5 @@
 use super::*;
+use crate::filters::{Filter, Flag};
 use crate::line::{NamedMinor, Said, said_by};
 use arrayvec::ArrayVec;
 use formats::{Refusal, Word};
@@ -28,6 +29,15 @@ fn told_by(line: &[u8]) -> (&'static str, ArrayVec<u32, 3>) {
             "forbid"
         }
         Some(Said::Forbid(NamedMinor::TooBig)) => "forbid too big",
+        Some(Said::Filter(Filter::Flag(Flag::Connected))) => "connected",
+        Some(Said::Filter(Filter::Flag(Flag::Three))) => "3-connected",
+        Some(Said::Filter(Filter::Flag(Flag::Cosimple))) => "cosimple",
+        Some(Said::Filter(Filter::Flag(Flag::Distinct))) => "distinct",
+        Some(Said::Filter(Filter::Has(NamedMinor::Small(item)))) => {
+            numbers.push(item.minor().size() as u32);
+            "has"
+        }
+        Some(Said::Filter(Filter::Has(NamedMinor::TooBig))) => "has too big",
         Some(Said::PrintsForms) => "print forms",
     };
     (what, numbers)
@@ -77,7 +87,16 @@ fn lines(rt: HostRuntime) {
         ("forbid k4", "nothing", &[][..]),
         ("forbid K4 K5", "nothing", &[][..]),
         ("forbid matrix 2 10 01", "nothing", &[][..]),
-        ("filter connected", "nothing", &[][..]),
+        ("filter connected", "connected", &[][..]),
+        ("filter 3conn", "3-connected", &[][..]),
+        ("filter cosimple", "cosimple", &[][..]),
+        ("filter distinct", "distinct", &[][..]),
+        ("filter has K5", "has", &[10][..]),
+        ("filter has U2,11", "has too big", &[][..]),
+        ("filter has", "nothing", &[][..]),
+        ("filter has matrix 2 10 01", "nothing", &[][..]),
+        ("filter connected 3conn", "nothing", &[][..]),
+        ("filter", "nothing", &[][..]),
         ("", "nothing", &[][..]),
         (" \t", "nothing", &[][..]),
     ];
@@ -117,6 +136,12 @@ fn texts_that_are_refused(rt: HostRuntime) {
             &b"rank 3\nfield 2\nsize 4\nforbid U2,11\n"[..],
             Refusal::ForbidTooBig(4),
         ),
+        (&b"filter has F7\nfilter has U2,11\n"[..], Refusal::Twice(2)),
+        (&b"filter has F7\nfilter has F8\n"[..], Refusal::BadLine(2)),
+        (
+            &b"filter cosimple\nfilter has U2,11\n"[..],
+            Refusal::ForbidTooBig(2),
+        ),
         (&b"rank 7\nfield 2\nsize 7\n"[..], Refusal::Rank(7)),
         (&b"rank 3\nfield 2\nsize 2\n"[..], Refusal::Size(2)),
         (
@@ -153,5 +178,19 @@ fn texts_that_are_accepted(rt: HostRuntime) {
             }
             Err(why) => assert!(rt; false, "{why:?}"),
         }
+    }
+}
+
+#[test]
+fn text_with_all_filters(rt: HostRuntime) {
+    let text =
+        b"filter connected\nfilter 3conn\nrank 3\nfilter cosimple\nfilter has F7-\nfield 3\nfilter distinct\nsize 7\n";
+    match read_request(text) {
+        Ok(request) => {
+            let filters = request.filters();
+            assert!(rt; filters.connected && filters.three && filters.cosimple && filters.distinct);
+            assert!(rt; filters.has.is_some());
+        }
+        Err(why) => assert!(rt; false, "{why:?}"),
     }
 }

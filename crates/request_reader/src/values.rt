@@ -6,6 +6,7 @@ ghost use Rattle.formats.specs.Minors.{given_as};
 ghost use Rattle.request_reader.specs.Said.{IsSaid, IsWrong, refusal_at};
 ghost use Rattle.request_reader.specs.Values.{Holds};
 
+use crate::filters::Filters;
 use crate::line::{NamedMinor, Said};
 use arrayvec::ArrayVec;
 use formats::Refusal;
@@ -44,6 +45,7 @@ pub struct Values {
     pub factors: Option<Factors>,
     pub size: Option<u32>,
     pub forbid: ArrayVec<MinorItem, 8>,
+    pub filters: Filters,
     pub print: bool,
 }
 
@@ -58,6 +60,7 @@ impl Values {
             factors: None,
             size: None,
             forbid: ArrayVec::new(),
+            filters: Filters::new(),
             print: false,
         }
     }
@@ -88,6 +91,10 @@ impl Values {
             Said::Forbid(_) if self.forbid.is_full() => Err(Wrong::NinthForbid),
             Said::Forbid(NamedMinor::Small(item)) => Ok(self.with_forbidden(item)),
             Said::Forbid(NamedMinor::TooBig) => Err(Wrong::TooBig),
+            Said::Filter(filter) => match self.filters.with(filter) {
+                Ok(filters) => Ok(Values { filters, ..self }),
+                Err(wrong) => Err(wrong),
+            },
             Said::PrintsForms if !self.print => Ok(Values {
                 print: true,
                 ..self

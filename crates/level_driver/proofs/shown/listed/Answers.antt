@@ -16,14 +16,14 @@ passes_all-requires-clause-agrees c =
 
 pub loop-i-preserved : goal.loop-i-preserved
 loop-i-preserved c = λ n family filters grows keeps level.
-    let e = c.asked-filters.ensures in
+    let e = c.filters-filters.ensures in
     let P : Rep → Type 0 = Passes family n filters in
     let at : slice_get c.args.forms.now c.loop-i.i ≡ Some c.form-item.result =
     stands_at c.args.forms.now c.as_slice-form-items.result.now c.loop-i.i c.form-item.result c.as_slice-form-items.ensures c.loop-i-test.true c.form-item.is in
     let told =
-    tells c.args.request.now c.asked-filters.result
-    (record { connected = e.connected; three = e.three; cosimple = e.cosimple; distinct = e.distinct; has = e.has; given = e.given }) c.args.forms.now c.loop-i.i c.form-item.result at c.passes_all.result
-    (told_by c.asked-filters.result c.args.forms.now c.deref.result.now
+    tells c.args.request.now c.filters-filters.result.now
+    (record { connected = e.connected; three = e.three; cosimple = e.cosimple; distinct = e.distinct; given = e.given }) c.args.forms.now c.loop-i.i c.form-item.result at c.passes_all.result
+    (told_by c.filters-filters.result.now c.args.forms.now c.deref.result.now
     (λ compared. same_lists c.as_slice.result.now c.args.forms.now c.in_ok-lists.lists.items c.deref.result.now c.as_slice.ensures c.deref.ensures.value (c.in_ok-lists.ensures compared)) c.loop-i.i c.form-item.result at c.passes_all.result c.passes_all.ensures)
     n family filters c.form-item.result grows keeps level at in
     let so_far = c.loop-i.invariant n family filters grows keeps level in

@@ -3,7 +3,8 @@ use Rattle.std.proofs.lemmas.Bool.Decides.{nat_tests}
 use Rattle.request_reader.specs.declared.line.NamedMinor.TheVariants.{Small}
 use Rattle.request_reader.specs.declared.line.Said.TheVariants.{Forbid}
 use Rattle.request_reader.specs.Values.{Holds}
-use Rattle.request_reader.proofs.EntryValues.{version_new, rank_new, field_new, size_new, forbid_new, print_new, version_again, rank_again, field_again, size_again, ninth, too_big, print_again, is_there, not_there}
+use Rattle.request_reader.proofs.EntryCounts.{is_there, not_there}
+use Rattle.request_reader.proofs.EntryValues.{version_new, rank_new, field_new, size_new, forbid_new, filter_new, filter_wrong, print_new, version_again, rank_again, field_again, size_again, ninth, too_big, print_again}
 use Rattle.request_reader.proofs.values.Values.with.Goals as goal
 use Rattle.request_reader.proofs.values.Values.with.Goals.{in_default-via-in-Version+else-not-self, in_default-via-in-Rank+else-is_none, in_default-via-in-Field+else-is_none-2, in_default-via-in-Size+else-is_none-3, in_default-via-in-PrintsForms+else-not-self-2}
 
@@ -34,6 +35,12 @@ pub returns-in-Forbid-TooBig : goal.returns-in-Forbid-TooBig
 returns-in-Forbid-TooBig c = λ es e h s.
     let room : length c.args.self.forbid.items < 8 = grind (arith, nat_tests) in
     too_big es c.args.self c.args.said e h s (c.in-Forbid.is ∙ ap Forbid c.in-Forbid-TooBig.field-0-is) room
+
+pub returns-in-Ok : goal.returns-in-Ok
+returns-in-Ok c = λ es e h s. filter_new es c.args.self c.args.said e c.in-Filter.filter c.in-Ok.filters h s c.in-Filter.is (c.in-Ok.ensures es e)
+
+pub returns-in-Err : goal.returns-in-Err
+returns-in-Err c = λ es e h s. filter_wrong es c.args.self c.args.said e c.in-Filter.filter c.in-Err.wrong h s c.in-Filter.is (c.in-Err.ensures es e)
 
 pub returns-in-PrintsForms : goal.returns-in-PrintsForms
 returns-in-PrintsForms c = λ es e h s. print_new es c.args.self c.args.said e h s c.in-PrintsForms.is c.if-not-self-2.true
