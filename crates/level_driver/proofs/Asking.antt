@@ -1,19 +1,16 @@
 -- The filters of a request are those that are asked for.
 use Rattle.std.proofs.Common.{◌≡◌, ◌∙◌, ℕ, ◌<◌, List, map, length, get_or, Some, None, refl, sym, ap, subst, Bool, IsTrue}
-use Rattle.std.specs.Prelude.{◌↔◌, slice_get, Option, option_map, option_to_list, IfSome}
+use Rattle.std.specs.Prelude.{◌↔◌, slice_get, Option, option_to_list}
 use Rattle.std.proofs.lemmas.Option.{slice_get_within, get_or_from_slice_get, slice_get_read}
 use Rattle.matroid_theory.specs.Rep.{Rep}
 use Rattle.matroid_theory.specs.Matroid.{Agrees}
 use Rattle.matroid_theory.specs.Minor.{Matroid}
-use Rattle.matroid_theory.specs.Given.{IsGivenBy}
 use Rattle.matroid_theory.specs.declared.Mode.TheVariants.{Linear}
 use Rattle.matroid_theory.specs.Level.{Family, IsLevel, Passes}
 use Rattle.matroid_theory.specs.Level as theory
-use Rattle.matroid_theory.proofs.GivenLemmas.{given_unique}
 use Rattle.formats.specs.Request.{Request}
 use Rattle.formats.specs.Minors.{given_as}
 use Rattle.formats.specs.Levels.{AreGivenBy, Keeps}
-use Rattle.named_matroids.specs.Names.{NamedMatroid, named_by}
 use Rattle.request_reader.specs.declared.filters.Filters.{Filters}
 use Rattle.request_reader.specs.Filters.{wanted_matroid}
 use Rattle.level_driver.specs.Asked.{filters_of}

@@ -3,15 +3,17 @@ use request_reader::read_request;
 use std::alloc::Global;
 use std::test::Fail;
 
-// The number of forms and of tries of each size that the request asks for.
-fn counts(alloc: Global, text: &str) -> Result<Vec<(usize, u128)>, Fail> {
+// The number of forms, of those that are listed, and of tries of each size that the request asks for.
+fn counts(alloc: Global, text: &str) -> Result<Vec<(usize, usize, u128)>, Fail> {
     let request = read_request(text.as_bytes()).ok().ok_or("refused")?;
     let mut level = first_level(alloc, &request)?;
     let mut counts = Vec::new(alloc);
-    counts.push((level.forms.len(), level.tried))?;
+    let shown = listed(alloc, &request, &level.forms)?.len();
+    counts.push((level.forms.len(), shown, level.tried))?;
     for _ in request.rank()..request.size() {
         level = grow_alone(alloc, &request, &level.forms)?;
-        counts.push((level.forms.len(), level.tried))?;
+        let shown = listed(alloc, &request, &level.forms)?.len();
+        counts.push((level.forms.len(), shown, level.tried))?;
     }
     Ok(counts)
 }
@@ -21,15 +23,27 @@ fn forms_and_tries_of_each_size(rt: HostRuntime) -> Result<(), Fail> {
     let table = [
         (
             "rank 3\nfield 2\nsize 7\n",
-            &[(1, 0), (2, 4), (1, 6), (1, 2), (1, 1)][..],
+            &[(1, 1, 0), (2, 2, 4), (1, 1, 6), (1, 1, 2), (1, 1, 1)][..],
         ),
         (
             "rank 3\nfield 2 x 3\nsize 7\n",
-            &[(1, 0), (2, 10), (1, 9), (1, 2), (0, 0)][..],
+            &[(1, 1, 0), (2, 2, 10), (1, 1, 9), (1, 1, 2), (0, 0, 0)][..],
         ),
         (
             "rank 2\nfield 4 x 4\nsize 5\n",
-            &[(1, 0), (1, 9), (2, 4), (2, 2)][..],
+            &[(1, 1, 0), (1, 1, 9), (2, 2, 4), (2, 2, 2)][..],
+        ),
+        (
+            "rank 3\nfield 2\nsize 7\nfilter 3conn\n",
+            &[(1, 0, 0), (2, 0, 4), (1, 0, 6), (1, 1, 2), (1, 1, 1)][..],
+        ),
+        (
+            "rank 3\nfield 2\nsize 7\nfilter has K4\n",
+            &[(1, 0, 0), (2, 0, 4), (1, 0, 6), (1, 1, 2), (1, 1, 1)][..],
+        ),
+        (
+            "rank 2\nfield 7\nsize 4\nfilter distinct\n",
+            &[(1, 1, 0), (1, 1, 6), (2, 1, 5)][..],
         ),
     ];
     for (text, want) in table {

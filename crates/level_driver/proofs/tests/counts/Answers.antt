@@ -1,4 +1,4 @@
-use Rattle.std.proofs.Common.{◌≤◌, ℕ, sym, subst, arith}
+use Rattle.std.proofs.Common.{◌+◌, ◌≤◌, ℕ, sym, subst, arith}
 use Rattle.level_driver.specs.Grown.{IsLevelOf}
 use Rattle.level_driver.proofs.tests.counts.Goals as goal
 
@@ -28,3 +28,14 @@ loop-preserved c = record {
         level = c.loop.invariant.level;
       };
 }
+
+pub listed-requires-in-loop : goal.listed-requires-in-loop
+listed-requires-in-loop c = (
+  c.loop.counter + 1,
+  c.in_ok-level-2.ensures.forms c.loop.counter
+      record {
+        at_least = c.loop.invariant.at_least;
+        before = (let e = c.size-end.ensures in let l = c.loop-test.true in omega arith);
+        level = c.loop.invariant.level;
+      },
+)
