@@ -74,7 +74,7 @@ fn has_rank_many(rep: &Rep, set: Mask) -> bool
     set.count_ones() as usize == rep.rank()
 }
 
-/// Whether the columns in the set are independent in one factor.
+/// Whether the columns in the set are independent in one factor. Numbers beyond the last column don't count.
 pub fn is_independent(rep: &Rep, factor: usize, set: Mask) -> bool
     requires { factor < count rep.now }
     ensures { IsTrue result ↔ IsIndependentIn rep.now factor (members set) }
@@ -84,7 +84,7 @@ pub fn is_independent(rep: &Rep, factor: usize, set: Mask) -> bool
 }
 
 /// The columns of one factor that are in the set, in their order.
-fn picked(rep: &Rep, factor: usize, set: Mask) -> ArrayVec<Column, 16>
+pub fn picked(rep: &Rep, factor: usize, set: Mask) -> ArrayVec<Column, 16>
     requires { factor < count rep.now }
     ensures picked { ArePicked rep.now factor (size rep.now) (members set) result.items }
     ensures is_rep { IsRep rep.now }

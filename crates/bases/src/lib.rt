@@ -6,7 +6,7 @@ mod basis;
 mod simple;
 
 pub use base_list::BaseList;
-pub use basis::{agree, is_basis};
+pub use basis::{agree, is_basis, is_independent, picked};
 pub use simple::is_simple;
 
 #[cfg(test)]

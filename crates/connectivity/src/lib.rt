@@ -3,7 +3,6 @@
 #![tactic(auto)]
 
 mod cosimplicity;
-mod independence;
 mod separations;
 mod side;
 

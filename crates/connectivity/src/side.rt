@@ -5,7 +5,7 @@ ghost use Rattle.matroid_theory.specs.Matroid.{members};
 ghost use Rattle.matroid_theory.specs.Connection.{IsRank};
 ghost use Rattle.connectivity.specs.Sides.{IsSide};
 
-use crate::independence::is_independent;
+use bases::is_independent;
 use field_tables::Mask;
 use product_rep::Rep;
 
@@ -35,7 +35,7 @@ impl Side {
         // The proof learns here that there are at most 16 columns.
         rep.size();
         let longer = self.basis | 1 << j;
-        let basis = if is_independent(rep, longer) {
+        let basis = if is_independent(rep, 0, longer) {
             longer
         } else {
             self.basis

@@ -9,7 +9,7 @@ ghost use Rattle.extension.specs.Admissible.{IsAdmissible};
 ghost use Rattle.extension.specs.Steps.{with_new};
 
 use crate::normalised::lead;
-use crate::picked::{is_independent_with, part};
+use crate::with_column::{is_independent_with, part};
 use field_tables::{Field, Mask};
 use product_rep::{ProductColumn, Rep};
 

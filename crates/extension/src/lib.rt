@@ -9,7 +9,7 @@ mod admissible;
 mod columns;
 pub mod laws;
 mod normalised;
-mod picked;
+mod with_column;
 
 pub use columns::Columns;
 

@@ -10,8 +10,8 @@ use Rattle.bases.specs.Picked.{ArePicked}
 use Rattle.bases.proofs.PickedColumns.{named_are_columns, named_are_independent}
 use Rattle.extension.specs.Steps.{with_new}
 use Rattle.extension.proofs.Followers.{rep_followed, new_picked}
-use Rattle.extension.proofs.picked.is_independent_with.Goals as goal
-use Rattle.extension.proofs.picked.is_independent_with.Goals.{After-as_slice}
+use Rattle.extension.proofs.with_column.is_independent_with.Goals as goal
+use Rattle.extension.proofs.with_column.is_independent_with.Goals.{After-as_slice}
 
 pub push-requires : goal.push-requires
 push-requires c =

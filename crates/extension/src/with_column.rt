@@ -2,10 +2,10 @@ ghost use Rattle.std.specs.Prelude.{◌≡◌, ◌<◌, ◌+◌, ◌*◌, ◌↔
 ghost use Rattle.matroid_theory.specs.Rep.{size, count, column_of, IsRep, IsProductColumn};
 ghost use Rattle.matroid_theory.specs.Matroid.{members, IsIndependentIn};
 ghost use Rattle.matroid_theory.specs.Level.{followed_by};
-ghost use Rattle.bases.specs.Picked.{ArePicked};
 ghost use Rattle.extension.specs.Steps.{with_new};
 
 use arrayvec::ArrayVec;
+use bases::picked;
 use elimination::independent;
 use field_tables::{Column, Mask};
 use product_rep::{ProductColumn, Rep};
@@ -20,21 +20,6 @@ pub fn is_independent_with(rep: &Rep, column: &ProductColumn, factor: usize, set
     let mut columns = picked(rep, factor, set);
     columns.push(part(rep, column, factor));
     independent(rep.factors().field(factor), columns.as_slice())
-}
-
-/// The columns of one factor that are in the set, in their order.
-fn picked(rep: &Rep, factor: usize, set: Mask) -> ArrayVec<Column, 16>
-    requires { factor < count rep.now }
-    ensures picked { ArePicked rep.now factor (size rep.now) (members set) result.items }
-    ensures is_rep { IsRep rep.now }
-{
-    let mut columns = ArrayVec::new();
-    for j in 0..rep.size() {
-        if set >> j & 1 == 1 {
-            columns.push(rep.factor_column(factor, j));
-        }
-    }
-    columns
 }
 
 /// One factor of the column.

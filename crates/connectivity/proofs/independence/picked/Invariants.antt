@@ -1,6 +1,0 @@
-use Rattle.matroid_theory.specs.Matroid.{members}
-use Rattle.bases.specs.Picked.{ArePicked}
-use Rattle.connectivity.proofs.independence.picked.Given as goal
-
-abbrev pub invariant-loop-j : goal.invariant-loop-j
-invariant-loop-j l = ArePicked l.rep 0 l.j (members l.set) l.columns.items
