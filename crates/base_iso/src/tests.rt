@@ -1,6 +1,8 @@
+ghost use Rattle.std.specs.Prelude.{◌<◌};
+
 use super::*;
 use bases::BaseList;
-use product_rep::{Factors, ProductColumn, Rep};
+use product_rep::{Factors, Move, ProductColumn, Rep, act};
 use std::alloc::Global;
 use std::test::Fail;
 
@@ -87,5 +89,42 @@ fn seven_points_over_two_fields(rt: HostRuntime) -> Result<(), Fail> {
     )?;
     assert!(rt; isomorphism(&a, &a).is_some());
     assert!(rt; isomorphism(&a, &b).is_none());
+    Ok(())
+}
+
+// The five columns in another order: column `j` of the image is column `(a * j + s) % 5`.
+fn relabelled(rep: &Rep, a: usize, s: usize) -> Option<Rep>
+    requires factor { a < 5 }
+    requires shift { s < 5 }
+{
+    if rep.size() != 5 {
+        return None;
+    }
+    let mut step = Move::identity(rep);
+    step.set_label(0, s % 5);
+    step.set_label(1, (a + s) % 5);
+    step.set_label(2, (a * 2 + s) % 5);
+    step.set_label(3, (a * 3 + s) % 5);
+    step.set_label(4, (a * 4 + s) % 5);
+    if step.valid(rep) {
+        Some(act(rep, &step))
+    } else {
+        None
+    }
+}
+
+#[test]
+fn relabelled_twenty_times(rt: HostRuntime) -> Result<(), Fail> {
+    let alloc = rt.alloc();
+    let rep = followed_by!(unit!(2, 3), [0, 1, 1], [1, 0, 1]);
+    let list = BaseList::of(alloc, &rep)?;
+    for a in 1..5 {
+        for s in 0..5 {
+            let image = relabelled(&rep, a, s).ok_or("no move")?;
+            let other = BaseList::of(alloc, &image)?;
+            let labels = isomorphism(&list, &other).ok_or("no isomorphism")?;
+            assert_eq!(rt; labels.len(), 5);
+        }
+    }
     Ok(())
 }
