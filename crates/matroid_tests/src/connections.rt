@@ -1,28 +1,15 @@
-use super::*;
 use bases::{agree, is_simple};
+use connectivity::{connected, cosimple, three_connected};
 use product_rep::{Factors, ProductColumn, Rep};
 use std::test::Fail;
-
-// The unit columns over a field, and then these columns.
-macro_rules! unit_and {
-    ($order:expr, $rank:expr $(, $codes:expr)*) => {{
-        let mut rep = Rep::unit(Factors::of(&[$order]).ok_or("no factors")?, $rank);
-        $(
-            let mut column = ProductColumn::new();
-            column.try_extend_from_slice(&$codes)?;
-            rep.push_column(&column);
-        )*
-        rep
-    }};
-}
 
 // A coloop beside a triangle, a circuit of four elements, and two triangles with a common element.
 #[test]
 fn small_binary_matroids(rt: HostRuntime) -> Result<(), Fail> {
     for (rep, want) in [
-        (unit_and!(2, 3, [0, 1, 1]), false),
-        (unit_and!(2, 3, [1, 1, 1]), true),
-        (unit_and!(2, 3, [0, 1, 1], [1, 0, 1]), true),
+        (unit_and!([2], 3, [0, 1, 1]), false),
+        (unit_and!([2], 3, [1, 1, 1]), true),
+        (unit_and!([2], 3, [0, 1, 1], [1, 0, 1]), true),
     ] {
         assert!(rt; agree(&rep));
         assert_eq!(rt; connected(&rep), want, "at {}", rep.size());
@@ -34,7 +21,7 @@ fn small_binary_matroids(rt: HostRuntime) -> Result<(), Fail> {
 
 #[test]
 fn complete_graph_on_four_vertices(rt: HostRuntime) -> Result<(), Fail> {
-    let rep = unit_and!(2, 3, [0, 1, 1], [1, 0, 1], [1, 1, 0]);
+    let rep = unit_and!([2], 3, [0, 1, 1], [1, 0, 1], [1, 1, 0]);
     assert!(rt; agree(&rep));
     assert!(rt; connected(&rep));
     assert!(rt; three_connected(&rep));
@@ -44,7 +31,7 @@ fn complete_graph_on_four_vertices(rt: HostRuntime) -> Result<(), Fail> {
 
 #[test]
 fn fano_plane(rt: HostRuntime) -> Result<(), Fail> {
-    let rep = unit_and!(2, 3, [0, 1, 1], [1, 0, 1], [1, 1, 0], [1, 1, 1]);
+    let rep = unit_and!([2], 3, [0, 1, 1], [1, 0, 1], [1, 1, 0], [1, 1, 1]);
     assert!(rt; agree(&rep));
     assert!(rt; connected(&rep));
     assert!(rt; three_connected(&rep));
@@ -55,7 +42,10 @@ fn fano_plane(rt: HostRuntime) -> Result<(), Fail> {
 // A single coloop, which has no two sides, and one beside a triangle.
 #[test]
 fn coloops(rt: HostRuntime) -> Result<(), Fail> {
-    for (rep, want) in [(unit_and!(2, 1), true), (unit_and!(2, 3, [1, 1, 0]), false)] {
+    for (rep, want) in [
+        (unit_and!([2], 1), true),
+        (unit_and!([2], 3, [1, 1, 0]), false),
+    ] {
         assert!(rt; agree(&rep));
         assert_eq!(rt; connected(&rep), want, "at {}", rep.size());
         assert_eq!(rt; three_connected(&rep), want, "at {}", rep.size());
@@ -68,7 +58,7 @@ fn coloops(rt: HostRuntime) -> Result<(), Fail> {
 // four points, which has neither parallel nor series pairs.
 #[test]
 fn two_sum_of_lines(rt: HostRuntime) -> Result<(), Fail> {
-    let rep = unit_and!(3, 3, [1, 1, 0], [1, 2, 2], [1, 2, 1]);
+    let rep = unit_and!([3], 3, [1, 1, 0], [1, 2, 2], [1, 2, 1]);
     assert!(rt; agree(&rep));
     assert!(rt; is_simple(&rep));
     assert!(rt; cosimple(&rep));

@@ -1,5 +1,5 @@
 use Rattle.std.proofs.Common.{◌+◌, ◌≤◌}
-use Rattle.extension.proofs.tests.extend_by.Given as goal
+use Rattle.matroid_tests.proofs.extensions.extend_by.Given as goal
 
 -- there are no more columns than the iterator says
 abbrev pub invariant-loop-column : goal.invariant-loop-column

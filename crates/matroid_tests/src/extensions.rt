@@ -1,8 +1,8 @@
 ghost use Rattle.std.specs.Prelude.{◌≡◌};
 ghost use Rattle.matroid_theory.specs.Rep.{IsStandard};
 
-use super::*;
 use bases::{agree, is_simple};
+use extension::Columns;
 use product_rep::{Factors, ProductColumn, Rep};
 use std::test::Fail;
 

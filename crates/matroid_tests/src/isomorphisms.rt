@@ -1,56 +1,30 @@
 ghost use Rattle.std.specs.Prelude.{◌<◌};
 
-use super::*;
+use base_iso::isomorphism;
 use bases::BaseList;
 use product_rep::{Factors, Move, ProductColumn, Rep, act};
 use std::alloc::Global;
 use std::test::Fail;
 
-// Columns over one field, each from its top row, after those of a representation.
-macro_rules! followed_by {
-    ($rep:expr $(, $codes:expr)*) => {{
-        let mut rep = $rep;
-        $(
-            let mut column = ProductColumn::new();
-            column.try_extend_from_slice(&$codes)?;
-            rep.push_column(&column);
-        )*
-        rep
-    }};
-}
-
-// The representation of this rank with no columns, and with the unit columns.
-macro_rules! empty {
-    ($order:expr, $rank:expr) => {
-        Rep::empty(Factors::of(&[$order]).ok_or("no factors")?, $rank)
-    };
-}
-
-macro_rules! unit {
-    ($order:expr, $rank:expr) => {
-        Rep::unit(Factors::of(&[$order]).ok_or("no factors")?, $rank)
-    };
-}
-
 #[test]
 fn lines_of_four_points(rt: HostRuntime) -> Result<(), Fail> {
     let alloc = rt.alloc();
-    let a = BaseList::of(alloc, &followed_by!(unit!(7, 2), [1, 1], [1, 2]))?;
-    let b = BaseList::of(alloc, &followed_by!(unit!(7, 2), [1, 1], [1, 3]))?;
+    let a = BaseList::of(alloc, &unit_and!([7], 2, [1, 1], [1, 2]))?;
+    let b = BaseList::of(alloc, &unit_and!([7], 2, [1, 1], [1, 3]))?;
     assert!(rt; isomorphism(&a, &b).is_some());
     Ok(())
 }
 
 // Three points on a line and one beside it.
 fn line_and_point(alloc: Global) -> Result<BaseList, Fail> {
-    Ok(BaseList::of(alloc, &followed_by!(unit!(2, 3), [0, 1, 1]))?)
+    Ok(BaseList::of(alloc, &unit_and!([2], 3, [0, 1, 1]))?)
 }
 
 #[test]
 fn no_three_points_on_a_line(rt: HostRuntime) -> Result<(), Fail> {
     let alloc = rt.alloc();
     let a = line_and_point(alloc)?;
-    let b = BaseList::of(alloc, &followed_by!(unit!(2, 3), [1, 1, 1]))?;
+    let b = BaseList::of(alloc, &unit_and!([2], 3, [1, 1, 1]))?;
     assert!(rt; isomorphism(&a, &b).is_none());
     assert!(rt; isomorphism(&b, &a).is_none());
     Ok(())
@@ -63,7 +37,13 @@ fn points_in_another_order(rt: HostRuntime) -> Result<(), Fail> {
     let a = line_and_point(alloc)?;
     let b = BaseList::of(
         alloc,
-        &followed_by!(empty!(2, 3), [0, 1, 1], [0, 0, 1], [0, 1, 0], [1, 0, 0]),
+        &followed_by!(
+            Rep::empty(Factors::of(&[2]).ok_or("no factors")?, 3),
+            [0, 1, 1],
+            [0, 0, 1],
+            [0, 1, 0],
+            [1, 0, 0]
+        ),
     )?;
     let labels = isomorphism(&a, &b).ok_or("no isomorphism")?;
     assert_eq!(rt; labels.as_slice().first(), Some(&3));
@@ -74,7 +54,7 @@ fn points_in_another_order(rt: HostRuntime) -> Result<(), Fail> {
 fn fano(alloc: Global) -> Result<BaseList, Fail> {
     Ok(BaseList::of(
         alloc,
-        &followed_by!(unit!(2, 3), [1, 1, 0], [1, 0, 1], [0, 1, 1], [1, 1, 1]),
+        &unit_and!([2], 3, [1, 1, 0], [1, 0, 1], [0, 1, 1], [1, 1, 1]),
     )?)
 }
 
@@ -85,7 +65,7 @@ fn seven_points_over_two_fields(rt: HostRuntime) -> Result<(), Fail> {
     let a = fano(alloc)?;
     let b = BaseList::of(
         alloc,
-        &followed_by!(unit!(3, 3), [1, 1, 0], [1, 0, 1], [0, 1, 1], [1, 1, 1]),
+        &unit_and!([3], 3, [1, 1, 0], [1, 0, 1], [0, 1, 1], [1, 1, 1]),
     )?;
     assert!(rt; isomorphism(&a, &a).is_some());
     assert!(rt; isomorphism(&a, &b).is_none());
@@ -116,7 +96,7 @@ fn relabelled(rep: &Rep, a: usize, s: usize) -> Option<Rep>
 #[test]
 fn relabelled_twenty_times(rt: HostRuntime) -> Result<(), Fail> {
     let alloc = rt.alloc();
-    let rep = followed_by!(unit!(2, 3), [0, 1, 1], [1, 0, 1]);
+    let rep = unit_and!([2], 3, [0, 1, 1], [1, 0, 1]);
     let list = BaseList::of(alloc, &rep)?;
     for a in 1..5 {
         for s in 0..5 {

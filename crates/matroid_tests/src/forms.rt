@@ -1,23 +1,10 @@
 ghost use Rattle.std.specs.Prelude.{◌≡◌, ◌<◌, [], ◌∷◌, IfSome};
 ghost use Rattle.matroid_theory.specs.Rep.{shape};
 
-use super::*;
 use bases::agree;
+use canonical_form::least_form;
 use product_rep::{Factors, Move, ProductColumn, Rep, act};
 use std::test::Fail;
-
-// The unit columns over these fields, and then these columns, each row by row and factor by factor within a row.
-macro_rules! unit_and {
-    ($orders:expr, $rank:expr $(, $codes:expr)*) => {{
-        let mut rep = Rep::unit(Factors::of(&$orders).ok_or("no factors")?, $rank);
-        $(
-            let mut column = ProductColumn::new();
-            column.try_extend_from_slice(&$codes)?;
-            rep.push_column(&column);
-        )*
-        rep
-    }};
-}
 
 /// The form, where the factors agree.
 fn form_of(rep: &Rep) -> Option<Rep> {

@@ -1,4 +1,4 @@
-use super::*;
+use named_matroids::{NameFault, named};
 use std::test::Fail;
 
 fn is(text: &[u8], rank: usize, size: usize, bases: usize) -> bool {
