@@ -4,9 +4,10 @@ ghost use Rattle.matroid_theory.specs.Matrix.{combination};
 ghost use Rattle.elimination.specs.Columns.{column, matrix_of, AreColumns, AreIndependent, IsColumn};
 ghost use Rattle.elimination.specs.Equations.{sum_of_products, IsEquation, AreTriangle, Meets};
 
-use crate::clear::{clear, clear_all, copied, copies, pivot};
+use crate::clear::{clear, clear_all, copies, pivot};
 use arrayvec::ArrayVec;
 use field_tables::{Column, Field};
+use small_lists::list_of;
 
 /// The coefficients whose combination of the columns of `basis` is `column`.
 ///
@@ -22,7 +23,7 @@ pub fn solve(field: Field, basis: &[Column], column: &Column) -> Column
     ensures only { (a : ℕ → ℕ) → ((j : ℕ) → j < length basis.now → a j < field) → ((i : ℕ) → i < length column.now.items → combination field (length basis.now) (matrix_of basis.now) a i ≡ slice_index column.now.items i) → (j : ℕ) → j < length basis.now → a j ≡ slice_index result.items j }
 {
     field.laws();
-    let mut target = copied(column);
+    let mut target: Column = list_of(column.as_slice());
     let mut rest = copies(basis);
     let mut equations: ArrayVec<Column, 6> = ArrayVec::new();
     let mut sides = ArrayVec::new();
