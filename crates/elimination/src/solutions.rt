@@ -81,23 +81,7 @@ fn value(field: Field, equation: &Column, side: u8, values: &Column) -> u8
     ensures only { (a : ℕ → ℕ) → ((j : ℕ) → j < length values.now.items → a j ≡ slice_index values.now.items j) → a (length values.now.items) < field → sum_of_products field (suc (length values.now.items)) equation.now.items a ≡ side → a (length values.now.items) ≡ result }
 {
     field.laws();
-    let known = sum_of_products(field, equation, values);
+    let known = field.sum_of_products(equation.as_slice(), values.as_slice());
     let rest = field.add(side, field.neg(known));
     field.mul(rest, field.inv(equation[values.len()]))
-}
-
-/// The sum of the first coefficients times the values.
-fn sum_of_products(field: Field, coefficients: &Column, values: &Column) -> u8
-    requires count { length values.now.items ≤ length coefficients.now.items }
-    requires coefficients { (j : ℕ) → j < length coefficients.now.items → slice_index coefficients.now.items j < field }
-    requires values { (j : ℕ) → j < length values.now.items → slice_index values.now.items j < field }
-    ensures sum { result ≡ sum_of_products field (length values.now.items) coefficients.now.items (slice_index values.now.items) }
-    ensures code { result < field }
-{
-    field.laws();
-    let mut sum = 0;
-    for j in 0..values.len() {
-        sum = field.add(sum, field.mul(coefficients[j], values[j]));
-    }
-    sum
 }
