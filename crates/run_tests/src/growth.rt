@@ -1,4 +1,5 @@
-use super::*;
+// Levels, one grown from the other.
+use level_driver::{first_level, grow_alone, listed, passes};
 use request_reader::read_request;
 use std::alloc::Global;
 use std::test::Fail;

@@ -1,4 +1,7 @@
-use super::*;
+// Sources and sinks.
+use outside::{
+    Failed, MemorySink, MemorySource, ReadFrom, Sink, Source, SureSink, SureSource, TakeFault, WriteTo, put, take,
+};
 use std::alloc::Global;
 use std::io;
 use std::io::{ErrorKind, Read, Write};

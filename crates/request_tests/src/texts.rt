@@ -1,8 +1,9 @@
+// The texts of a listing, and those of the statuses.
 ghost use Rattle.std.specs.Prelude.{◌≡◌, IfOk};
 
-use super::*;
 use arrayvec::CapacityError;
-use formats::{Refusal, Word};
+use formats::{Refusal, Status, Word};
+use lister::{end_text, form_text, head_text, level_text, refusal_text};
 use product_rep::{Factors, ProductColumn, Rep};
 use request_reader::read_request;
 use std::test::Fail;

@@ -1,6 +1,6 @@
 use Rattle.std.proofs.Common.{◌≤◌}
 use Rattle.level_driver.specs.Grown.{IsLevelOf}
-use Rattle.level_driver.proofs.tests.counts.Given as goal
+use Rattle.run_tests.proofs.growth.counts.Given as goal
 
 -- the level of this size
 abbrev pub invariant-loop : goal.invariant-loop

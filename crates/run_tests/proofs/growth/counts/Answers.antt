@@ -1,6 +1,6 @@
 use Rattle.std.proofs.Common.{◌+◌, ◌≤◌, ℕ, sym, subst, arith}
 use Rattle.level_driver.specs.Grown.{IsLevelOf}
-use Rattle.level_driver.proofs.tests.counts.Goals as goal
+use Rattle.run_tests.proofs.growth.counts.Goals as goal
 
 pub loop-init : goal.loop-init
 loop-init c = record {
