@@ -5,3 +5,5 @@ pub mod RisingLists
 pub mod Shaped
 pub mod Moves
 pub mod Forms
+pub mod Bases
+pub mod Levels
