@@ -7,7 +7,7 @@ use Rattle.std.proofs.lemmas.List.FromFn.{length-map-range_with_len, get_or-map-
 use Rattle.arrayvec.specs.ArrayVec.{ArrayVec}
 use Rattle.matroid_theory.specs.Field.{IsField}
 use Rattle.matroid_theory.specs.Matrix.{Matrix, size_below, IsIndependent}
-use Rattle.matroid_theory.specs.Rep.{Rep, size, count, order, matrix, column_of, IsRep}
+use Rattle.matroid_theory.specs.Rep.{Rep, size, count, order, matrix, column_of, KeepsLimits}
 use Rattle.matroid_theory.specs.Matroid.{IsIndependentIn}
 use Rattle.matroid_theory.proofs.Bases.{pick, pick_picks}
 use Rattle.matroid_theory.proofs.FieldLaws.{field_laws}
@@ -49,7 +49,7 @@ rows_same q r s n A S h d = elim h [
   | inr e ↦ subst (λ (x : ℕ). IsIndependent q x n A S) e d
 ]
 
-module _ (M : Rep) (h : IsRep M) (f : ℕ) (l : f < count M) (S : ℕ → Bool) (w : List (ArrayVec ℕ)) (p : ArePicked M f (size M) S w) where
+module _ (M : Rep) (h : KeepsLimits M) (f : ℕ) (l : f < count M) (S : ℕ → Bool) (w : List (ArrayVec ℕ)) (p : ArePicked M f (size M) S w) where
   laws : IsField (order M f)
   laws = field_laws (order M f) (h.shaped.orders f l)
 

@@ -1,6 +1,6 @@
 ghost use Rattle.std.specs.Prelude.{◌≡◌, ◌<◌, ◌^◌, ◌↔◌, ℕ, Bool, IsTrue};
 ghost use Rattle.matroid_theory.specs.Matrix.{size_below};
-ghost use Rattle.matroid_theory.specs.Rep.{size, count, IsRep};
+ghost use Rattle.matroid_theory.specs.Rep.{size, count, KeepsLimits};
 ghost use Rattle.matroid_theory.specs.Matroid.{members, IsIndependentIn, IsBasis, Agrees};
 ghost use Rattle.bases.specs.Picked.{ArePicked};
 
@@ -87,7 +87,7 @@ pub fn is_independent(rep: &Rep, factor: usize, set: Mask) -> bool
 pub fn picked(rep: &Rep, factor: usize, set: Mask) -> ArrayVec<Column, 16>
     requires { factor < count rep.now }
     ensures picked { ArePicked rep.now factor (size rep.now) (members set) result.items }
-    ensures is_rep { IsRep rep.now }
+    ensures is_rep { KeepsLimits rep.now }
 {
     let mut columns = ArrayVec::new();
     for j in 0..rep.size() {

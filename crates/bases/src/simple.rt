@@ -1,5 +1,5 @@
 ghost use Rattle.std.specs.Prelude.{◌≡◌, ◌<◌, ◌≤◌, ◌↔◌, ◌==◌, ◌||◌, ℕ, IsTrue};
-ghost use Rattle.matroid_theory.specs.Rep.{size, count, IsRep};
+ghost use Rattle.matroid_theory.specs.Rep.{size, count, KeepsLimits};
 ghost use Rattle.matroid_theory.specs.Matroid.{IsIndependentIn, IsSimple};
 
 use crate::basis::is_independent;
@@ -34,7 +34,7 @@ fn is_simple_in(rep: &Rep, factor: usize) -> bool
 fn is_apart_from_earlier(rep: &Rep, factor: usize, j: usize) -> bool
     requires factor { factor < count rep.now }
     requires column { j < size rep.now }
-    requires is_rep { IsRep rep.now }
+    requires is_rep { KeepsLimits rep.now }
     ensures { IsTrue result ↔ ((i : ℕ) → i ≤ j → IsIndependentIn rep.now factor (λ k. (k == i) || (k == j))) }
 {
     for i in 0..=j {

@@ -12,7 +12,7 @@ use Rattle.std.proofs.lemmas.List.Kept.{AllPairs-from_increasing}
 use Rattle.std.proofs.lemmas.Nat.{mul-add-lt, div-mul-add, mod-mul-add}
 use Rattle.matroid_theory.specs.Field.{IsField, times, inverse, raised}
 use Rattle.matroid_theory.specs.Matrix.{combination}
-use Rattle.matroid_theory.specs.Rep.{Rep, shape, count, size, order, matrix, IsRep, IsShaped}
+use Rattle.matroid_theory.specs.Rep.{Rep, shape, count, size, order, matrix, KeepsLimits, IsShaped}
 use Rattle.matroid_theory.specs.declared.Mode.TheVariants.{Linear}
 use Rattle.matroid_theory.specs.Move.{Move, IsMove, TakesTo}
 use Rattle.matroid_theory.proofs.FieldLaws.{field_laws}
@@ -41,7 +41,7 @@ module _ (q : ℕ) (F : IsField q) where
       ∙ ap (times q (inverse q s)) (times_undone q F z (times q (times q s d) x) k p (F.times_below (times q s d) x) ∙ F.times_assoc s d x)
       ∙ times_undone q F s (times q d x) m o (F.times_below d x))
 
-module _ (M : Rep) (basis scalars : List ℕ) (rep : IsRep M) (b : IsOrderedBasis M basis) (m : Move) (N : Rep) (reach : Reaches M m N)
+module _ (M : Rep) (basis scalars : List ℕ) (rep : KeepsLimits M) (b : IsOrderedBasis M basis) (m : Move) (N : Rep) (reach : Reaches M m N)
     (begins : BeginsWith basis m) (long : length scalars ≡ M.rank * count M) (has : HasScalars M scalars m) where
   shaped : IsShaped M
   shaped = rep.shaped
@@ -253,7 +253,7 @@ module _ (M : Rep) (basis scalars : List ℕ) (rep : IsRep M) (b : IsOrderedBasi
     rows_least : columns_cmp columns (later N) ≢ Greater
     rows_least = sorted_least (slice_cmp nat_cmp) nat_list_cmp_total [] columns (later N) (λ t. pi (at t)) (subst (λ n. length columns ≤ n) (sym later_length) most) h.rising matched
 
-pub candidate_least : (M : Rep) (basis scalars : List ℕ) (columns : List (List ℕ)) → IsRep M → IsOrderedBasis M basis → AreScalars M scalars → IsCandidate M basis scalars columns
+pub candidate_least : (M : Rep) (basis scalars : List ℕ) (columns : List (List ℕ)) → KeepsLimits M → IsOrderedBasis M basis → AreScalars M scalars → IsCandidate M basis scalars columns
     → (m : Move) (N : Rep) → Reaches M m N → BeginsWith basis m → length scalars ≡ M.rank * count M → HasScalars M scalars m
     → columns_cmp columns (later N) ≢ Greater
 candidate_least M basis scalars columns rep b _ h m N reach begins long has =

@@ -12,7 +12,7 @@ use Rattle.std.proofs.lemmas.List.Sorted.{IsPermutation-keeps}
 use Rattle.matroid_theory.specs.declared.Mode.TheVariants.{Linear}
 use Rattle.matroid_theory.specs.Field.{plus, times, negative, inverse, raised, IsField}
 use Rattle.matroid_theory.specs.Matrix.{Matrix, combination, unit, IsIndependent}
-use Rattle.matroid_theory.specs.Rep.{Rep, shape, count, size, order, matrix, IsStandard, IsRep}
+use Rattle.matroid_theory.specs.Rep.{Rep, shape, count, size, order, matrix, IsStandard, KeepsLimits}
 use Rattle.matroid_theory.specs.Move.{Move, ArePermutation, IsMove, TakesTo}
 use Rattle.matroid_theory.proofs.FieldLaws.{field_laws}
 use Rattle.matroid_theory.proofs.Sums.{plus_zero_right, sum_same, sum_one, sum_plus, sum_relabelled, times_zero, same_number, other_number, combination-scaled}
@@ -256,7 +256,7 @@ made_exchanged M basis scalars columns i j l m w = record {
 
 -- ---- such columns are of the class
 
-module _ (M : Rep) (basis scalars : List ℕ) (columns : List (List ℕ)) (h : IsRep M) (b : IsOrderedBasis M basis) (g : AreScalars M scalars) (w : AreMade M basis scalars columns) where
+module _ (M : Rep) (basis scalars : List ℕ) (columns : List (List ℕ)) (h : KeepsLimits M) (b : IsOrderedBasis M basis) (g : AreScalars M scalars) (w : AreMade M basis scalars columns) where
   room : M.rank ≤ size M
   room = let e = w.number in omega arith
 
@@ -374,7 +374,7 @@ module _ (M : Rep) (basis scalars : List ℕ) (columns : List (List ℕ)) (h : I
 
 -- ---- the other columns in rising order, after the basis
 
-module _ (M : Rep) (basis others : List ℕ) (h : IsRep M) (b : IsOrderedBasis M basis) (o : AreOthers M basis others) where
+module _ (M : Rep) (basis others : List ℕ) (h : KeepsLimits M) (b : IsOrderedBasis M basis) (o : AreOthers M basis others) where
   other : (k : ℕ) → k < length others → (slice_index others k < size M) × (Contains basis (slice_index others k) → ⊥)
   other k l = (o.exact (slice_index others k)).0 (Contains-get_or others k 0 l)
 
@@ -439,7 +439,7 @@ module _ (M : Rep) (basis others : List ℕ) (h : IsRep M) (b : IsOrderedBasis M
         (sym (ap (λ (x : ℕ). slice_index (basis ++ others) (x + t)) (sym b.full) ∙ get_or-append-add basis others t 0)) refl (each t l);
   }
 
-pub candidate_made : (M : Rep) (basis scalars : List ℕ) (columns : List (List ℕ)) → IsRep M → IsOrderedBasis M basis → AreScalars M scalars → IsCandidate M basis scalars columns → AreOfClass M columns
+pub candidate_made : (M : Rep) (basis scalars : List ℕ) (columns : List (List ℕ)) → KeepsLimits M → IsOrderedBasis M basis → AreScalars M scalars → IsCandidate M basis scalars columns → AreOfClass M columns
 candidate_made M basis scalars columns h b g c =
     of_class M basis scalars columns h b g (IsPermutation-keeps c.scaled (AreMade M basis scalars) in_order (made_exchanged M basis scalars) columns c.permuted)
   where

@@ -5,7 +5,7 @@ use Rattle.std.proofs.lemmas.List.{get_or-map, length-map}
 use Rattle.arrayvec.specs.ArrayVec.{ArrayVec}
 use Rattle.matroid_theory.specs.Field.{times, IsField}
 use Rattle.matroid_theory.specs.Matrix.{combination, IsIndependent}
-use Rattle.matroid_theory.specs.Rep.{Rep, count, order, size, matrix, column_of, IsRep}
+use Rattle.matroid_theory.specs.Rep.{Rep, count, order, size, matrix, column_of, KeepsLimits}
 use Rattle.matroid_theory.proofs.FieldLaws.{field_laws}
 use Rattle.matroid_theory.proofs.Ranks.{IsIndependent-codes}
 use Rattle.matroid_theory.proofs.Sums.{sum_same, combination-same}
@@ -16,14 +16,14 @@ use Rattle.canonical_form.specs.Found.{lists}
 
 -- the columns of one factor that are picked out
 pub record ArePicks (M : Rep) (f : ℕ) (columns : List ℕ) (w : List (ArrayVec ℕ)) : Type 0 where
-  pub is_rep : IsRep M
+  pub is_rep : KeepsLimits M
   pub factor : f < count M
   pub below : (l : ℕ) → l < length columns → slice_index columns l < size M
   pub numbers : length w ≡ length columns
   pub codes : (l : ℕ) → l < length columns → column w l ≡ column_of M f (slice_index columns l)
 
 -- a column of the factor
-pub factor_column_is : (M : Rep) (f k q : ℕ) (x : List ℕ) → IsRep M → f < count M → k < size M → q ≡ order M f → x ≡ column_of M f k → IsColumn q (length x) x
+pub factor_column_is : (M : Rep) (f k q : ℕ) (x : List ℕ) → KeepsLimits M → f < count M → k < size M → q ≡ order M f → x ≡ column_of M f k → IsColumn q (length x) x
 factor_column_is M f k q x h l m e d = record {
   rows = λ _. length x;
   below = λ i n. column_codes M f k i q x h d e l (subst (λ (r : ℕ). i < r) (column-length M f k x d) n) m;
@@ -80,7 +80,7 @@ module _ (M : Rep) (f : ℕ) (columns : List ℕ) (w : List (ArrayVec ℕ)) (p :
       ∙ column-entry M f k i y c l
 
 -- the coordinates in the factors, row by row and factor by factor
-pub coordinates_are : (M : Rep) (basis : List ℕ) (k : ℕ) (bs : List (ArrayVec ℕ)) (v : List ℕ) → IsRep M
+pub coordinates_are : (M : Rep) (basis : List ℕ) (k : ℕ) (bs : List (ArrayVec ℕ)) (v : List ℕ) → KeepsLimits M
     → ((f : ℕ) → f < count M → IsColumn (order M f) M.rank (column bs f))
     → ((f : ℕ) → f < count M → (i : ℕ) → i < M.rank → combination (order M f) M.rank (chosen M basis f) (slice_index (column bs f)) i ≡ matrix M f i k)
     → length v ≡ M.rank * count M → ((i f : ℕ) → i < M.rank → f < count M → slice_index v (i * count M + f) ≡ slice_index (column bs f) i) → AreCoordinates M basis k v

@@ -6,7 +6,7 @@ use Rattle.std.proofs.lemmas.Bool.{cases_lt}
 use Rattle.std.proofs.lemmas.Nat.{mod-mul-add}
 use Rattle.std.proofs.Math.Nat.{mod-lt, div-lt_iff_lt-mul, div-eq_of_lt, mul-le-mul}
 use Rattle.matroid_theory.specs.Field.{IsField}
-use Rattle.matroid_theory.specs.Rep.{Rep, Shape, count, order, size, IsRep}
+use Rattle.matroid_theory.specs.Rep.{Rep, Shape, count, order, size, KeepsLimits}
 use Rattle.matroid_theory.specs.Move.{Move}
 use Rattle.matroid_theory.proofs.FieldLaws.{field_laws}
 use Rattle.product_rep.proofs.PiecesLemmas.{place_below}
@@ -49,7 +49,7 @@ pub at_most_trans : (found : Option (List (List ℕ))) (x y : List (List ℕ)) �
 at_most_trans None x y h n = h
 at_most_trans (Some z) x y h n = not_above_trans z x y h n
 
-module _ (M : Rep) (r : IsRep M) where
+module _ (M : Rep) (r : KeepsLimits M) where
   some : 0 < count M
   some = let f = r.fields in f.some
 

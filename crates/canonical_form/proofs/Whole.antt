@@ -13,7 +13,7 @@ use Rattle.std.proofs.Math.Nat.{mod-lt}
 use Rattle.matroid_theory.specs.declared.Mode.TheVariants.{Linear}
 use Rattle.matroid_theory.specs.Field.{plus, times, inverse, IsField}
 use Rattle.matroid_theory.specs.Matrix.{Matrix, sum_below, combination}
-use Rattle.matroid_theory.specs.Rep.{Rep, shape, count, size, order, matrix, IsShaped, IsStandard, IsRep}
+use Rattle.matroid_theory.specs.Rep.{Rep, shape, count, size, order, matrix, IsShaped, IsStandard, KeepsLimits}
 use Rattle.matroid_theory.specs.Matroid.{Agrees}
 use Rattle.matroid_theory.specs.Move.{Move, AreEquivalent}
 use Rattle.matroid_theory.specs.Order.{rep_cmp, IsForm}
@@ -77,12 +77,12 @@ module _ (q : ℕ) (F : IsField q) (r : ℕ) where
 -- ---- what is reached
 
 -- something is reached where the factors agree
-pub reached : (M : Rep) → IsRep M → Agrees M → (m : Move) × (N : Rep) × Reaches M m N
+pub reached : (M : Rep) → KeepsLimits M → Agrees M → (m : Move) × (N : Rep) × Reaches M m N
 reached M h a =
     let (N, standard, e) = standard_exists Linear M h.shaped (let F = h.fields in F.some) a in
     (e.move, N, record { valid = e.valid; takes = e.takes; standard = standard })
 
-module _ (M : Rep) (m : Move) (N : Rep) (h : IsRep M) (w : Reaches M m N) where
+module _ (M : Rep) (m : Move) (N : Rep) (h : KeepsLimits M) (w : Reaches M m N) where
   room : M.rank ≤ size M
   room = subst (λ s. s.rank ≤ s.size) w.takes.same_shape w.standard.room
 
@@ -115,17 +115,17 @@ module _ (M : Rep) (m : Move) (N : Rep) (h : IsRep M) (w : Reaches M m N) where
         (let b = standard_basis Linear M N m h.shaped w.standard w.valid w.takes f l in b.independent)
 
 -- a row scalar is a code other than 0, and that of row 0 is 1
-pub row_scalar_code : (M : Rep) (m : Move) (N : Rep) (f i : ℕ) → IsRep M → Reaches M m N → f < count M → i < M.rank → row_scalar M m f i < order M f
+pub row_scalar_code : (M : Rep) (m : Move) (N : Rep) (f i : ℕ) → KeepsLimits M → Reaches M m N → f < count M → i < M.rank → row_scalar M m f i < order M f
 row_scalar_code M m N f i h w l n = code_of_row M m N h w f l i n
 
-pub row_scalar_nonzero : (M : Rep) (m : Move) (N : Rep) (f i : ℕ) → IsRep M → Reaches M m N → f < count M → i < M.rank → row_scalar M m f i ≢ 0
+pub row_scalar_nonzero : (M : Rep) (m : Move) (N : Rep) (f i : ℕ) → KeepsLimits M → Reaches M m N → f < count M → i < M.rank → row_scalar M m f i ≢ 0
 row_scalar_nonzero M m N f i h w l n = nonzero_of_row M m N h w f l i n
 
-pub row_scalar_first : (M : Rep) (m : Move) (N : Rep) (f : ℕ) → IsRep M → Reaches M m N → f < count M → row_scalar M m f 0 ≡ 1
+pub row_scalar_first : (M : Rep) (m : Move) (N : Rep) (f : ℕ) → KeepsLimits M → Reaches M m N → f < count M → row_scalar M m f 0 ≡ 1
 row_scalar_first M m N f h w l = one_of_first M m N h w f l
 
 -- what begins with these columns has them independent
-pub begins_independent : (M : Rep) (columns : List ℕ) (m : Move) (N : Rep) → IsRep M → length columns ≤ M.rank → Reaches M m N → BeginsWith columns m → AreIndependentColumns M columns
+pub begins_independent : (M : Rep) (columns : List ℕ) (m : Move) (N : Rep) → KeepsLimits M → length columns ≤ M.rank → Reaches M m N → BeginsWith columns m → AreIndependentColumns M columns
 begins_independent M columns m N h le w b = record {
   below = λ l n. subst (λ (x : ℕ). x < size M) (b l n) (w.valid.labels.below l (row_inside M m N h w l (omega arith)));
   independent = λ f l.
@@ -192,7 +192,7 @@ same_later N P p s t s' t' e d =
     ∙ take-append-drop N.rank N.columns)
 
 -- a member of the class whose later columns are not above those of any standard member is its form
-pub class_form : (M N : Rep) (columns : List (List ℕ)) → IsRep M → IsShaped N → shape N ≡ shape M → IsStandard N → later N ≡ columns → AreOfClass M columns
+pub class_form : (M N : Rep) (columns : List (List ℕ)) → KeepsLimits M → IsShaped N → shape N ≡ shape M → IsStandard N → later N ≡ columns → AreOfClass M columns
     → ((m : Move) (L : Rep) → Reaches M m L → columns_cmp columns (later L) ≢ Greater)
     → IsForm Linear N × AreEquivalent Linear M N
 class_form M N columns h s e t d c least = (

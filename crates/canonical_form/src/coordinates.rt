@@ -2,7 +2,7 @@
 ghost use Rattle.std.specs.Prelude.{◌≡◌, ◌<◌, ◌≤◌, ◌+◌, ◌*◌, ◌↔◌, ℕ, IsTrue, true, length, slice_index};
 ghost use Rattle.elimination.specs.Columns.{column, IsColumn};
 ghost use Rattle.matroid_theory.specs.Matrix.{combination, IsIndependent};
-ghost use Rattle.matroid_theory.specs.Rep.{column_of, count, matrix, order, size, IsRep};
+ghost use Rattle.matroid_theory.specs.Rep.{column_of, count, matrix, order, size, KeepsLimits};
 ghost use Rattle.canonical_form.specs.Search.{chosen, AreCoordinates, AreIndependentColumns, AreOtherCoordinates, IsOrderedBasis};
 
 use crate::columns::Columns;
@@ -45,7 +45,7 @@ fn picked(rep: &Rep, factor: usize, columns: &[u8]) -> ArrayVec<Column, 6>
     requires below { (l : ℕ) → l < length columns.now → slice_index columns.now l < size rep.now }
     ensures count { length result.items ≡ length columns.now }
     ensures columns { (l : ℕ) → l < length columns.now → column result.items l ≡ column_of rep.now factor (slice_index columns.now l) }
-    ensures is_rep { IsRep rep.now }
+    ensures is_rep { KeepsLimits rep.now }
 {
     // The proof learns here that this is a representation.
     rep.size();
@@ -72,7 +72,7 @@ pub fn other_coordinates(rep: &Rep, basis: &[u8]) -> Columns
 
 /// The coordinates of column `k` in the ordered basis, in every factor.
 fn coordinates(rep: &Rep, basis: &[u8], k: usize) -> ProductColumn
-    requires is_rep { IsRep rep.now }
+    requires is_rep { KeepsLimits rep.now }
     requires basis { IsOrderedBasis rep.now basis.now }
     requires column { k < size rep.now }
     ensures { AreCoordinates rep.now basis.now k result.items }
@@ -86,7 +86,7 @@ fn coordinates(rep: &Rep, basis: &[u8], k: usize) -> ProductColumn
 
 /// The coordinates of column `k` in the ordered basis, in the factor.
 fn coordinates_in(rep: &Rep, factor: usize, basis: &[u8], k: usize) -> Column
-    requires is_rep { IsRep rep.now }
+    requires is_rep { KeepsLimits rep.now }
     requires factor { factor < count rep.now }
     requires basis { IsOrderedBasis rep.now basis.now }
     requires column { k < size rep.now }

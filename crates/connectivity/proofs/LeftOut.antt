@@ -5,7 +5,7 @@ use Rattle.std.proofs.lemmas.Bool.{cases_lt, cases_Bool}
 use mathlib.Core.Bool.{true≢false}
 use Rattle.matroid_theory.specs.Field.{IsField}
 use Rattle.matroid_theory.specs.Matrix.{size_below}
-use Rattle.matroid_theory.specs.Rep.{Rep, size, order, matrix, IsRep}
+use Rattle.matroid_theory.specs.Rep.{Rep, size, order, matrix, KeepsLimits}
 use Rattle.matroid_theory.specs.Matroid.{members}
 use Rattle.matroid_theory.specs.Connection.{IsRank}
 use Rattle.matroid_theory.proofs.Bases.{with_element, with_own, with_other, set_bound, size_none}
@@ -71,7 +71,7 @@ pub record AreLacking (M : Rep) (i j n set basis : ℕ) : Type 0 where
   pub lacking : ¬ (IsRank M (members set) M.rank)
 
 -- a set with a part of full rank has full rank
-pub full_rank : (M : Rep) → IsRep M → (S T : ℕ → Bool) → ((j : ℕ) → S j ≡ true → T j ≡ true) → IsRank M S M.rank → IsRank M T M.rank
+pub full_rank : (M : Rep) → KeepsLimits M → (S T : ℕ → Bool) → ((j : ℕ) → S j ≡ true → T j ≡ true) → IsRank M S M.rank → IsRank M T M.rank
 full_rank M r S T up s =
     let F : IsField (order M 0) = field_laws (order M 0) (r.shaped.orders 0 r.fields.some) in
     record {
@@ -83,7 +83,7 @@ full_rank M r S T up s =
     }
 
 -- the empty set hasn't
-pub none_lack : (M : Rep) → IsRep M → (S : ℕ → Bool) → ((k : ℕ) → S k ≡ false) → ¬ (IsRank M S M.rank)
+pub none_lack : (M : Rep) → KeepsLimits M → (S : ℕ → Bool) → ((k : ℕ) → S k ≡ false) → ¬ (IsRank M S M.rank)
 none_lack M r S h s =
     let (I, p) = s.reached in
     let outside : (j : ℕ) → j < size M → I j ≡ false = λ j l. elim (cases_Bool (I j)) [ inl t ↦ absurd (true≢false (sym (p.within j l t) ∙ h j)) | inr f ↦ f ] in

@@ -10,7 +10,7 @@ use Rattle.std.proofs.Math.Pow.{pow-lt}
 use mathlib.Core.Bool.{true≢false}
 use Rattle.matroid_theory.specs.Field.{IsField}
 use Rattle.matroid_theory.specs.Matrix.{IsIndependentPart}
-use Rattle.matroid_theory.specs.Rep.{Rep, size, order, matrix, IsRep}
+use Rattle.matroid_theory.specs.Rep.{Rep, size, order, matrix, KeepsLimits}
 use Rattle.matroid_theory.specs.Matroid.{members, IsIndependentIn}
 use Rattle.matroid_theory.specs.Connection.{IsRank}
 use Rattle.matroid_theory.proofs.Bases.{with_element, with_own, with_other, smaller_independent, rank_exists, greatest_part}
@@ -88,7 +88,7 @@ module _ (M : Rep) (set basis j : ℕ) (l : j < size M) (m : size M ≤ 16) (h :
   }
 
 -- the rank is the number of columns in the basis
-pub side_rank : (M : Rep) → IsRep M → (set basis : ℕ) → IsSide M set basis → IsRank M (members set) (count_ones basis)
+pub side_rank : (M : Rep) → KeepsLimits M → (set basis : ℕ) → IsSide M set basis → IsRank M (members set) (count_ones basis)
 side_rank M r set basis h =
     let F : IsField (order M 0) = field_laws (order M 0) (r.shaped.orders 0 r.fields.some) in
     let codes : (i j : ℕ) → i < M.rank → j < size M → matrix M 0 i j < order M 0 = λ i j l m. r.shaped.codes 0 i j r.fields.some l m in

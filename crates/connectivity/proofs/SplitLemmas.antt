@@ -3,7 +3,7 @@ use Rattle.std.proofs.Common.{◌≡◌, ◌≢◌, ℕ, ◌+◌, ◌<◌, ◌�
 use Rattle.std.proofs.lemmas.Bool.{cases_lt}
 use mathlib.Core.Bool.{true≢false}
 use Rattle.matroid_theory.specs.Matrix.{size_below}
-use Rattle.matroid_theory.specs.Rep.{Rep, size, IsRep}
+use Rattle.matroid_theory.specs.Rep.{Rep, size, KeepsLimits}
 use Rattle.matroid_theory.specs.Matroid.{Agrees}
 use Rattle.matroid_theory.specs.Connection.{IsRank, IsSeparation}
 use Rattle.matroid_theory.proofs.Bases.{with_element, with_own, with_other, size_most}
@@ -87,7 +87,7 @@ without_next n X F t f same j l = elim (cases_lt j n) [
 ]
 
 -- where the factors agree there is a column
-pub some_column : (M : Rep) → IsRep M → Agrees M → 0 < size M
+pub some_column : (M : Rep) → KeepsLimits M → Agrees M → 0 < size M
 some_column M r a = elim (cases_lt 0 (size M)) [
   | inl b ↦ b
   | inr g ↦ (let (S, b) = a.some 0 r.fields.some in

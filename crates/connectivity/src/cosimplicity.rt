@@ -1,5 +1,5 @@
 ghost use Rattle.std.specs.Prelude.{◌<◌, ◌≤◌, ◌↔◌, ◌==◌, ◌||◌, not, ℕ, IsTrue};
-ghost use Rattle.matroid_theory.specs.Rep.{size, IsRep};
+ghost use Rattle.matroid_theory.specs.Rep.{size, KeepsLimits};
 ghost use Rattle.matroid_theory.specs.Matroid.{Agrees};
 ghost use Rattle.matroid_theory.specs.Connection.{IsRank, IsCosimple};
 

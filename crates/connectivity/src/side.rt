@@ -1,6 +1,6 @@
 ghost use Rattle.std.specs.Prelude.{◌≡◌, ◌<◌, ◌≤◌, ◌^◌, ◌==◌, ◌||◌, ℕ, false};
 ghost use Rattle.matroid_theory.specs.Matrix.{size_below};
-ghost use Rattle.matroid_theory.specs.Rep.{Rep as Matrices, size, IsRep};
+ghost use Rattle.matroid_theory.specs.Rep.{Rep as Matrices, size, KeepsLimits};
 ghost use Rattle.matroid_theory.specs.Matroid.{members};
 ghost use Rattle.matroid_theory.specs.Connection.{IsRank};
 ghost use Rattle.connectivity.specs.Sides.{IsSide};
@@ -55,7 +55,7 @@ impl Side {
 
     /// Its rank.
     pub fn rank(self) -> usize
-        ensures rank { (M : Matrices) → IsRep M → IsSide M self.set self.basis → IsRank M (members self.set) result }
+        ensures rank { (M : Matrices) → KeepsLimits M → IsSide M self.set self.basis → IsRank M (members self.set) result }
         ensures few { result ≤ 16 }
     {
         self.basis.count_ones() as usize

@@ -6,7 +6,7 @@ use Rattle.std.proofs.lemmas.Bool.{cases_lt, cases_Bool}
 use mathlib.Core.Bool.{true≢false}
 use Rattle.arrayvec.specs.ArrayVec.{ArrayVec}
 use Rattle.matroid_theory.specs.Matrix.{size_below, IsIndependent}
-use Rattle.matroid_theory.specs.Rep.{Rep, size, count, order, matrix, column_of, IsShaped, IsStandard, IsRep, IsProductColumn}
+use Rattle.matroid_theory.specs.Rep.{Rep, size, count, order, matrix, column_of, IsShaped, IsStandard, KeepsLimits, IsProductColumn}
 use Rattle.matroid_theory.specs.Matroid.{members, IsIndependentIn, IsBasis, Agrees, IsSimple}
 use Rattle.matroid_theory.specs.Level.{followed_by, IsNormalised}
 use Rattle.matroid_theory.proofs.Bases.{with_own, with_other, smaller_independent}
@@ -24,7 +24,7 @@ use Rattle.bases.proofs.PickedColumns.{more_picked}
 use Rattle.extension.specs.Admissible.{IsAdmissible}
 use Rattle.extension.specs.Steps.{with_new}
 
-pub rep_followed : (M : Rep) (v : List ℕ) → IsRep M → size M < 16 → IsProductColumn M.factors M.rank v → IsRep (followed_by M v)
+pub rep_followed : (M : Rep) (v : List ℕ) → KeepsLimits M → size M < 16 → IsProductColumn M.factors M.rank v → KeepsLimits (followed_by M v)
 rep_followed M v r room c = record {
   fields = r.fields;
   rank_positive = r.rank_positive;
@@ -171,10 +171,10 @@ module _ (M : Rep) (v : List ℕ) where
 
 -- ---- when the column is admissible
 
-pub followed_shaped : (M : Rep) (v : List ℕ) → IsRep M → IsNormalised M.factors M.rank v → IsShaped (followed_by M v)
+pub followed_shaped : (M : Rep) (v : List ℕ) → KeepsLimits M → IsNormalised M.factors M.rank v → IsShaped (followed_by M v)
 followed_shaped M v r n = shaped_pushed M v r.shaped n.is_column
 
-pub admissible : (M : Rep) (v : List ℕ) → IsRep M → IsStandard M → IsSimple M → Agrees M → IsNormalised M.factors M.rank v → IsApart M v → IsAlikeWith M v → IsAdmissible M v
+pub admissible : (M : Rep) (v : List ℕ) → KeepsLimits M → IsStandard M → IsSimple M → Agrees M → IsNormalised M.factors M.rank v → IsApart M v → IsAlikeWith M v → IsAdmissible M v
 admissible M v r s simple agrees n apart alike = record {
   normalised = n;
   simple = simple_followed M v r.shaped (let a : 0 < M.rank = r.rank_positive in let b : M.rank ≤ size M = s.room in omega arith) simple apart;

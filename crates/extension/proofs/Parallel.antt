@@ -3,7 +3,7 @@ use Rattle.std.proofs.Common.{◌≡◌, ℕ, suc, ◌+◌, ◌*◌, ◌<◌, sy
 use Rattle.std.proofs.lemmas.List.FromFn.{length-map-range_with_len, get_or-map-range_with_len}
 use Rattle.matroid_theory.specs.Field.{IsField, times}
 use Rattle.matroid_theory.specs.Matrix.{IsIndependent}
-use Rattle.matroid_theory.specs.Rep.{Rep, size, count, order, matrix, column_of, IsRep, IsProductColumn}
+use Rattle.matroid_theory.specs.Rep.{Rep, size, count, order, matrix, column_of, KeepsLimits, IsProductColumn}
 use Rattle.matroid_theory.specs.Matroid.{IsIndependentIn}
 use Rattle.matroid_theory.specs.Level.{followed_by}
 use Rattle.matroid_theory.proofs.FieldLaws.{field_laws}
@@ -20,14 +20,14 @@ column_at M f j i w e l = ap (λ (xs : List ℕ). slice_index xs i) e ∙ get_or
 column_rows : (M : Rep) (f j : ℕ) (w : List ℕ) → w ≡ column_of M f j → length w ≡ M.rank
 column_rows M f j w e = ap (λ (xs : List ℕ). length xs) e ∙ length-map-range_with_len (λ i. matrix M f i j) 0 M.rank
 
-column_is : (M : Rep) → IsRep M → (f j : ℕ) → f < count M → j < size M → (q : ℕ) → q ≡ order M f → (w : List ℕ) → w ≡ column_of M f j → IsColumn q M.rank w
+column_is : (M : Rep) → KeepsLimits M → (f j : ℕ) → f < count M → j < size M → (q : ℕ) → q ≡ order M f → (w : List ℕ) → w ≡ column_of M f j → IsColumn q M.rank w
 column_is M r f j l m q d w e = record {
   rows = column_rows M f j w e;
   below = λ i o. subst (λ (q : ℕ). slice_index w i < q) (sym d) (subst (λ (x : ℕ). x < order M f) (sym (column_at M f j i w e o)) (let s = r.shaped in s.codes f i j l o m));
 }
 
-module _ (M : Rep) (v : List ℕ) (r : IsRep M) (room : size M < 16) (c : IsProductColumn M.factors M.rank v) (f : ℕ) (l : f < count M) (q : ℕ) (d : q ≡ order M f) (new : List ℕ) (p : new ≡ column_of (followed_by M v) f (size M)) where
-  whole : IsRep (followed_by M v)
+module _ (M : Rep) (v : List ℕ) (r : KeepsLimits M) (room : size M < 16) (c : IsProductColumn M.factors M.rank v) (f : ℕ) (l : f < count M) (q : ℕ) (d : q ≡ order M f) (new : List ℕ) (p : new ≡ column_of (followed_by M v) f (size M)) where
+  whole : KeepsLimits (followed_by M v)
   whole = rep_followed M v r room c
 
   last_one : size M < size (followed_by M v)

@@ -3,7 +3,7 @@ use Rattle.std.specs.Prelude.{ℕ, ◌+◌, ◌*◌, ◌/◌, ◌%◌, ◌<◌, 
 use Rattle.std.specs.Cmp.Lexicographic.{slice_cmp}
 use Rattle.std.specs.Ordering.{nat_cmp}
 use Rattle.std.specs.declared.cmp.Ordering.TheVariants.{Less, Greater}
-use Rattle.matroid_theory.specs.Rep.{Rep, size, IsRep, IsStandard}
+use Rattle.matroid_theory.specs.Rep.{Rep, size, KeepsLimits, IsStandard}
 use Rattle.matroid_theory.specs.Matroid.{Agrees, IsSimple}
 use Rattle.matroid_theory.specs.Level.{IsNormalised}
 use Rattle.extension.specs.Admissible.{ColumnsAfter}
@@ -14,7 +14,7 @@ IsStart factors rank v = (v ≡ []) ⊎ IsNormalised factors rank v
 
 -- what the columns of a representation keep
 pub record KeepsColumns (columns : ColumnsAfter) : Type 0 where
-  pub is_rep : IsRep columns.parent
+  pub is_rep : KeepsLimits columns.parent
   pub standard : IsStandard columns.parent
   pub simple : IsSimple columns.parent
   pub agrees : Agrees columns.parent

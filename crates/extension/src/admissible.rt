@@ -1,7 +1,7 @@
 ghost use Rattle.std.specs.Prelude.{◌≡◌, ◌<◌, ◌+◌, ◌*◌, ◌^◌, ◌↔◌, ◌==◌, ◌||◌, ℕ, IsTrue, length, slice_index};
 ghost use Rattle.elimination.specs.Columns.{IsColumn};
 ghost use Rattle.matroid_theory.specs.Field.{times};
-ghost use Rattle.matroid_theory.specs.Rep.{size, count, IsRep, IsStandard, IsProductColumn};
+ghost use Rattle.matroid_theory.specs.Rep.{size, count, KeepsLimits, IsStandard, IsProductColumn};
 ghost use Rattle.matroid_theory.specs.Matrix.{size_below};
 ghost use Rattle.matroid_theory.specs.Matroid.{members, IsIndependentIn, IsSimple, Agrees};
 ghost use Rattle.matroid_theory.specs.Level.{followed_by, IsNormalised};
@@ -30,7 +30,7 @@ pub fn is_admissible(rep: &Rep, column: &ProductColumn) -> bool
 
 /// Whether in every factor the column is parallel to none of the representation.
 fn is_apart(rep: &Rep, column: &ProductColumn) -> bool
-    requires is_rep { IsRep rep.now }
+    requires is_rep { KeepsLimits rep.now }
     requires room { size rep.now < 16 }
     requires normalised { IsNormalised rep.now.factors rep.now.rank column.now.items }
     ensures { IsTrue result ↔ ((f j : ℕ) → f < count rep.now → j < size rep.now →
@@ -48,7 +48,7 @@ fn is_apart(rep: &Rep, column: &ProductColumn) -> bool
 
 /// Whether in one factor the column, whose entry at the lead is 1, is parallel to none of the representation.
 fn is_apart_in(rep: &Rep, column: &ProductColumn, factor: usize, lead: usize) -> bool
-    requires is_rep { IsRep rep.now }
+    requires is_rep { KeepsLimits rep.now }
     requires factor { factor < count rep.now }
     requires room { size rep.now < 16 }
     requires column { IsProductColumn rep.now.factors rep.now.rank column.now.items }

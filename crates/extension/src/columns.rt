@@ -1,6 +1,6 @@
 ghost use Rattle.std.specs.Prelude.{◌≡◌, ◌<◌, ◌-◌, ◌^◌, [], MatchOption};
 ghost use Rattle.std.specs.Iterator.{at_most};
-ghost use Rattle.matroid_theory.specs.Rep.{size, IsRep, IsStandard};
+ghost use Rattle.matroid_theory.specs.Rep.{size, KeepsLimits, IsStandard};
 ghost use Rattle.matroid_theory.specs.Matroid.{Agrees, IsSimple};
 ghost use Rattle.extension.specs.Admissible.{IsNextColumn, IsLastColumn, GivesNext, value};
 ghost use Rattle.extension.specs.Steps.{IsStart, KeepsColumns};

@@ -1,5 +1,5 @@
 ghost use Rattle.std.specs.Prelude.{◌≡◌, ◌<◌, ◌+◌, ◌*◌, ◌↔◌, ℕ, IsTrue, length, slice_index};
-ghost use Rattle.matroid_theory.specs.Rep.{size, count, column_of, IsRep, IsProductColumn};
+ghost use Rattle.matroid_theory.specs.Rep.{size, count, column_of, KeepsLimits, IsProductColumn};
 ghost use Rattle.matroid_theory.specs.Matroid.{members, IsIndependentIn};
 ghost use Rattle.matroid_theory.specs.Level.{followed_by};
 ghost use Rattle.extension.specs.Steps.{with_new};
@@ -24,7 +24,7 @@ pub fn is_independent_with(rep: &Rep, column: &ProductColumn, factor: usize, set
 
 /// One factor of the column.
 pub fn part(rep: &Rep, column: &ProductColumn, factor: usize) -> Column
-    requires is_rep { IsRep rep.now }
+    requires is_rep { KeepsLimits rep.now }
     requires factor { factor < count rep.now }
     requires column { IsProductColumn rep.now.factors rep.now.rank column.now.items }
     ensures { result.items ≡ column_of (followed_by rep.now column.now.items) factor (size rep.now) }

@@ -6,7 +6,7 @@ use Rattle.formats.specs.declared.refusal.PrintMode.TheVariants.{Counts}
 use Rattle.formats.specs.declared.refusal.Refusal.TheVariants.{Twice}
 use Rattle.formats.specs.declared.refusal.Status.TheVariants.{Refused}
 use Rattle.formats.specs.Lines.{lines_of, statements_of}
-use Rattle.formats.specs.Entry.{Uniform, Fano}
+use Rattle.formats.specs.Statement.{Uniform, Fano}
 use Rattle.formats.specs.Request.{Request, column_count}
 use Rattle.formats.specs.Listing.{Form, head_text, level_text, form_text}
 use Rattle.formats.specs.Words.{sample_text}

@@ -6,7 +6,7 @@ use Rattle.std.proofs.lemmas.Grind.{flat_map-append}
 use Rattle.std.proofs.lemmas.Bool.{cases_eq, eq-eqb, ne_eqb}
 use Rattle.formats.specs.Request.{Request}
 use Rattle.formats.specs.Listing.{LevelEntry, level_count, level_pieces, head_text, end_text, with_front, end_blocks, listing_blocks, text_of_blocks, IsCutOff}
-use Rattle.formats.specs.Levels.{AreFirstLevels, AreLevels, IsListing, IsListingUpTo, IsCutListing, IsProperFront}
+use Rattle.formats.specs.Levels.{AreFirstLevels, AreLevels, IsListing, IsListingUpTo, IsListingCutOff, IsProperFront}
 use Rattle.formats.proofs.OneListing.{first_of_levels}
 
 abbrev Block : Type 0
@@ -82,7 +82,7 @@ continued q xs ys a b =
     ])
 
 -- a listing that is cut off is a proper front of the listing
-pub cut_is_front : (q : Request) (text written : List ℕ) (n : ℕ) → IsListing q text → IsCutListing q n written → IsProperFront written text
+pub cut_is_front : (q : Request) (text written : List ℕ) (n : ℕ) → IsListing q text → IsListingCutOff q n written → IsProperFront written text
 cut_is_front q text written n listing cut = record {
   rest = at.rest ++ text_of_blocks (at.after ++ on.more);
   split = listing.is ∙ ap text_of_blocks (on.split ∙ ap (λ (bs : List Block). bs ++ on.more) at.split ∙ append_assoc at.before (at.block ∷ at.after) on.more)

@@ -9,40 +9,40 @@ use Rattle.matroid_theory.specs.Field.{IsOrder, IsFactors}
 use Rattle.matroid_theory.proofs.FieldLaws.{by_order}
 use Rattle.formats.specs.declared.refusal.PrintMode.{PrintMode}
 use Rattle.formats.specs.declared.refusal.PrintMode.TheVariants.{Forms, Counts}
-use Rattle.formats.specs.Entry.{Minor, Entry, Version, RankIs, FieldIs, SizeIs, Forbids, ListsConnected, ListsThreeConnected, ListsCosimple, ListsDistinct, ListsWith, Prints, IsEntry, all_forms, kind_number, forbid_kind, most_of_kind, named_elements}
-use Rattle.formats.specs.Request.{Request, AreInOrder, count_of_kind, rank_in, field_in, size_in, forbidden_in, wanted_in, has_kind, prints_counts, AskFor, column_count, most_bytes, most_columns, IsRank, IsWithinLimits, StandsFor}
-use Rattle.formats.specs.Listing.{where_set, head_entries, text_of_entries}
+use Rattle.formats.specs.Statement.{MinorName, Statement, Version, RankIs, FieldIs, SizeIs, Forbids, ListsConnected, ListsThreeConnected, ListsCosimple, ListsDistinct, ListsWith, Prints, IsStatement, all_forms, kind_number, forbid_kind, most_of_kind, named_elements}
+use Rattle.formats.specs.Request.{Request, AreInOrder, count_of_kind, rank_in, field_in, size_in, forbidden_in, wanted_in, has_kind, prints_counts, AskFor, column_count, most_bytes, most_columns, IsRankInRange, IsWithinLimits, StandsFor}
+use Rattle.formats.specs.Listing.{where_set, head_statements, text_of_statements}
 use Rattle.formats.proofs.Spelled.{text_says}
 use Rattle.formats.proofs.Forms.{all_read}
 use Rattle.formats.proofs.Lengths.{IsSmall, text_length}
 
 -- The text of entries that are read, are in order and ask for a request within its limits stands for it.
-pub text_stands : (forms : Entry → Bool) (entries : List Entry) (q : Request) → AllByRecursion IsEntry entries → AllByRecursion (λ entry. IsTrue (forms entry)) entries → AreInOrder entries → AskFor entries q → IsWithinLimits q → length (text_of_entries entries) ≤ most_bytes → StandsFor forms (text_of_entries entries) q
+pub text_stands : (forms : Statement → Bool) (entries : List Statement) (q : Request) → AllByRecursion IsStatement entries → AllByRecursion (λ entry. IsTrue (forms entry)) entries → AreInOrder entries → AskFor entries q → IsWithinLimits q → length (text_of_statements entries) ≤ most_bytes → StandsFor forms (text_of_statements entries) q
 text_stands forms entries q may are_read in_order asked limits short = record { short = short; entries = entries; said = text_says forms entries may are_read; in_order = in_order; asked = asked; limits = limits }
 
 -- the two parts of what is small
-all_may : (entries : List Entry) → AllByRecursion IsSmall entries → AllByRecursion IsEntry entries
+all_may : (entries : List Statement) → AllByRecursion IsSmall entries → AllByRecursion IsStatement entries
 all_may [] all = tt
 all_may (e ∷ entries) all = (all.0.may, all_may entries all.1)
 
-none_big : (entries : List Entry) → AllByRecursion IsSmall entries → AllByRecursion (λ entry. named_elements entry ≤ 10) entries
+none_big : (entries : List Statement) → AllByRecursion IsSmall entries → AllByRecursion (λ entry. named_elements entry ≤ 10) entries
 none_big [] all = tt
 none_big (e ∷ entries) all = (all.0.not_big, none_big entries all.1)
 
 -- the same, where there are at most 64 entries
-small_stands : (forms : Entry → Bool) (entries : List Entry) (q : Request) → AllByRecursion IsSmall entries → AllByRecursion (λ entry. IsTrue (forms entry)) entries → length entries ≤ 64 → ((kind : ℕ) → count_of_kind kind entries ≤ most_of_kind kind) → AskFor entries q → IsWithinLimits q → StandsFor forms (text_of_entries entries) q
+small_stands : (forms : Statement → Bool) (entries : List Statement) (q : Request) → AllByRecursion IsSmall entries → AllByRecursion (λ entry. IsTrue (forms entry)) entries → length entries ≤ 64 → ((kind : ℕ) → count_of_kind kind entries ≤ most_of_kind kind) → AskFor entries q → IsWithinLimits q → StandsFor forms (text_of_statements entries) q
 small_stands forms entries q all are_read few not_often asked limits =
     text_stands forms entries q (all_may entries all) are_read (record { not_often = not_often; not_big = none_big entries all }) asked limits (omega (arith, text_length entries all))
 
 -- the entries of a request for one field whose size is its rank
-abbrev pub built_entries : ℕ → ℕ → List Entry
+abbrev pub built_entries : ℕ → ℕ → List Statement
 built_entries order rank = FieldIs (order ∷ []) ∷ RankIs rank ∷ SizeIs rank ∷ []
 
 abbrev pub built_request : ℕ → ℕ → Request
 built_request order rank = record { factors = order ∷ []; rank = rank; size = rank; forbid = []; connected = false; three_connected = false; cosimple = false; distinct = false; has = None; print = Forms }
 
 -- its columns are few
-built_columns : (order rank : ℕ) → IsOrder order → IsRank rank → column_count rank (order ∷ []) ≤ most_columns
+built_columns : (order rank : ℕ) → IsOrder order → IsRankInRange rank → column_count rank (order ∷ []) ≤ most_columns
 built_columns order zero o r = absurd (omega arith)
 built_columns order (suc zero) o r = by_order (λ order. column_count 1 (order ∷ []) ≤ most_columns) (lit≤ tt) (lit≤ tt) (lit≤ tt) (lit≤ tt) (lit≤ tt) (lit≤ tt) (lit≤ tt) order o
 built_columns order (suc (suc zero)) o r = by_order (λ order. column_count 2 (order ∷ []) ≤ most_columns) (lit≤ tt) (lit≤ tt) (lit≤ tt) (lit≤ tt) (lit≤ tt) (lit≤ tt) (lit≤ tt) order o
@@ -59,7 +59,7 @@ one_factor order o = record { some = omega arith; few = omega arith; fields = on
     one zero l = o
     one (suc f) l = absurd (omega arith)
 
-built_small : (order rank : ℕ) → IsOrder order → IsRank rank → AllByRecursion IsSmall (built_entries order rank)
+built_small : (order rank : ℕ) → IsOrder order → IsRankInRange rank → AllByRecursion IsSmall (built_entries order rank)
 built_small order rank o r = (
   record { may = one_factor order o; not_big = omega arith },
   (
@@ -72,18 +72,18 @@ built_not_often : (order rank kind : ℕ) → count_of_kind kind (built_entries 
 built_not_often order rank kind = grind (arith, nat_tests)
 
 -- A text for one field whose size is its rank stands for that request, where its three forms are read.
-pub built_stands_in : (forms : Entry → Bool) → ((factors : List ℕ) → IsTrue (forms (FieldIs factors))) → ((n : ℕ) → IsTrue (forms (RankIs n))) → ((n : ℕ) → IsTrue (forms (SizeIs n))) → (order rank : ℕ) → IsOrder order → IsRank rank → StandsFor forms (text_of_entries (FieldIs (order ∷ []) ∷ RankIs rank ∷ SizeIs rank ∷ [])) (record { factors = order ∷ []; rank = rank; size = rank; forbid = []; connected = false; three_connected = false; cosimple = false; distinct = false; has = None; print = Forms })
+pub built_stands_in : (forms : Statement → Bool) → ((factors : List ℕ) → IsTrue (forms (FieldIs factors))) → ((n : ℕ) → IsTrue (forms (RankIs n))) → ((n : ℕ) → IsTrue (forms (SizeIs n))) → (order rank : ℕ) → IsOrder order → IsRankInRange rank → StandsFor forms (text_of_statements (FieldIs (order ∷ []) ∷ RankIs rank ∷ SizeIs rank ∷ [])) (record { factors = order ∷ []; rank = rank; size = rank; forbid = []; connected = false; three_connected = false; cosimple = false; distinct = false; has = None; print = Forms })
 built_stands_in forms field_read rank_read size_read order rank o r =
     small_stands forms (built_entries order rank) (built_request order rank) (built_small order rank o r) (field_read (order ∷ []), (rank_read rank, (size_read rank, tt))) (omega arith) (built_not_often order rank)
     (record { rank = refl; field = refl; size = refl; forbid = refl; connected = refl; three_connected = refl; cosimple = refl; distinct = refl; has = refl; print = refl })
     (record { rank = r; size = (omega arith, omega (arith, r.1)); columns = built_columns order rank o r })
 
 -- the same among all forms
-pub built_stands : (order rank : ℕ) → IsOrder order → IsRank rank → StandsFor all_forms (text_of_entries (FieldIs (order ∷ []) ∷ RankIs rank ∷ SizeIs rank ∷ [])) (record { factors = order ∷ []; rank = rank; size = rank; forbid = []; connected = false; three_connected = false; cosimple = false; distinct = false; has = None; print = Forms })
+pub built_stands : (order rank : ℕ) → IsOrder order → IsRankInRange rank → StandsFor all_forms (text_of_statements (FieldIs (order ∷ []) ∷ RankIs rank ∷ SizeIs rank ∷ [])) (record { factors = order ∷ []; rank = rank; size = rank; forbid = []; connected = false; three_connected = false; cosimple = false; distinct = false; has = None; print = Forms })
 built_stands = built_stands_in all_forms (λ factors. refl) (λ n. refl) (λ n. refl)
 
 -- what holds of the entries of a list holds of those of one kind, made anew of their values
-values_kept : {Y : Type 0} (P : Entry → Type 0) (value : Entry → Option Y) (made : Y → Entry) → ((e : Entry) (y : Y) → value e ≡ Some y → e ≡ made y) → (entries : List Entry) → AllByRecursion P entries → AllByRecursion P (map made (filter_map value entries))
+values_kept : {Y : Type 0} (P : Statement → Type 0) (value : Statement → Option Y) (made : Y → Statement) → ((e : Statement) (y : Y) → value e ≡ Some y → e ≡ made y) → (entries : List Statement) → AllByRecursion P entries → AllByRecursion P (map made (filter_map value entries))
 values_kept P value made inverse [] all = tt
 values_kept {Y = Y} P value made inverse (e ∷ entries) all = at (value e) refl (filter_map value entries) (values_kept P value made inverse entries all.1)
   where
@@ -92,69 +92,69 @@ values_kept {Y = Y} P value made inverse (e ∷ entries) all = at (value e) refl
     at (Some y) is ys rest = (subst P (inverse e y is) all.0, rest)
 
 -- the entry that has a value is made of it
-rank_made : (e : Entry) (n : ℕ) → rank_in e ≡ Some n → e ≡ RankIs n
+rank_made : (e : Statement) (n : ℕ) → rank_in e ≡ Some n → e ≡ RankIs n
 rank_made (RankIs m) n is = cc (is)
 rank_made _ n is = cc (is)
 
-field_made : (e : Entry) (fs : List ℕ) → field_in e ≡ Some fs → e ≡ FieldIs fs
+field_made : (e : Statement) (fs : List ℕ) → field_in e ≡ Some fs → e ≡ FieldIs fs
 field_made (FieldIs gs) fs is = cc (is)
 field_made _ fs is = cc (is)
 
-size_made : (e : Entry) (n : ℕ) → size_in e ≡ Some n → e ≡ SizeIs n
+size_made : (e : Statement) (n : ℕ) → size_in e ≡ Some n → e ≡ SizeIs n
 size_made (SizeIs m) n is = cc (is)
 size_made _ n is = cc (is)
 
-forbidden_made : (e : Entry) (m : Minor) → forbidden_in e ≡ Some m → e ≡ Forbids m
+forbidden_made : (e : Statement) (m : MinorName) → forbidden_in e ≡ Some m → e ≡ Forbids m
 forbidden_made (Forbids n) m is = cc (is)
 forbidden_made _ m is = cc (is)
 
-wanted_made : (e : Entry) (m : Minor) → wanted_in e ≡ Some m → e ≡ ListsWith m
+wanted_made : (e : Statement) (m : MinorName) → wanted_in e ≡ Some m → e ≡ ListsWith m
 wanted_made (ListsWith n) m is = cc (is)
 wanted_made _ m is = cc (is)
 
 -- an entry is one of a kind, or not
-abbrev of_kind : ℕ → Entry → ℕ
+abbrev of_kind : ℕ → Statement → ℕ
 of_kind kind e = cond (kind_number e == kind) 1 0
 
-count_cons : (kind : ℕ) (e : Entry) (entries : List Entry) → count_of_kind kind (e ∷ entries) ≡ of_kind kind e + count_of_kind kind entries
+count_cons : (kind : ℕ) (e : Statement) (entries : List Statement) → count_of_kind kind (e ∷ entries) ≡ of_kind kind e + count_of_kind kind entries
 count_cons kind e entries = sum_by-cons (of_kind kind) e entries
 
-count_append : (kind : ℕ) (xs ys : List Entry) → count_of_kind kind (xs ++ ys) ≡ count_of_kind kind xs + count_of_kind kind ys
+count_append : (kind : ℕ) (xs ys : List Statement) → count_of_kind kind (xs ++ ys) ≡ count_of_kind kind xs + count_of_kind kind ys
 count_append kind xs ys = sum_by-append (of_kind kind) xs ys
 
 -- as many are forbidden as there are entries that forbid
-forbidden_count : (entries : List Entry) → length (filter_map forbidden_in entries) ≤ count_of_kind forbid_kind entries
+forbidden_count : (entries : List Statement) → length (filter_map forbidden_in entries) ≤ count_of_kind forbid_kind entries
 forbidden_count [] = omega arith
 forbidden_count (Forbids m ∷ entries) = omega (arith, count_cons forbid_kind (Forbids m) entries, forbidden_count entries)
 forbidden_count (e ∷ entries) = omega (arith, count_cons forbid_kind e entries, forbidden_count entries)
 
 -- the head after its first four entries, from its end on
-abbrev print_part : Request → List Entry
+abbrev print_part : Request → List Statement
 print_part q = Prints q.print ∷ []
 
-abbrev has_part : Request → List Entry
+abbrev has_part : Request → List Statement
 has_part q = map ListsWith (option_to_list q.has) ++ print_part q
 
-abbrev distinct_part : Request → List Entry
+abbrev distinct_part : Request → List Statement
 distinct_part q = where_set q.distinct ListsDistinct ++ has_part q
 
-abbrev cosimple_part : Request → List Entry
+abbrev cosimple_part : Request → List Statement
 cosimple_part q = where_set q.cosimple ListsCosimple ++ distinct_part q
 
-abbrev three_part : Request → List Entry
+abbrev three_part : Request → List Statement
 three_part q = where_set q.three_connected ListsThreeConnected ++ cosimple_part q
 
-abbrev connected_part : Request → List Entry
+abbrev connected_part : Request → List Statement
 connected_part q = where_set q.connected ListsConnected ++ three_part q
 
-abbrev forbid_part : Request → List Entry
+abbrev forbid_part : Request → List Statement
 forbid_part q = map Forbids q.forbid ++ connected_part q
 
-abbrev head_parts : Request → List Entry
+abbrev head_parts : Request → List Statement
 head_parts q = Version ∷ FieldIs q.factors ∷ RankIs q.rank ∷ SizeIs q.size ∷ forbid_part q
 
 -- the same list, with its parts taken together from the end on
-parts_are : (q : Request) → head_parts q ≡ head_entries q
+parts_are : (q : Request) → head_parts q ≡ head_statements q
 parts_are q = simp append_assoc
 
 -- what holds of all entries of the parts
@@ -166,63 +166,63 @@ all_map : {X Y : Type 0} (P : Y → Type 0) (f : X → Y) → ((x : X) → P (f 
 all_map P f each [] = tt
 all_map P f each (x ∷ xs) = (each x, all_map P f each xs)
 
-all_where : (P : Entry → Type 0) (b : Bool) (e : Entry) → P e → AllByRecursion P (where_set b e)
+all_where : (P : Statement → Type 0) (b : Bool) (e : Statement) → P e → AllByRecursion P (where_set b e)
 all_where P true e p = (p, tt)
 all_where P false e p = tt
 
-all_has : (P : Entry → Type 0) (q : Request) → AllByRecursion P (map ListsWith (option_to_list q.has)) → P (Prints q.print) → AllByRecursion P (has_part q)
+all_has : (P : Statement → Type 0) (q : Request) → AllByRecursion P (map ListsWith (option_to_list q.has)) → P (Prints q.print) → AllByRecursion P (has_part q)
 all_has P q has print = all_append P (map ListsWith (option_to_list q.has)) (print_part q) has (print, tt)
 
-all_distinct : (P : Entry → Type 0) (q : Request) → P ListsDistinct → AllByRecursion P (has_part q) → AllByRecursion P (distinct_part q)
+all_distinct : (P : Statement → Type 0) (q : Request) → P ListsDistinct → AllByRecursion P (has_part q) → AllByRecursion P (distinct_part q)
 all_distinct P q d rest = all_append P (where_set q.distinct ListsDistinct) (has_part q) (all_where P q.distinct ListsDistinct d) rest
 
-all_cosimple : (P : Entry → Type 0) (q : Request) → P ListsCosimple → AllByRecursion P (distinct_part q) → AllByRecursion P (cosimple_part q)
+all_cosimple : (P : Statement → Type 0) (q : Request) → P ListsCosimple → AllByRecursion P (distinct_part q) → AllByRecursion P (cosimple_part q)
 all_cosimple P q c rest = all_append P (where_set q.cosimple ListsCosimple) (distinct_part q) (all_where P q.cosimple ListsCosimple c) rest
 
-all_three : (P : Entry → Type 0) (q : Request) → P ListsThreeConnected → AllByRecursion P (cosimple_part q) → AllByRecursion P (three_part q)
+all_three : (P : Statement → Type 0) (q : Request) → P ListsThreeConnected → AllByRecursion P (cosimple_part q) → AllByRecursion P (three_part q)
 all_three P q t rest = all_append P (where_set q.three_connected ListsThreeConnected) (cosimple_part q) (all_where P q.three_connected ListsThreeConnected t) rest
 
-all_connected : (P : Entry → Type 0) (q : Request) → P ListsConnected → AllByRecursion P (three_part q) → AllByRecursion P (connected_part q)
+all_connected : (P : Statement → Type 0) (q : Request) → P ListsConnected → AllByRecursion P (three_part q) → AllByRecursion P (connected_part q)
 all_connected P q k rest = all_append P (where_set q.connected ListsConnected) (three_part q) (all_where P q.connected ListsConnected k) rest
 
-all_filters : (P : Entry → Type 0) (q : Request) → P ListsConnected → P ListsThreeConnected → P ListsCosimple → P ListsDistinct → AllByRecursion P (has_part q) → AllByRecursion P (connected_part q)
+all_filters : (P : Statement → Type 0) (q : Request) → P ListsConnected → P ListsThreeConnected → P ListsCosimple → P ListsDistinct → AllByRecursion P (has_part q) → AllByRecursion P (connected_part q)
 all_filters P q k t c d rest = all_connected P q k (all_three P q t (all_cosimple P q c (all_distinct P q d rest)))
 
 -- the same of what holds of an entry of each kind
-record OfEach (P : Entry → Type 0) : Type 0 where
-  forbids : (m : Minor) → P (Forbids m)
+record OfEach (P : Statement → Type 0) : Type 0 where
+  forbids : (m : MinorName) → P (Forbids m)
   connected : P ListsConnected
   three : P ListsThreeConnected
   cosimple : P ListsCosimple
   distinct : P ListsDistinct
-  has : (m : Minor) → P (ListsWith m)
+  has : (m : MinorName) → P (ListsWith m)
   prints : (mode : PrintMode) → P (Prints mode)
 
-each_part : (P : Entry → Type 0) (q : Request) → OfEach P → AllByRecursion P (forbid_part q)
+each_part : (P : Statement → Type 0) (q : Request) → OfEach P → AllByRecursion P (forbid_part q)
 each_part P q e = all_append P (map Forbids q.forbid) (connected_part q) (all_map P Forbids e.forbids q.forbid) (all_filters P q e.connected e.three e.cosimple e.distinct (all_has P q (all_map P ListsWith e.has (option_to_list q.has)) (e.prints q.print)))
 
 -- entries that tell nothing of what is asked for
-no_values : {Y : Type 0} (value : Entry → Option Y) (xs : List Entry) → AllByRecursion (λ e. value e ≡ None) xs → filter_map value xs ≡ []
+no_values : {Y : Type 0} (value : Statement → Option Y) (xs : List Statement) → AllByRecursion (λ e. value e ≡ None) xs → filter_map value xs ≡ []
 no_values value [] all = refl
 no_values {Y = Y} value (x ∷ xs) all = ap (λ (o : Option Y). cons_option o (filter_map value xs)) all.0 ∙ no_values value xs all.1
 
-skip_values : {Y : Type 0} (value : Entry → Option Y) (xs ys : List Entry) → AllByRecursion (λ e. value e ≡ None) xs → filter_map value (xs ++ ys) ≡ filter_map value ys
+skip_values : {Y : Type 0} (value : Statement → Option Y) (xs ys : List Statement) → AllByRecursion (λ e. value e ≡ None) xs → filter_map value (xs ++ ys) ≡ filter_map value ys
 skip_values value [] ys all = refl
 skip_values {Y = Y} value (x ∷ xs) ys all = ap (λ (o : Option Y). cons_option o (filter_map value (xs ++ ys))) all.0 ∙ skip_values value xs ys all.1
 
-made_values : {Y : Type 0} (value : Entry → Option Y) (made : Y → Entry) → ((y : Y) → value (made y) ≡ Some y) → (ys : List Y) (rest : List Entry) → filter_map value rest ≡ [] → filter_map value (map made ys ++ rest) ≡ ys
+made_values : {Y : Type 0} (value : Statement → Option Y) (made : Y → Statement) → ((y : Y) → value (made y) ≡ Some y) → (ys : List Y) (rest : List Statement) → filter_map value rest ≡ [] → filter_map value (map made ys ++ rest) ≡ ys
 made_values value made is [] rest none = none
 made_values {Y = Y} value made is (y ∷ ys) rest none = ap (λ (o : Option Y). cons_option o (filter_map value (map made ys ++ rest))) (is y) ∙ ap (λ (l : List Y). y ∷ l) (made_values value made is ys rest none)
 
-none_pass : (test : Entry → Bool) (xs : List Entry) → AllByRecursion (λ e. test e ≡ false) xs → list_any test xs ≡ false
+none_pass : (test : Statement → Bool) (xs : List Statement) → AllByRecursion (λ e. test e ≡ false) xs → list_any test xs ≡ false
 none_pass test [] all = refl
 none_pass test (x ∷ xs) all = ap (λ (b : Bool). b || list_any test xs) all.0 ∙ none_pass test xs all.1
 
-skip_test : (test : Entry → Bool) (xs ys : List Entry) → AllByRecursion (λ e. test e ≡ false) xs → list_any test (xs ++ ys) ≡ list_any test ys
+skip_test : (test : Statement → Bool) (xs ys : List Statement) → AllByRecursion (λ e. test e ≡ false) xs → list_any test (xs ++ ys) ≡ list_any test ys
 skip_test test [] ys all = refl
 skip_test test (x ∷ xs) ys all = ap (λ (b : Bool). b || list_any test (xs ++ ys)) all.0 ∙ skip_test test xs ys all.1
 
-flag_test : (test : Entry → Bool) (b : Bool) (e : Entry) (ys : List Entry) → test e ≡ true → list_any test ys ≡ false → list_any test (where_set b e ++ ys) ≡ b
+flag_test : (test : Statement → Bool) (b : Bool) (e : Statement) (ys : List Statement) → test e ≡ true → list_any test ys ≡ false → list_any test (where_set b e ++ ys) ≡ b
 flag_test test true e ys is none = ap (λ (b : Bool). b || list_any test ys) is
 flag_test test false e ys is none = none
 
@@ -238,12 +238,12 @@ head_size q = ap (λ (l : List ℕ). q.size ∷ l) (no_values size_in (forbid_pa
 
 head_forbid : (q : Request) → filter_map forbidden_in (head_parts q) ≡ q.forbid
 head_forbid q =
-    let silent : Entry → Type 0 = λ e. forbidden_in e ≡ None in
+    let silent : Statement → Type 0 = λ e. forbidden_in e ≡ None in
     made_values forbidden_in Forbids (λ m. refl) q.forbid (connected_part q) (no_values forbidden_in (connected_part q) (all_filters silent q refl refl refl refl (all_has silent q (all_map silent ListsWith (λ m. refl) (option_to_list q.has)) refl)))
 
 head_has : (q : Request) → filter_map wanted_in (head_parts q) ≡ option_to_list q.has
 head_has q =
-    let silent : Entry → Type 0 = λ e. wanted_in e ≡ None in
+    let silent : Statement → Type 0 = λ e. wanted_in e ≡ None in
     skip_values wanted_in (map Forbids q.forbid) (connected_part q) (all_map silent Forbids (λ m. refl) q.forbid)
     ∙ skip_values wanted_in (where_set q.connected ListsConnected) (three_part q) (all_where silent q.connected ListsConnected refl)
     ∙ skip_values wanted_in (where_set q.three_connected ListsThreeConnected) (cosimple_part q) (all_where silent q.three_connected ListsThreeConnected refl)
@@ -252,34 +252,34 @@ head_has q =
     ∙ made_values wanted_in ListsWith (λ m. refl) (option_to_list q.has) (print_part q) refl
 
 -- an entry of one kind is looked for, of which there is none after the filters
-abbrev is_kind : ℕ → Entry → Bool
+abbrev is_kind : ℕ → Statement → Bool
 is_kind kind e = kind_number e == kind
 
-skip_forbids : (test : Entry → Bool) (q : Request) → ((m : Minor) → test (Forbids m) ≡ false) → list_any test (forbid_part q) ≡ list_any test (connected_part q)
+skip_forbids : (test : Statement → Bool) (q : Request) → ((m : MinorName) → test (Forbids m) ≡ false) → list_any test (forbid_part q) ≡ list_any test (connected_part q)
 skip_forbids test q fails = skip_test test (map Forbids q.forbid) (connected_part q) (all_map (λ e. test e ≡ false) Forbids fails q.forbid)
 
-skip_flag : (test : Entry → Bool) (b : Bool) (e : Entry) (ys : List Entry) → test e ≡ false → list_any test (where_set b e ++ ys) ≡ list_any test ys
+skip_flag : (test : Statement → Bool) (b : Bool) (e : Statement) (ys : List Statement) → test e ≡ false → list_any test (where_set b e ++ ys) ≡ list_any test ys
 skip_flag test b e ys fails = skip_test test (where_set b e) ys (all_where (λ e. test e ≡ false) b e fails)
 
-has_fails : (test : Entry → Bool) (q : Request) → ((m : Minor) → test (ListsWith m) ≡ false) → test (Prints q.print) ≡ false → AllByRecursion (λ e. test e ≡ false) (has_part q)
+has_fails : (test : Statement → Bool) (q : Request) → ((m : MinorName) → test (ListsWith m) ≡ false) → test (Prints q.print) ≡ false → AllByRecursion (λ e. test e ≡ false) (has_part q)
 has_fails test q fails print = all_has (λ e. test e ≡ false) q (all_map (λ e. test e ≡ false) ListsWith fails (option_to_list q.has)) print
 
 head_connected : (q : Request) → has_kind ListsConnected (head_parts q) ≡ q.connected
 head_connected q =
-    let fails : Entry → Type 0 = λ e. is_kind 5 e ≡ false in
+    let fails : Statement → Type 0 = λ e. is_kind 5 e ≡ false in
     skip_forbids (is_kind 5) q (λ m. refl)
     ∙ flag_test (is_kind 5) q.connected ListsConnected (three_part q) refl (none_pass (is_kind 5) (three_part q) (all_three fails q refl (all_cosimple fails q refl (all_distinct fails q refl (has_fails (is_kind 5) q (λ m. refl) refl)))))
 
 head_three : (q : Request) → has_kind ListsThreeConnected (head_parts q) ≡ q.three_connected
 head_three q =
-    let fails : Entry → Type 0 = λ e. is_kind 6 e ≡ false in
+    let fails : Statement → Type 0 = λ e. is_kind 6 e ≡ false in
     skip_forbids (is_kind 6) q (λ m. refl)
     ∙ skip_flag (is_kind 6) q.connected ListsConnected (three_part q) refl
     ∙ flag_test (is_kind 6) q.three_connected ListsThreeConnected (cosimple_part q) refl (none_pass (is_kind 6) (cosimple_part q) (all_cosimple fails q refl (all_distinct fails q refl (has_fails (is_kind 6) q (λ m. refl) refl))))
 
 head_cosimple : (q : Request) → has_kind ListsCosimple (head_parts q) ≡ q.cosimple
 head_cosimple q =
-    let fails : Entry → Type 0 = λ e. is_kind 7 e ≡ false in
+    let fails : Statement → Type 0 = λ e. is_kind 7 e ≡ false in
     skip_forbids (is_kind 7) q (λ m. refl)
     ∙ skip_flag (is_kind 7) q.connected ListsConnected (three_part q) refl
     ∙ skip_flag (is_kind 7) q.three_connected ListsThreeConnected (cosimple_part q) refl
@@ -341,18 +341,18 @@ kinds_bound_small (suc (suc (suc (suc (suc (suc (suc (suc (suc (suc zero))))))))
 kinds_bound_small (suc (suc (suc (suc (suc (suc (suc (suc (suc (suc (suc kind))))))))))) = no_kind (suc (suc (suc (suc (suc (suc (suc (suc (suc (suc (suc kind))))))))))) (omega arith)
 
 -- how many of a kind stand in a part
-where_count : (kind : ℕ) (b : Bool) (e : Entry) → count_of_kind kind (where_set b e) ≤ cond (kind_number e == kind) 1 0
+where_count : (kind : ℕ) (b : Bool) (e : Statement) → count_of_kind kind (where_set b e) ≤ cond (kind_number e == kind) 1 0
 where_count kind true e = omega arith
 where_count kind false e = omega arith
 
-forbids_count : (kind : ℕ) (b : Bool) → (4 == kind) ≡ b → (ms : List Minor) → length ms ≤ 8 → count_of_kind kind (map Forbids ms) ≤ cond b 8 0
+forbids_count : (kind : ℕ) (b : Bool) → (4 == kind) ≡ b → (ms : List MinorName) → length ms ≤ 8 → count_of_kind kind (map Forbids ms) ≤ cond b 8 0
 forbids_count kind true is ms few = omega (arith, count_by-le-length (is_kind kind) (map Forbids ms), length-map ms Forbids)
 forbids_count kind false is [] few = omega arith
 forbids_count kind false is (m ∷ ms) few =
     let one : of_kind kind (Forbids m) ≡ 0 = ap (λ (b : Bool). cond b 1 0) is in
     omega (arith, one, count_cons kind (Forbids m) (map Forbids ms), forbids_count kind false is ms (omega arith))
 
-has_count : (kind : ℕ) (o : Option Minor) → count_of_kind kind (map ListsWith (option_to_list o)) ≤ cond (9 == kind) 1 0
+has_count : (kind : ℕ) (o : Option MinorName) → count_of_kind kind (map ListsWith (option_to_list o)) ≤ cond (9 == kind) 1 0
 has_count kind None = omega arith
 has_count kind (Some m) = omega arith
 
@@ -361,11 +361,11 @@ head_count q kind few =
     omega (arith, count_cons kind Version (FieldIs q.factors ∷ RankIs q.rank ∷ SizeIs q.size ∷ forbid_part q), count_cons kind (FieldIs q.factors) (RankIs q.rank ∷ SizeIs q.size ∷ forbid_part q), count_cons kind (RankIs q.rank) (SizeIs q.size ∷ forbid_part q), count_cons kind (SizeIs q.size) (forbid_part q), count_append kind (map Forbids q.forbid) (connected_part q), count_append kind (where_set q.connected ListsConnected) (three_part q), count_append kind (where_set q.three_connected ListsThreeConnected) (cosimple_part q), count_append kind (where_set q.cosimple ListsCosimple) (distinct_part q), count_append kind (where_set q.distinct ListsDistinct) (has_part q), count_append kind (map ListsWith (option_to_list q.has)) (print_part q), count_cons kind (Prints q.print) [], forbids_count kind (4 == kind) refl q.forbid few, where_count kind q.connected ListsConnected, where_count kind q.three_connected ListsThreeConnected, where_count kind q.cosimple ListsCosimple, where_count kind q.distinct ListsDistinct, has_count kind q.has)
 
 -- how many entries the head has
-where_length : (b : Bool) (e : Entry) → length (where_set b e) ≤ 1
+where_length : (b : Bool) (e : Statement) → length (where_set b e) ≤ 1
 where_length true e = omega arith
 where_length false e = omega arith
 
-option_length : (o : Option Minor) → length (option_to_list o) ≤ 1
+option_length : (o : Option MinorName) → length (option_to_list o) ≤ 1
 option_length None = omega arith
 option_length (Some m) = omega arith
 
@@ -374,13 +374,13 @@ head_length q few =
     omega (arith, length-map q.forbid Forbids, length-map (option_to_list q.has) ListsWith, option_length q.has, where_length q.connected ListsConnected, where_length q.three_connected ListsThreeConnected, where_length q.cosimple ListsCosimple, where_length q.distinct ListsDistinct, length-append (map Forbids q.forbid) (connected_part q), length-append (where_set q.connected ListsConnected) (three_part q), length-append (where_set q.three_connected ListsThreeConnected) (cosimple_part q), length-append (where_set q.cosimple ListsCosimple) (distinct_part q), length-append (where_set q.distinct ListsDistinct) (has_part q), length-append (map ListsWith (option_to_list q.has)) (print_part q))
 
 -- what a line of the head says is small, as it is in the lines of the text
-head_small : (entries : List Entry) (q : Request) → AllByRecursion IsSmall entries → AskFor entries q → AllByRecursion IsSmall (head_parts q)
+head_small : (entries : List Statement) (q : Request) → AllByRecursion IsSmall entries → AskFor entries q → AllByRecursion IsSmall (head_parts q)
 head_small entries q all asked =
     let ranks = subst (λ (l : List ℕ). AllByRecursion IsSmall (map RankIs l)) asked.rank (values_kept IsSmall rank_in RankIs rank_made entries all) in
     let fields = subst (λ (l : List (List ℕ)). AllByRecursion IsSmall (map FieldIs l)) asked.field (values_kept IsSmall field_in FieldIs field_made entries all) in
     let sizes = subst (λ (l : List ℕ). AllByRecursion IsSmall (map SizeIs l)) asked.size (values_kept IsSmall size_in SizeIs size_made entries all) in
-    let forbids = subst (λ (l : List Minor). AllByRecursion IsSmall (map Forbids l)) asked.forbid (values_kept IsSmall forbidden_in Forbids forbidden_made entries all) in
-    let has = subst (λ (l : List Minor). AllByRecursion IsSmall (map ListsWith l)) asked.has (values_kept IsSmall wanted_in ListsWith wanted_made entries all) in (
+    let forbids = subst (λ (l : List MinorName). AllByRecursion IsSmall (map Forbids l)) asked.forbid (values_kept IsSmall forbidden_in Forbids forbidden_made entries all) in
+    let has = subst (λ (l : List MinorName). AllByRecursion IsSmall (map ListsWith l)) asked.has (values_kept IsSmall wanted_in ListsWith wanted_made entries all) in (
       record { may = tt; not_big = omega arith },
       (
         fields.0,
@@ -397,17 +397,17 @@ head_small entries q all asked =
     )
 
 -- at most eight minors are forbidden
-few_forbidden : (entries : List Entry) (q : Request) → AreInOrder entries → AskFor entries q → length q.forbid ≤ 8
+few_forbidden : (entries : List Statement) (q : Request) → AreInOrder entries → AskFor entries q → length q.forbid ≤ 8
 few_forbidden entries q in_order asked = omega (arith, forbidden_count entries, in_order.not_often forbid_kind, ap length asked.forbid)
 
-all_small : (entries : List Entry) → AllByRecursion IsEntry entries → AllByRecursion (λ entry. named_elements entry ≤ 10) entries → AllByRecursion IsSmall entries
+all_small : (entries : List Statement) → AllByRecursion IsStatement entries → AllByRecursion (λ entry. named_elements entry ≤ 10) entries → AllByRecursion IsSmall entries
 all_small [] may not_big = tt
 all_small (e ∷ entries) may not_big = (record { may = may.0; not_big = not_big.0 }, all_small entries may.1 not_big.1)
 
 -- The head of a request's listing, without its first line, stands for the request.
-pub head_stands : (text : List ℕ) (q : Request) → StandsFor all_forms text q → StandsFor all_forms (text_of_entries (head_entries q)) q
+pub head_stands : (text : List ℕ) (q : Request) → StandsFor all_forms text q → StandsFor all_forms (text_of_statements (head_statements q)) q
 head_stands text q s =
     let few = few_forbidden s.entries q s.in_order s.asked in
     let small = head_small s.entries q (all_small s.entries s.said.may s.in_order.not_big) s.asked in
-    subst (λ (es : List Entry). StandsFor all_forms (text_of_entries es) q) (parts_are q)
+    subst (λ (es : List Statement). StandsFor all_forms (text_of_statements es) q) (parts_are q)
     (small_stands all_forms (head_parts q) q small (all_read (head_parts q)) (head_length q few) (λ kind. omega (arith, head_count q kind few, kinds_bound_small kind)) (head_asks q) s.limits)

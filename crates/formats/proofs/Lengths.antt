@@ -7,8 +7,8 @@ use Rattle.std.proofs.lemmas.List.{length-map}
 use Rattle.matroid_theory.specs.Field.{IsOrder}
 use Rattle.formats.specs.declared.refusal.PrintMode.TheVariants.{Forms, Counts}
 use Rattle.formats.specs.Lines.{line_of_words, parted}
-use Rattle.formats.specs.Entry.{Minor, Uniform, Fano, FanoDual, NonFano, KFour, KFive, Matrix, Entry, Version, RankIs, FieldIs, SizeIs, Forbids, ListsConnected, ListsThreeConnected, ListsCosimple, ListsDistinct, ListsWith, Prints, entry_letter, column_word, minor_words, IsNumber, IsMinor, IsEntry, elements_of, spelling, named_elements}
-use Rattle.formats.specs.Listing.{text_of_entries}
+use Rattle.formats.specs.Statement.{MinorName, Uniform, Fano, FanoDual, NonFano, KFour, KFive, ByMatrix, Statement, Version, RankIs, FieldIs, SizeIs, Forbids, ListsConnected, ListsThreeConnected, ListsCosimple, ListsDistinct, ListsWith, Prints, entry_letter, column_word, minor_words, IsNumber, IsMinorName, IsStatement, elements_of, spelling, named_elements}
+use Rattle.formats.specs.Listing.{text_of_statements}
 use Rattle.formats.proofs.Unique.{order_small}
 
 -- the bytes of words and of what ends each
@@ -34,10 +34,10 @@ columns_weight : (rows : ℕ) (columns : List (List ℕ)) → rows ≤ 6 → All
 columns_weight rows [] few all = omega arith
 columns_weight rows (column ∷ columns) few all = omega (arith, length-map column entry_letter, all.0, columns_weight rows columns few all.1)
 
-minor_weight : (minor : Minor) → IsMinor minor → elements_of minor ≤ 10 → weight (minor_words minor) ≤ 80
+minor_weight : (minor : MinorName) → IsMinorName minor → elements_of minor ≤ 10 → weight (minor_words minor) ≤ 80
 minor_weight (Uniform rank size) may few =
     omega (arith, number_length rank (omega (arith, may.low, may.short)), number_length size may.short, length-append (decimal rank) (44 ∷ decimal size))
-minor_weight (Matrix order columns) may few =
+minor_weight (ByMatrix order columns) may few =
     let height = may.height in
     let small = order_small order may.is_order in
     omega (arith, digit_length order small, columns_weight height.0 columns height.2 height.3)
@@ -53,11 +53,11 @@ factors_weight (x ∷ []) few all = omega (arith, digit_length x (order_small x 
 factors_weight (x ∷ y ∷ ys) few all = omega (arith, digit_length x (order_small x (all 0 (omega arith))), factors_weight (y ∷ ys) (omega arith) (λ f l. all (suc f) (omega arith)))
 
 -- what a line may say, of a matroid with at most ten elements
-pub record IsSmall (entry : Entry) : Type 0 where
-  pub may : IsEntry entry
+pub record IsSmall (entry : Statement) : Type 0 where
+  pub may : IsStatement entry
   pub not_big : named_elements entry ≤ 10
 
-entry_weight : (e : Entry) → IsSmall e → weight (spelling e) ≤ 127
+entry_weight : (e : Statement) → IsSmall e → weight (spelling e) ≤ 127
 entry_weight Version small = omega arith
 entry_weight (RankIs n) small = omega (arith, number_length n small.may)
 entry_weight (FieldIs factors) small = omega (arith, small.may.few, factors_weight factors small.may.few small.may.fields)
@@ -71,7 +71,7 @@ entry_weight (ListsWith minor) small = omega (arith, minor_weight minor small.ma
 entry_weight (Prints Forms) small = omega arith
 entry_weight (Prints Counts) small = omega arith
 
-pub text_length : (entries : List Entry) → AllByRecursion IsSmall entries → length (text_of_entries entries) ≤ 128 * length entries
+pub text_length : (entries : List Statement) → AllByRecursion IsSmall entries → length (text_of_statements entries) ≤ 128 * length entries
 text_length [] all = omega arith
 text_length (e ∷ entries) all =
-    omega (arith, line_length (spelling e), entry_weight e all.0, text_length entries all.1, length-append (line_of_words (spelling e)) (text_of_entries entries))
+    omega (arith, line_length (spelling e), entry_weight e all.0, text_length entries all.1, length-append (line_of_words (spelling e)) (text_of_statements entries))

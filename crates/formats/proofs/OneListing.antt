@@ -49,7 +49,7 @@ filters_same q f g a b =
 tries_same : (F : Family) (d n t u : ℕ) → n ≡ F.rank + d → HasTries F n t → HasTries F n u → t ≡ u
 tries_same F zero n t u e a b = let at : n ≡ F.rank = omega arith in a.first at ∙ sym (b.first at)
 tries_same F (suc d) n t u e a b =
-    count_unique (IsTry F (F.rank + d)) t u (a.later (F.rank + d) (omega arith) (omega arith)) (b.later (F.rank + d) (omega arith) (omega arith))
+    count_unique (IsTry F n) t u (a.later (omega arith)) (b.later (omega arith))
 
 -- a level of one size is told in one way
 entry_same : (q : Request) (x y : LevelEntry) → x.size ≡ y.size → q.rank ≤ y.size → IsLevelEntry q x → IsLevelEntry q y → x ≡ y

@@ -13,9 +13,9 @@ use Rattle.matroid_theory.specs.Field.{IsOrder}
 use Rattle.formats.specs.declared.refusal.PrintMode.{PrintMode}
 use Rattle.formats.specs.declared.refusal.PrintMode.TheVariants.{Forms, Counts}
 use Rattle.formats.specs.Lines.{lines_of, lines_of_pieces, is_blank, has_bytes, words_of, is_skipped, statements_of, line_of_words, parted}
-use Rattle.formats.specs.Entry.{Minor, Uniform, Fano, FanoDual, NonFano, KFour, KFive, Matrix, Entry, Version, RankIs, FieldIs, SizeIs, Forbids, ListsConnected, ListsThreeConnected, ListsCosimple, ListsDistinct, ListsWith, Prints, column_word, minor_words, mode_word, IsNumber, IsMinor, IsEntry, spelling}
+use Rattle.formats.specs.Statement.{MinorName, Uniform, Fano, FanoDual, NonFano, KFour, KFive, ByMatrix, Statement, Version, RankIs, FieldIs, SizeIs, Forbids, ListsConnected, ListsThreeConnected, ListsCosimple, ListsDistinct, ListsWith, Prints, column_word, minor_words, mode_word, IsNumber, IsMinorName, IsStatement, spelling}
 use Rattle.formats.specs.Request.{SayInTurn}
-use Rattle.formats.specs.Listing.{text_of_entries}
+use Rattle.formats.specs.Listing.{text_of_statements}
 use Rattle.formats.proofs.Unique.{statements_split, order_small, letter_small}
 
 -- bytes from 36 up: no space, no end of a line, and no `#`
@@ -88,7 +88,7 @@ bytes_append [] ys p q = q
 bytes_append (x ∷ xs) ys p q = (p.0, bytes_append xs ys p.1 q)
 
 -- the words of a minor
-minor_line : (minor : Minor) → IsMinor minor → IsLine (minor_words minor)
+minor_line : (minor : MinorName) → IsMinorName minor → IsLine (minor_words minor)
 minor_line (Uniform rank size) may =
     let front = decimal_bytes rank (omega (arith, may.low, may.short)) in
     let back = decimal_bytes size may.short in
@@ -98,7 +98,7 @@ minor_line FanoDual may = (word_tested (codes "F7*") refl, tt)
 minor_line NonFano may = (word_tested (codes "F7-") refl, tt)
 minor_line KFour may = (word_tested (codes "K4") refl, tt)
 minor_line KFive may = (word_tested (codes "K5") refl, tt)
-minor_line (Matrix order columns) may =
+minor_line (ByMatrix order columns) may =
     let small = order_small order may.is_order in
     let height = may.height in
     (word_tested (codes "matrix") refl, (decimal_word order (omega (arith, small)), columns_words order height.0 columns small height.1 height.3 may.entries))
@@ -119,7 +119,7 @@ mode_is_word Forms = word_tested (codes "forms") refl
 mode_is_word Counts = word_tested (codes "counts") refl
 
 -- the words of an entry
-pub entry_line : (e : Entry) → IsEntry e → IsLine (spelling e)
+pub entry_line : (e : Statement) → IsStatement e → IsLine (spelling e)
 entry_line Version may = (word_tested (codes "version") refl, (word_tested (codes "1") refl, tt))
 entry_line (RankIs n) may = (word_tested (codes "rank") refl, (decimal_word n may, tt))
 entry_line (FieldIs factors) may = (word_tested (codes "field") refl, factors_words factors may.fields)
@@ -216,12 +216,12 @@ first_statement words text line =
     ∙ statements_split [] joined (lines_of text) (ap is_skipped is ∙ not_skipped words line)
     ∙ ap (λ (ws : List (List ℕ)). ws ∷ statements_of (lines_of text)) is
 
-spelled : (entries : List Entry) → AllByRecursion IsEntry entries → statements_of (lines_of (text_of_entries entries)) ≡ map spelling entries
+spelled : (entries : List Statement) → AllByRecursion IsStatement entries → statements_of (lines_of (text_of_statements entries)) ≡ map spelling entries
 spelled [] all = refl
 spelled (e ∷ entries) all =
-    first_statement (spelling e) (text_of_entries entries) (entry_line e all.0)
+    first_statement (spelling e) (text_of_statements entries) (entry_line e all.0)
     ∙ ap (λ (l : List (List (List ℕ))). spelling e ∷ l) (spelled entries all.1)
 
 -- The text of entries that are read says them.
-pub text_says : (forms : Entry → Bool) (entries : List Entry) → AllByRecursion IsEntry entries → AllByRecursion (λ entry. IsTrue (forms entry)) entries → SayInTurn forms (lines_of (text_of_entries entries)) entries
+pub text_says : (forms : Statement → Bool) (entries : List Statement) → AllByRecursion IsStatement entries → AllByRecursion (λ entry. IsTrue (forms entry)) entries → SayInTurn forms (lines_of (text_of_statements entries)) entries
 text_says forms entries all are_read = record { may = all; are_read = are_read; spelled = spelled entries all }

@@ -16,13 +16,13 @@ use Rattle.formats.specs.declared.refusal.Refusal.{Refusal}
 use Rattle.formats.specs.declared.refusal.Refusal.TheVariants as refusal
 use Rattle.formats.specs.Refusal.{FirstFault, NoFault, IsMissing, AreValues, HasValues, HasRefusal}
 use Rattle.formats.specs.Lines.{words_of, is_skipped, statements_of}
-use Rattle.formats.specs.Entry.{Says, kind_number, forbid_kind, most_of_kind, named_elements}
-use Rattle.formats.specs.Request.{AreInOrder, count_of_kind, most_bytes, IsRank, IsSize, column_count}
+use Rattle.formats.specs.Statement.{Says, kind_number, forbid_kind, most_of_kind, named_elements}
+use Rattle.formats.specs.Request.{AreInOrder, count_of_kind, most_bytes, IsRankInRange, IsSizeInRange, column_count}
 use Rattle.formats.specs.Refusal.{Fault, NoForm, Again, NinthForbid, TooBig, HasFault}
 use Rattle.formats.specs.declared.refusal.PrintMode.{PrintMode}
 use Rattle.formats.specs.declared.refusal.PrintMode.TheVariants.{Forms, Counts}
 use Rattle.formats.specs.Lines.{parted}
-use Rattle.formats.specs.Entry.{Minor, Uniform, Fano, FanoDual, NonFano, KFour, KFive, Matrix, Entry, Version, RankIs, FieldIs, SizeIs, Forbids, ListsConnected, ListsThreeConnected, ListsCosimple, ListsDistinct, ListsWith, Prints, entry_letter, column_word, minor_words, mode_word, IsNumber, IsMinor, IsEntry, spelling}
+use Rattle.formats.specs.Statement.{MinorName, Uniform, Fano, FanoDual, NonFano, KFour, KFive, ByMatrix, Statement, Version, RankIs, FieldIs, SizeIs, Forbids, ListsConnected, ListsThreeConnected, ListsCosimple, ListsDistinct, ListsWith, Prints, entry_letter, column_word, minor_words, mode_word, IsNumber, IsMinorName, IsStatement, spelling}
 use Rattle.formats.specs.Request.{Request, SayInTurn, AskFor, StandsFor}
 
 -- a text that has no comma in front of the first comma of another
@@ -92,7 +92,7 @@ abbrev second_letters : List (List ℕ) → ℕ
 second_letters [] = 0
 second_letters (word ∷ words) = first_letters words
 
-pub minor_same : (m n : Minor) → IsMinor m → IsMinor n → minor_words m ≡ minor_words n → m ≡ n
+pub minor_same : (m n : MinorName) → IsMinorName m → IsMinorName n → minor_words m ≡ minor_words n → m ≡ n
 minor_same (Uniform r s) (Uniform r' s') p q e =
     let t : decimal r ++ 44 ∷ decimal s ≡ decimal r' ++ 44 ∷ decimal s' = cc (e) in
     let parts = split_comma (decimal r) (decimal s) (decimal r') (decimal s') (decimal_no_comma r (omega (arith, p.low, p.short))) (decimal_no_comma r' (omega (arith, q.low, q.short))) t in
@@ -110,14 +110,14 @@ minor_same KFour KFour p q e = refl
 minor_same KFour _ p q e = absurd (omega (arith, ap initial e, ap first_letters e))
 minor_same KFive KFive p q e = refl
 minor_same KFive _ p q e = absurd (omega (arith, ap initial e, ap first_letters e))
-minor_same (Matrix order columns) (Matrix order' columns') p q e =
+minor_same (ByMatrix order columns) (ByMatrix order' columns') p q e =
     let m = order_small order p.is_order in
     let n = order_small order' q.is_order in
     let h : decimal order ≡ decimal order' = cc (e) in
     let t : map column_word columns ≡ map column_word columns' = cc (e) in
     let same = same_decimal order order' (omega (arith, m)) (omega (arith, n)) h in
     cc (same, columns_same order order' columns columns' m n p.entries q.entries t)
-minor_same (Matrix order columns) _ p q e = absurd (omega (arith, ap initial e))
+minor_same (ByMatrix order columns) _ p q e = absurd (omega (arith, ap initial e))
 
 -- the orders of a field line
 factors_same : (xs ys : List ℕ) → ((f : ℕ) → f < length xs → IsOrder (slice_index xs f)) → ((f : ℕ) → f < length ys → IsOrder (slice_index ys f)) → parted (codes "x") (map (λ order. decimal order ∷ []) xs) ≡ parted (codes "x") (map (λ order. decimal order ∷ []) ys) → xs ≡ ys
@@ -149,7 +149,7 @@ mode_same Counts Forms e = absurd (omega (arith, ap letters e))
 mode_same Counts Counts e = refl
 
 -- the words of a line say one entry
-pub entry_same : (a b : Entry) → IsEntry a → IsEntry b → spelling a ≡ spelling b → a ≡ b
+pub entry_same : (a b : Statement) → IsStatement a → IsStatement b → spelling a ≡ spelling b → a ≡ b
 entry_same Version Version p q e = refl
 entry_same Version _ p q e = absurd (omega (arith, ap first_letters e))
 entry_same (RankIs m) (RankIs n) p q e = let h : decimal m ≡ decimal n = cc (e) in let same = same_decimal m n p q h in cc (same)
@@ -177,7 +177,7 @@ entry_same (Prints m) (Prints n) p q e = let t : mode_word m ≡ mode_word n = c
 entry_same (Prints m) _ p q e = absurd (omega (arith, ap first_letters e))
 
 -- entries with the same spellings are the same
-pub entries_same : (xs ys : List Entry) → AllByRecursion IsEntry xs → AllByRecursion IsEntry ys → map spelling xs ≡ map spelling ys → xs ≡ ys
+pub entries_same : (xs ys : List Statement) → AllByRecursion IsStatement xs → AllByRecursion IsStatement ys → map spelling xs ≡ map spelling ys → xs ≡ ys
 entries_same [] [] a b e = refl
 entries_same [] (y ∷ ys) a b e = cc (e)
 entries_same (x ∷ xs) [] a b e = cc (e)
@@ -187,14 +187,14 @@ entries_same (x ∷ xs) (y ∷ ys) a b e =
     let same = entry_same x y a.0 b.0 h in
     cc (same, entries_same xs ys a.1 b.1 t)
 
-option_same : (m n : Option Minor) → option_to_list m ≡ option_to_list n → m ≡ n
+option_same : (m n : Option MinorName) → option_to_list m ≡ option_to_list n → m ≡ n
 option_same None None e = refl
 option_same None (Some y) e = cc (e)
 option_same (Some x) None e = cc (e)
 option_same (Some x) (Some y) e = cc (e)
 
 -- entries ask for one request
-pub asked_same : (entries : List Entry) (q r : Request) → AskFor entries q → AskFor entries r → q ≡ r
+pub asked_same : (entries : List Statement) (q r : Request) → AskFor entries q → AskFor entries r → q ≡ r
 asked_same entries q r a b =
     let ranks : q.rank ≡ r.rank = cc (a.rank, b.rank) in
     let fields : q.factors ≡ r.factors = cc (a.field, b.field) in
@@ -230,19 +230,19 @@ statements_split (x ∷ before) line after counts =
     ap (λ (l : List (List (List ℕ))). cond (not (is_skipped (words_of x))) (words_of x ∷ l) l) (statements_split before line after counts)
     ∙ cond_append (not (is_skipped (words_of x))) (words_of x) (statements_of before) (words_of line ∷ statements_of after)
 
-big_at : (xs : List Entry) (e : Entry) (ys : List Entry) → AllByRecursion (λ entry. named_elements entry ≤ 10) (xs ++ e ∷ ys) → named_elements e ≤ 10
+big_at : (xs : List Statement) (e : Statement) (ys : List Statement) → AllByRecursion (λ entry. named_elements entry ≤ 10) (xs ++ e ∷ ys) → named_elements e ≤ 10
 big_at [] e ys all = all.0
 big_at (x ∷ xs) e ys all = big_at xs e ys all.1
 
 -- one more of its kind
-pub count_at : (xs : List Entry) (e : Entry) (ys : List Entry) → count_of_kind (kind_number e) xs + 1 ≤ count_of_kind (kind_number e) (xs ++ e ∷ ys)
+pub count_at : (xs : List Statement) (e : Statement) (ys : List Statement) → count_of_kind (kind_number e) xs + 1 ≤ count_of_kind (kind_number e) (xs ++ e ∷ ys)
 count_at xs e ys =
-    let counts : Entry → ℕ = λ x. cond (kind_number x == kind_number e) 1 0 in
+    let counts : Statement → ℕ = λ x. cond (kind_number x == kind_number e) 1 0 in
     let here : counts e ≡ 1 = grind (arith, nat_tests) in
     omega (arith, sum_by-append counts xs (e ∷ ys), sum_by-cons counts e ys, here)
 
 -- where a request is asked for, no line is missing
-missing_stands : (q : Request) (entries : List Entry) (word : Word) → AskFor entries q → IsMissing entries word → ⊥
+missing_stands : (q : Request) (entries : List Statement) (word : Word) → AskFor entries q → IsMissing entries word → ⊥
 missing_stands q entries Rank a m = cc (a.rank, m)
 missing_stands q entries Field a m = cc (a.field, m.1)
 missing_stands q entries Size a m = cc (a.size, m.2)
@@ -275,12 +275,12 @@ refusal_at TooBig n = refusal.ForbidTooBig n
 
 -- a value out of its limits, where all lines are there
 data Late (rank : ℕ) (factors : List ℕ) (size : ℕ) (why : Refusal) : Type 0 where
-  BadRank : (IsRank rank → ⊥) → why ≡ refusal.Rank rank → Late rank factors size why
-  BadSize : IsRank rank → (IsSize rank size → ⊥) → why ≡ refusal.Size size → Late rank factors size why
-  Wide : IsRank rank → IsSize rank size → why ≡ refusal.TooWide (column_count rank factors) → Late rank factors size why
+  BadRank : (IsRankInRange rank → ⊥) → why ≡ refusal.Rank rank → Late rank factors size why
+  BadSize : IsRankInRange rank → (IsSizeInRange rank size → ⊥) → why ≡ refusal.Size size → Late rank factors size why
+  Wide : IsRankInRange rank → IsSizeInRange rank size → why ≡ refusal.TooWide (column_count rank factors) → Late rank factors size why
 
 -- the first word that is missing is one
-missing_same : (entries : List Entry) (v w : Word) → IsMissing entries v → IsMissing entries w → v ≡ w
+missing_same : (entries : List Statement) (v w : Word) → IsMissing entries v → IsMissing entries w → v ≡ w
 missing_same entries Rank Rank a b = refl
 missing_same entries Rank Field a b = absurd (b.0 a)
 missing_same entries Rank Size a b = absurd (b.0 a)
@@ -292,7 +292,7 @@ missing_same entries Size Field a b = absurd (a.1 b.1)
 missing_same entries Size Size a b = refl
 
 -- where all values are there, none is missing
-missing_values : (entries : List Entry) (word : Word) (rank : ℕ) (factors : List ℕ) (size : ℕ) → IsMissing entries word → AreValues entries rank factors size → ⊥
+missing_values : (entries : List Statement) (word : Word) (rank : ℕ) (factors : List ℕ) (size : ℕ) → IsMissing entries word → AreValues entries rank factors size → ⊥
 missing_values entries Rank rank factors size m v = let f = v.rank_said in cc (f, m)
 missing_values entries Field rank factors size m v = let f = v.field_said in let g = m.1 in cc (f, g)
 missing_values entries Size rank factors size m v = let f = v.size_said in let g = m.2 in cc (f, g)
@@ -310,41 +310,41 @@ late_same rank factors size v w (Wide a b e) (BadSize c d f) = absurd (d b)
 late_same rank factors size v w (Wide a b e) (Wide c d f) = e ∙ sym f
 
 -- where these forms are read
-module _ (forms : Entry → Bool) where
+module _ (forms : Statement → Bool) where
   -- the lines of a text say one list of entries
-  said_same : (lines : List (List ℕ)) (xs ys : List Entry) → SayInTurn forms lines xs → SayInTurn forms lines ys → xs ≡ ys
+  said_same : (lines : List (List ℕ)) (xs ys : List Statement) → SayInTurn forms lines xs → SayInTurn forms lines ys → xs ≡ ys
   said_same lines xs ys a b = entries_same xs ys a.may b.may (sym a.spelled ∙ b.spelled)
 
   -- a text stands for one request
   pub request_same : (text : List ℕ) (q r : Request) → StandsFor forms text q → StandsFor forms text r → q ≡ r
   request_same text q r a b =
-      asked_same b.entries q r (subst (λ (es : List Entry). AskFor es q) (said_same _ a.entries b.entries a.said b.said) a.asked) b.asked
+      asked_same b.entries q r (subst (λ (es : List Statement). AskFor es q) (said_same _ a.entries b.entries a.said b.said) a.asked) b.asked
 
   -- the entry that a line says, among those of all lines
-  record Found (entries : List Entry) (front : List (List (List ℕ))) (words : List (List ℕ)) : Type 0 where
-    earlier : List Entry
-    entry : Entry
-    later : List Entry
+  record Found (entries : List Statement) (front : List (List (List ℕ))) (words : List (List ℕ)) : Type 0 where
+    earlier : List Statement
+    entry : Statement
+    later : List Statement
     split : entries ≡ earlier ++ entry ∷ later
     spelled : map spelling earlier ≡ front
-    may_earlier : AllByRecursion IsEntry earlier
+    may_earlier : AllByRecursion IsStatement earlier
     read_earlier : AllByRecursion (λ entry. IsTrue (forms entry)) earlier
     says : Says forms words entry
 
   -- after one more entry
-  more_found : (x : Entry) (xs : List Entry) (front : List (List (List ℕ))) (words : List (List ℕ)) → IsEntry x → IsTrue (forms x) → Found xs front words → Found (x ∷ xs) (spelling x ∷ front) words
+  more_found : (x : Statement) (xs : List Statement) (front : List (List (List ℕ))) (words : List (List ℕ)) → IsStatement x → IsTrue (forms x) → Found xs front words → Found (x ∷ xs) (spelling x ∷ front) words
   more_found x xs front words may is_read rest = record {
     earlier = x ∷ rest.earlier;
     entry = rest.entry;
     later = rest.later;
-    split = ap (λ (l : List Entry). x ∷ l) rest.split;
+    split = ap (λ (l : List Statement). x ∷ l) rest.split;
     spelled = ap (λ (l : List (List (List ℕ))). spelling x ∷ l) rest.spelled;
     may_earlier = (may, rest.may_earlier);
     read_earlier = (is_read, rest.read_earlier);
     says = rest.says;
   }
 
-  found : (entries : List Entry) (front back : List (List (List ℕ))) (words : List (List ℕ)) → AllByRecursion IsEntry entries → AllByRecursion (λ entry. IsTrue (forms entry)) entries → map spelling entries ≡ front ++ words ∷ back → Found entries front words
+  found : (entries : List Statement) (front back : List (List (List ℕ))) (words : List (List ℕ)) → AllByRecursion IsStatement entries → AllByRecursion (λ entry. IsTrue (forms entry)) entries → map spelling entries ≡ front ++ words ∷ back → Found entries front words
   found [] [] back words may are_read e = cc (e)
   found [] (f ∷ front) back words may are_read e = cc (e)
   found (x ∷ xs) [] back words may are_read e = let h : spelling x ≡ words = cc (e) in record { earlier = []; entry = x; later = xs; split = refl; spelled = refl; may_earlier = tt; read_earlier = tt; says = record { may = may.0; is_read = are_read.0; spelled = sym h } }
@@ -353,32 +353,32 @@ module _ (forms : Entry → Bool) where
       let t : map spelling xs ≡ front ++ words ∷ back = cc (e) in
       subst (λ (w : List (List ℕ)). Found (x ∷ xs) (w ∷ front) words) h (more_found x xs front words may.0 are_read.0 (found xs front back words may.1 are_read.1 t))
 
-  says_same : (words : List (List ℕ)) (a b : Entry) → Says forms words a → Says forms words b → a ≡ b
+  says_same : (words : List (List ℕ)) (a b : Statement) → Says forms words a → Says forms words b → a ≡ b
   says_same words a b p q = entry_same a b p.may q.may (sym p.spelled ∙ q.spelled)
 
   -- in lines that are in order no line has a fault
-  pub no_fault : (lines before : List (List ℕ)) (line : List ℕ) (after : List (List ℕ)) (entries said : List Entry) (fault : Fault) → lines ≡ before ++ line ∷ after → SayInTurn forms lines entries → AreInOrder entries → SayInTurn forms before said → is_skipped (words_of line) ≡ false → HasFault forms said (words_of line) fault → ⊥
+  pub no_fault : (lines before : List (List ℕ)) (line : List ℕ) (after : List (List ℕ)) (entries said : List Statement) (fault : Fault) → lines ≡ before ++ line ∷ after → SayInTurn forms lines entries → AreInOrder entries → SayInTurn forms before said → is_skipped (words_of line) ≡ false → HasFault forms said (words_of line) fault → ⊥
   no_fault lines before line after entries said fault split all in_order some counts wrong =
       let spelled : map spelling entries ≡ statements_of before ++ words_of line ∷ statements_of after = sym all.spelled ∙ ap statements_of split ∙ statements_split before line after counts in
       let at = found entries (statements_of before) (statements_of after) (words_of line) all.may all.are_read spelled in
       let same : at.earlier ≡ said = entries_same at.earlier said at.may_earlier some.may (at.spelled ∙ some.spelled) in
-      let order : AreInOrder (said ++ at.entry ∷ at.later) = subst AreInOrder (at.split ∙ ap (λ (l : List Entry). l ++ at.entry ∷ at.later) same) in_order in
+      let order : AreInOrder (said ++ at.entry ∷ at.later) = subst AreInOrder (at.split ∙ ap (λ (l : List Statement). l ++ at.entry ∷ at.later) same) in_order in
       contradiction fault said (words_of line) at.entry at.later at.says order wrong
     where
-      contradiction : (fault : Fault) (said : List Entry) (words : List (List ℕ)) (e : Entry) (later : List Entry) → Says forms words e → AreInOrder (said ++ e ∷ later) → HasFault forms said words fault → ⊥
+      contradiction : (fault : Fault) (said : List Statement) (words : List (List ℕ)) (e : Statement) (later : List Statement) → Says forms words e → AreInOrder (said ++ e ∷ later) → HasFault forms said words fault → ⊥
       contradiction NoForm said words e later says order wrong = wrong e says
       contradiction Again said words e later says order wrong =
           let one = says_same words wrong.0 e wrong.1 says in
-          let often : most_of_kind (kind_number e) ≤ count_of_kind (kind_number e) said = subst (λ (x : Entry). most_of_kind (kind_number x) ≤ count_of_kind (kind_number x) said) one wrong.3 in
+          let often : most_of_kind (kind_number e) ≤ count_of_kind (kind_number e) said = subst (λ (x : Statement). most_of_kind (kind_number x) ≤ count_of_kind (kind_number x) said) one wrong.3 in
           omega (arith, often, count_at said e later, order.not_often (kind_number e))
       contradiction NinthForbid said words e later says order wrong =
           let one = says_same words wrong.0 e wrong.1 says in
-          let forbids : kind_number e ≡ forbid_kind = subst (λ (x : Entry). kind_number x ≡ forbid_kind) one wrong.2 in
+          let forbids : kind_number e ≡ forbid_kind = subst (λ (x : Statement). kind_number x ≡ forbid_kind) one wrong.2 in
           let often : most_of_kind (kind_number e) ≤ count_of_kind (kind_number e) said = subst (λ (k : ℕ). most_of_kind k ≤ count_of_kind k said) (sym forbids) wrong.3 in
           omega (arith, often, count_at said e later, order.not_often (kind_number e))
       contradiction TooBig said words e later says order wrong =
           let one = says_same words wrong.0 e wrong.1 says in
-          let big : 10 < named_elements e = subst (λ (x : Entry). 10 < named_elements x) one wrong.3 in
+          let big : 10 < named_elements e = subst (λ (x : Statement). 10 < named_elements x) one wrong.3 in
           omega (arith, big, big_at said e later order.not_big)
 
   first_fault_stands : (text : List ℕ) (q : Request) (n : ℕ) (fault : Fault) → StandsFor forms text q → FirstFault forms text n fault → ⊥
@@ -391,21 +391,21 @@ module _ (forms : Entry → Bool) where
   not_both text q (refusal.Twice n) a b = first_fault_stands text q n Again a b
   not_both text q (refusal.TooManyForbidden n) a b = first_fault_stands text q n NinthForbid a b
   not_both text q (refusal.ForbidTooBig n) a b = first_fault_stands text q n TooBig a b
-  not_both text q (refusal.Missing word) a b = missing_stands q b.0 word (subst (λ (es : List Entry). AskFor es q) (said_same _ a.entries b.0 a.said b.1.said) a.asked) b.2
+  not_both text q (refusal.Missing word) a b = missing_stands q b.0 word (subst (λ (es : List Statement). AskFor es q) (said_same _ a.entries b.0 a.said b.1.said) a.asked) b.2
   not_both text q (refusal.Rank v) a b =
       let values = b.2 in
-      let asked = subst (λ (es : List Entry). AskFor es q) (said_same _ a.entries values.entries a.said values.none.said) a.asked in
+      let asked = subst (λ (es : List Statement). AskFor es q) (said_same _ a.entries values.entries a.said values.none.said) a.asked in
       let same : q.rank ≡ v = cc (asked.rank, values.values.rank_said) in
-      b.3 (subst IsRank same a.limits.rank)
+      b.3 (subst IsRankInRange same a.limits.rank)
   not_both text q (refusal.Size v) a b =
       let values = b.2 in
-      let asked = subst (λ (es : List Entry). AskFor es q) (said_same _ a.entries values.entries a.said values.none.said) a.asked in
+      let asked = subst (λ (es : List Statement). AskFor es q) (said_same _ a.entries values.entries a.said values.none.said) a.asked in
       let ranks : q.rank ≡ b.0 = cc (asked.rank, values.values.rank_said) in
       let sizes : q.size ≡ v = cc (asked.size, values.values.size_said) in
-      b.4 (subst (λ (s : ℕ). IsSize b.0 s) sizes (subst (λ (r : ℕ). IsSize r q.size) ranks a.limits.size))
+      b.4 (subst (λ (s : ℕ). IsSizeInRange b.0 s) sizes (subst (λ (r : ℕ). IsSizeInRange r q.size) ranks a.limits.size))
   not_both text q (refusal.TooWide c) a b =
       let values = b.3 in
-      let asked = subst (λ (es : List Entry). AskFor es q) (said_same _ a.entries values.entries a.said values.none.said) a.asked in
+      let asked = subst (λ (es : List Statement). AskFor es q) (said_same _ a.entries values.entries a.said values.none.said) a.asked in
       let ranks : q.rank ≡ b.0 = cc (asked.rank, values.values.rank_said) in
       let fields : q.factors ≡ b.1 = cc (asked.field, values.values.field_said) in
       let same : column_count q.rank q.factors ≡ column_count b.0 b.1 = ap (λ (r : ℕ). column_count r q.factors) ranks ∙ ap (column_count b.0) fields in
@@ -413,7 +413,7 @@ module _ (forms : Entry → Bool) where
       omega (arith, same, few, b.6, b.7)
 
   -- a line has one fault after given entries
-  fault_same : (said : List Entry) (words : List (List ℕ)) (f g : Fault) → HasFault forms said words f → HasFault forms said words g → f ≡ g
+  fault_same : (said : List Statement) (words : List (List ℕ)) (f g : Fault) → HasFault forms said words f → HasFault forms said words g → f ≡ g
   fault_same said words NoForm NoForm a b = refl
   fault_same said words NoForm Again a b = absurd (a b.0 b.1)
   fault_same said words NoForm NinthForbid a b = absurd (a b.0 b.1)
@@ -424,13 +424,13 @@ module _ (forms : Entry → Bool) where
   fault_same said words Again Again a b = refl
   fault_same said words NinthForbid NinthForbid a b = refl
   fault_same said words TooBig TooBig a b = refl
-  fault_same said words Again NinthForbid a b = absurd (subst (λ (x : Entry). kind_number x ≢ forbid_kind) (says_same words a.0 b.0 a.1 b.1) a.2 b.2)
-  fault_same said words NinthForbid Again a b = absurd (subst (λ (x : Entry). kind_number x ≢ forbid_kind) (says_same words b.0 a.0 b.1 a.1) b.2 a.2)
+  fault_same said words Again NinthForbid a b = absurd (subst (λ (x : Statement). kind_number x ≢ forbid_kind) (says_same words a.0 b.0 a.1 b.1) a.2 b.2)
+  fault_same said words NinthForbid Again a b = absurd (subst (λ (x : Statement). kind_number x ≢ forbid_kind) (says_same words b.0 a.0 b.1 a.1) b.2 a.2)
   fault_same said words Again TooBig a b =
-      let often = subst (λ (x : Entry). most_of_kind (kind_number x) ≤ count_of_kind (kind_number x) said) (says_same words a.0 b.0 a.1 b.1) a.3 in
+      let often = subst (λ (x : Statement). most_of_kind (kind_number x) ≤ count_of_kind (kind_number x) said) (says_same words a.0 b.0 a.1 b.1) a.3 in
       absurd (omega (arith, often, b.2))
   fault_same said words TooBig Again a b =
-      let often = subst (λ (x : Entry). most_of_kind (kind_number x) ≤ count_of_kind (kind_number x) said) (says_same words b.0 a.0 b.1 a.1) b.3 in
+      let often = subst (λ (x : Statement). most_of_kind (kind_number x) ≤ count_of_kind (kind_number x) said) (says_same words b.0 a.0 b.1 a.1) b.3 in
       absurd (omega (arith, often, a.2))
   fault_same said words NinthForbid TooBig a b =
       let few = subst (λ (k : ℕ). count_of_kind k said < most_of_kind k) (ap kind_number (says_same words b.0 a.0 b.1 a.1) ∙ a.2) b.2 in
@@ -446,7 +446,7 @@ module _ (forms : Entry → Bool) where
       at : Places a.before a.line b.before b.line → (m ≡ n) × (f ≡ g)
       at (SamePlace e l) =
           let said : a.said ≡ b.said = said_same _ a.said b.said (subst (λ (ls : List (List ℕ)). SayInTurn forms ls a.said) e a.says) b.says in
-          let wrong = subst (λ (es : List Entry). HasFault forms es (words_of b.line) f) said (subst (λ (line : List ℕ). HasFault forms a.said (words_of line) f) l a.wrong) in
+          let wrong = subst (λ (es : List Statement). HasFault forms es (words_of b.line) f) said (subst (λ (line : List ℕ). HasFault forms a.said (words_of line) f) l a.wrong) in
           (omega (arith, a.place, b.place, ap length e), fault_same b.said (words_of b.line) f g wrong b.wrong)
       at (Sooner rest e) = absurd (no_fault b.before a.before a.line rest b.said a.said f e b.says b.in_order a.says a.counts a.wrong)
       at (Later rest e) = absurd (no_fault a.before b.before b.line rest a.said b.said g e a.says a.in_order b.says b.counts b.wrong)
@@ -455,7 +455,7 @@ module _ (forms : Entry → Bool) where
   data Stage (text : List ℕ) (why : Refusal) : Type 0 where
     Long : most_bytes < length text → why ≡ refusal.TooLong → Stage text why
     AtLine : (n : ℕ) (fault : Fault) → FirstFault forms text n fault → why ≡ refusal_at fault n → Stage text why
-    Lacks : (word : Word) (entries : List Entry) → NoFault forms text entries → IsMissing entries word → why ≡ refusal.Missing word → Stage text why
+    Lacks : (word : Word) (entries : List Statement) → NoFault forms text entries → IsMissing entries word → why ≡ refusal.Missing word → Stage text why
     OutOf : (rank : ℕ) (factors : List ℕ) (size : ℕ) → HasValues forms text rank factors size → Late rank factors size why → Stage text why
 
   stage : (text : List ℕ) (why : Refusal) → HasRefusal forms text why → Stage text why
@@ -470,7 +470,7 @@ module _ (forms : Entry → Bool) where
   stage text (refusal.Size v) h = OutOf h.0 h.1 v h.2 (BadSize h.3 h.4 refl)
   stage text (refusal.TooWide c) h = OutOf h.0 h.1 h.2 h.3 (Wide h.4 h.5 (ap refusal.TooWide h.6))
 
-  line_none : (text : List ℕ) (n : ℕ) (fault : Fault) (entries : List Entry) → FirstFault forms text n fault → NoFault forms text entries → ⊥
+  line_none : (text : List ℕ) (n : ℕ) (fault : Fault) (entries : List Statement) → FirstFault forms text n fault → NoFault forms text entries → ⊥
   line_none text n fault entries b a = no_fault _ b.before b.line b.after entries b.said fault b.split a.said a.in_order b.says b.counts b.wrong
 
   stage_same : (text : List ℕ) (v w : Refusal) → Stage text v → Stage text w → v ≡ w
@@ -484,14 +484,14 @@ module _ (forms : Entry → Bool) where
   stage_same text v w (AtLine m f a e) (OutOf r fs s b c) = absurd (line_none text m f b.entries a b.none)
   stage_same text v w (Lacks word es b c f) (Long a e) = absurd (omega (arith, a, b.short))
   stage_same text v w (Lacks word es b c h) (AtLine m f a e) = absurd (line_none text m f es a b)
-  stage_same text v w (Lacks word es a c e) (Lacks word' es' b d f) = e ∙ ap refusal.Missing (missing_same es' word word' (subst (λ (l : List Entry). IsMissing l word) (said_same _ es es' a.said b.said) c) d) ∙ sym f
-  stage_same text v w (Lacks word es a c e) (OutOf r fs s b d) = absurd (missing_values b.entries word r fs s (subst (λ (l : List Entry). IsMissing l word) (said_same _ es b.entries a.said b.none.said) c) b.values)
+  stage_same text v w (Lacks word es a c e) (Lacks word' es' b d f) = e ∙ ap refusal.Missing (missing_same es' word word' (subst (λ (l : List Statement). IsMissing l word) (said_same _ es es' a.said b.said) c) d) ∙ sym f
+  stage_same text v w (Lacks word es a c e) (OutOf r fs s b d) = absurd (missing_values b.entries word r fs s (subst (λ (l : List Statement). IsMissing l word) (said_same _ es b.entries a.said b.none.said) c) b.values)
   stage_same text v w (OutOf r fs s b c) (Long a e) = absurd (omega (arith, a, b.none.short))
   stage_same text v w (OutOf r fs s b c) (AtLine m f a e) = absurd (line_none text m f b.entries a b.none)
-  stage_same text v w (OutOf r fs s b d) (Lacks word es a c e) = absurd (missing_values b.entries word r fs s (subst (λ (l : List Entry). IsMissing l word) (said_same _ es b.entries a.said b.none.said) c) b.values)
+  stage_same text v w (OutOf r fs s b d) (Lacks word es a c e) = absurd (missing_values b.entries word r fs s (subst (λ (l : List Statement). IsMissing l word) (said_same _ es b.entries a.said b.none.said) c) b.values)
   stage_same text v w (OutOf r fs s a c) (OutOf r' fs' s' b d) =
       let one = said_same _ a.entries b.entries a.none.said b.none.said in
-      let values = subst (λ (l : List Entry). AreValues l r fs s) one a.values in
+      let values = subst (λ (l : List Statement). AreValues l r fs s) one a.values in
       let ranks : r ≡ r' = cc (values.rank_said, b.values.rank_said) in
       let fields : fs ≡ fs' = cc (values.field_said, b.values.field_said) in
       let sizes : s ≡ s' = cc (values.size_said, b.values.size_said) in

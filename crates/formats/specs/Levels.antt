@@ -42,7 +42,7 @@ pub record Keeps (q : Request) (filters : Filters) : Type 0 where
 -- how many tries the size n has: none where it equals the rank
 pub record HasTries (family : Family) (n tried : ℕ) : Type 0 where
   pub first : n ≡ family.rank → tried ≡ 0
-  pub later : (m : ℕ) → n ≡ m + 1 → family.rank < n → IsCount (IsTry family m) tried
+  pub later : family.rank < n → IsCount (IsTry family n) tried
 
 -- what the listing of the request tells of the level of a size
 pub record IsLevelEntry (q : Request) (entry : LevelEntry) : Type 0 where
@@ -84,7 +84,7 @@ pub record IsListingUpTo (q : Request) (whole : ℕ) (text : List ℕ) : Type 0 
   pub is : text ≡ text_of_blocks (listing_blocks q levels)
 
 -- The text is the listing cut off in a level or in the end line, after so many whole levels. The levels behind the cut needn't be known.
-pub record IsCutListing (q : Request) (whole : ℕ) (text : List ℕ) : Type 0 where
+pub record IsListingCutOff (q : Request) (whole : ℕ) (text : List ℕ) : Type 0 where
   pub levels : List LevelEntry
   pub are : AreFirstLevels q levels
   pub cut : IsCutOff (listing_blocks q levels) whole text

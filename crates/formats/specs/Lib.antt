@@ -1,5 +1,5 @@
 pub mod Lines
-pub mod Entry
+pub mod Statement
 pub mod Request
 pub mod Refusal
 pub mod Minors

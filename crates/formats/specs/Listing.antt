@@ -4,24 +4,24 @@ use Rattle.std.specs.List.{concat, join_with_byte}
 use Rattle.formats.specs.declared.refusal.PrintMode.{PrintMode}
 use Rattle.formats.specs.declared.refusal.PrintMode.TheVariants.{Forms, Counts}
 use Rattle.formats.specs.Lines.{line_of_words, joined}
-use Rattle.formats.specs.Entry.{Entry, Version, RankIs, FieldIs, SizeIs, Forbids, ListsConnected, ListsThreeConnected, ListsCosimple, ListsDistinct, ListsWith, Prints, spelling, column_word}
+use Rattle.formats.specs.Statement.{Statement, Version, RankIs, FieldIs, SizeIs, Forbids, ListsConnected, ListsThreeConnected, ListsCosimple, ListsDistinct, ListsWith, Prints, spelling, column_word}
 use Rattle.formats.specs.Request.{Request}
 
 -- an entry that is there where the flag is set
-abbrev pub where_set : Bool → Entry → List Entry
+abbrev pub where_set : Bool → Statement → List Statement
 where_set true entry = entry ∷ []
 where_set false entry = []
 
 -- what the head says of a request, in its order
-abbrev pub head_entries : Request → List Entry
-head_entries q = Version ∷ FieldIs q.factors ∷ RankIs q.rank ∷ SizeIs q.size ∷ map Forbids q.forbid ++ where_set q.connected ListsConnected ++ where_set q.three_connected ListsThreeConnected ++ where_set q.cosimple ListsCosimple ++ where_set q.distinct ListsDistinct ++ map ListsWith (option_to_list q.has) ++ Prints q.print ∷ []
+abbrev pub head_statements : Request → List Statement
+head_statements q = Version ∷ FieldIs q.factors ∷ RankIs q.rank ∷ SizeIs q.size ∷ map Forbids q.forbid ++ where_set q.connected ListsConnected ++ where_set q.three_connected ListsThreeConnected ++ where_set q.cosimple ListsCosimple ++ where_set q.distinct ListsDistinct ++ map ListsWith (option_to_list q.has) ++ Prints q.print ∷ []
 
 -- a request text of these entries, in their order
-abbrev pub text_of_entries : List Entry → List ℕ
-text_of_entries entries = flat_map (λ entry. line_of_words (spelling entry)) entries
+abbrev pub text_of_statements : List Statement → List ℕ
+text_of_statements entries = flat_map (λ entry. line_of_words (spelling entry)) entries
 
 unfoldable pub head_text : Request → List ℕ
-head_text q = codes "macek listing 1\n" ++ text_of_entries (head_entries q)
+head_text q = codes "macek listing 1\n" ++ text_of_statements (head_statements q)
 
 unfoldable pub level_text : ℕ → ℕ → ℕ → ℕ → List ℕ
 level_text size classes listed tried = line_of_words (codes "level" ∷ decimal size ∷ codes "classes" ∷ decimal classes ∷ codes "listed" ∷ decimal listed ∷ codes "tried" ∷ decimal tried ∷ [])

@@ -5,8 +5,8 @@ use Rattle.formats.specs.declared.refusal.Word.TheVariants.{Rank, Field, Size}
 use Rattle.formats.specs.declared.refusal.Refusal.{Refusal}
 use Rattle.formats.specs.declared.refusal.Refusal.TheVariants as refusal
 use Rattle.formats.specs.Lines.{lines_of, words_of, is_skipped}
-use Rattle.formats.specs.Entry.{Entry, Says, kind_number, forbid_kind, most_of_kind, named_elements}
-use Rattle.formats.specs.Request.{SayInTurn, AreInOrder, count_of_kind, rank_in, field_in, size_in, column_count, most_bytes, most_columns, IsRank, IsSize}
+use Rattle.formats.specs.Statement.{Statement, Says, kind_number, forbid_kind, most_of_kind, named_elements}
+use Rattle.formats.specs.Request.{SayInTurn, AreInOrder, count_of_kind, rank_in, field_in, size_in, column_count, most_bytes, most_columns, IsRankInRange, IsSizeInRange}
 
 -- what may be wrong with a line
 pub data Fault : Type 0 where
@@ -16,58 +16,58 @@ pub data Fault : Type 0 where
   TooBig : Fault
 
 -- What is wrong with a line of these words, after lines that said those entries, where these forms are read.
-abbrev pub HasFault : (Entry → Bool) → List Entry → List (List ℕ) → Fault → Type 0
-HasFault forms said words NoForm = (entry : Entry) → Says forms words entry → ⊥
-HasFault forms said words Again = (entry : Entry) × Says forms words entry × (kind_number entry ≢ forbid_kind) × (most_of_kind (kind_number entry) ≤ count_of_kind (kind_number entry) said)
-HasFault forms said words NinthForbid = (entry : Entry) × Says forms words entry × (kind_number entry ≡ forbid_kind) × (most_of_kind forbid_kind ≤ count_of_kind forbid_kind said)
-HasFault forms said words TooBig = (entry : Entry) × Says forms words entry × (count_of_kind (kind_number entry) said < most_of_kind (kind_number entry)) × (10 < named_elements entry)
+abbrev pub HasFault : (Statement → Bool) → List Statement → List (List ℕ) → Fault → Type 0
+HasFault forms said words NoForm = (entry : Statement) → Says forms words entry → ⊥
+HasFault forms said words Again = (entry : Statement) × Says forms words entry × (kind_number entry ≢ forbid_kind) × (most_of_kind (kind_number entry) ≤ count_of_kind (kind_number entry) said)
+HasFault forms said words NinthForbid = (entry : Statement) × Says forms words entry × (kind_number entry ≡ forbid_kind) × (most_of_kind forbid_kind ≤ count_of_kind forbid_kind said)
+HasFault forms said words TooBig = (entry : Statement) × Says forms words entry × (count_of_kind (kind_number entry) said < most_of_kind (kind_number entry)) × (10 < named_elements entry)
 
 -- The line of this number is the first at fault: those before it are in order.
-pub record FirstFault (forms : Entry → Bool) (text : List ℕ) (number : ℕ) (fault : Fault) : Type 0 where
+pub record FirstFault (forms : Statement → Bool) (text : List ℕ) (number : ℕ) (fault : Fault) : Type 0 where
   pub short : length text ≤ most_bytes
   pub before : List (List ℕ)
   pub line : List ℕ
   pub after : List (List ℕ)
   pub split : lines_of text ≡ before ++ line ∷ after
   pub place : number ≡ length before + 1
-  pub said : List Entry
+  pub said : List Statement
   pub says : SayInTurn forms before said
   pub in_order : AreInOrder said
   pub counts : is_skipped (words_of line) ≡ false
   pub wrong : HasFault forms said (words_of line) fault
 
 -- No line is at fault, and these entries are said.
-pub record NoFault (forms : Entry → Bool) (text : List ℕ) (entries : List Entry) : Type 0 where
+pub record NoFault (forms : Statement → Bool) (text : List ℕ) (entries : List Statement) : Type 0 where
   pub short : length text ≤ most_bytes
   pub said : SayInTurn forms (lines_of text) entries
   pub in_order : AreInOrder entries
 
 -- the first of the three words that no line has
-abbrev pub IsMissing : List Entry → Word → Type 0
+abbrev pub IsMissing : List Statement → Word → Type 0
 IsMissing entries Rank = filter_map rank_in entries ≡ []
 IsMissing entries Field = (filter_map rank_in entries ≢ []) × (filter_map field_in entries ≡ [])
 IsMissing entries Size = (filter_map rank_in entries ≢ []) × (filter_map field_in entries ≢ []) × (filter_map size_in entries ≡ [])
 
 -- the three values that are said
-pub record AreValues (entries : List Entry) (rank : ℕ) (factors : List ℕ) (size : ℕ) : Type 0 where
+pub record AreValues (entries : List Statement) (rank : ℕ) (factors : List ℕ) (size : ℕ) : Type 0 where
   pub rank_said : filter_map rank_in entries ≡ rank ∷ []
   pub field_said : filter_map field_in entries ≡ factors ∷ []
   pub size_said : filter_map size_in entries ≡ size ∷ []
 
 -- all lines are there, and these are their values
-pub record HasValues (forms : Entry → Bool) (text : List ℕ) (rank : ℕ) (factors : List ℕ) (size : ℕ) : Type 0 where
-  pub entries : List Entry
+pub record HasValues (forms : Statement → Bool) (text : List ℕ) (rank : ℕ) (factors : List ℕ) (size : ℕ) : Type 0 where
+  pub entries : List Statement
   pub none : NoFault forms text entries
   pub values : AreValues entries rank factors size
 
 -- The text is refused so.
-abbrev pub HasRefusal : (Entry → Bool) → List ℕ → Refusal → Type 0
+abbrev pub HasRefusal : (Statement → Bool) → List ℕ → Refusal → Type 0
 HasRefusal forms text refusal.TooLong = most_bytes < length text
 HasRefusal forms text (refusal.BadLine n) = FirstFault forms text n NoForm
 HasRefusal forms text (refusal.Twice n) = FirstFault forms text n Again
 HasRefusal forms text (refusal.TooManyForbidden n) = FirstFault forms text n NinthForbid
 HasRefusal forms text (refusal.ForbidTooBig n) = FirstFault forms text n TooBig
-HasRefusal forms text (refusal.Missing word) = (entries : List Entry) × NoFault forms text entries × IsMissing entries word
-HasRefusal forms text (refusal.Rank v) = (factors : List ℕ) × (size : ℕ) × HasValues forms text v factors size × (IsRank v → ⊥)
-HasRefusal forms text (refusal.Size v) = (rank : ℕ) × (factors : List ℕ) × HasValues forms text rank factors v × IsRank rank × (IsSize rank v → ⊥)
-HasRefusal forms text (refusal.TooWide c) = (rank : ℕ) × (factors : List ℕ) × (size : ℕ) × HasValues forms text rank factors size × IsRank rank × IsSize rank size × (c ≡ column_count rank factors) × (most_columns < c)
+HasRefusal forms text (refusal.Missing word) = (entries : List Statement) × NoFault forms text entries × IsMissing entries word
+HasRefusal forms text (refusal.Rank v) = (factors : List ℕ) × (size : ℕ) × HasValues forms text v factors size × (IsRankInRange v → ⊥)
+HasRefusal forms text (refusal.Size v) = (rank : ℕ) × (factors : List ℕ) × HasValues forms text rank factors v × IsRankInRange rank × (IsSizeInRange rank v → ⊥)
+HasRefusal forms text (refusal.TooWide c) = (rank : ℕ) × (factors : List ℕ) × (size : ℕ) × HasValues forms text rank factors size × IsRankInRange rank × IsSizeInRange rank size × (c ≡ column_count rank factors) × (most_columns < c)

@@ -4,63 +4,63 @@ use Rattle.std.specs.List.{AllByRecursion, list_any, range_with_len}
 use Rattle.formats.specs.declared.refusal.PrintMode.{PrintMode}
 use Rattle.formats.specs.declared.refusal.PrintMode.TheVariants.{Forms, Counts}
 use Rattle.formats.specs.Lines.{lines_of, statements_of}
-use Rattle.formats.specs.Entry.{Minor, Entry, RankIs, FieldIs, SizeIs, Forbids, ListsConnected, ListsThreeConnected, ListsCosimple, ListsDistinct, ListsWith, Prints, IsEntry, spelling, kind_number, most_of_kind, named_elements}
+use Rattle.formats.specs.Statement.{MinorName, Statement, RankIs, FieldIs, SizeIs, Forbids, ListsConnected, ListsThreeConnected, ListsCosimple, ListsDistinct, ListsWith, Prints, IsStatement, spelling, kind_number, most_of_kind, named_elements}
 
 pub record Request : Type 0 where
   pub factors : List ℕ
   pub rank : ℕ
   pub size : ℕ
-  pub forbid : List Minor
+  pub forbid : List MinorName
   pub connected : Bool
   pub three_connected : Bool
   pub cosimple : Bool
   pub distinct : Bool
-  pub has : Option Minor
+  pub has : Option MinorName
   pub print : PrintMode
 
 -- The lines that aren't skipped say these entries, in their order, in forms that are read.
-pub record SayInTurn (forms : Entry → Bool) (lines : List (List ℕ)) (entries : List Entry) : Type 0 where
-  pub may : AllByRecursion IsEntry entries
+pub record SayInTurn (forms : Statement → Bool) (lines : List (List ℕ)) (entries : List Statement) : Type 0 where
+  pub may : AllByRecursion IsStatement entries
   pub are_read : AllByRecursion (λ entry. IsTrue (forms entry)) entries
   pub spelled : statements_of lines ≡ map spelling entries
 
-abbrev pub count_of_kind : ℕ → List Entry → ℕ
+abbrev pub count_of_kind : ℕ → List Statement → ℕ
 count_of_kind kind entries = count_by (λ entry. kind_number entry == kind) entries
 
 -- No kind stands too often, and no matroid that is named has more than ten elements.
-pub record AreInOrder (entries : List Entry) : Type 0 where
+pub record AreInOrder (entries : List Statement) : Type 0 where
   pub not_often : (kind : ℕ) → count_of_kind kind entries ≤ most_of_kind kind
   pub not_big : AllByRecursion (λ entry. named_elements entry ≤ 10) entries
 
-abbrev pub rank_in : Entry → Option ℕ
+abbrev pub rank_in : Statement → Option ℕ
 rank_in (RankIs n) = Some n
 rank_in _ = None
 
-abbrev pub field_in : Entry → Option (List ℕ)
+abbrev pub field_in : Statement → Option (List ℕ)
 field_in (FieldIs factors) = Some factors
 field_in _ = None
 
-abbrev pub size_in : Entry → Option ℕ
+abbrev pub size_in : Statement → Option ℕ
 size_in (SizeIs n) = Some n
 size_in _ = None
 
-abbrev pub forbidden_in : Entry → Option Minor
+abbrev pub forbidden_in : Statement → Option MinorName
 forbidden_in (Forbids minor) = Some minor
 forbidden_in _ = None
 
-abbrev pub wanted_in : Entry → Option Minor
+abbrev pub wanted_in : Statement → Option MinorName
 wanted_in (ListsWith minor) = Some minor
 wanted_in _ = None
 
-abbrev pub has_kind : Entry → List Entry → Bool
+abbrev pub has_kind : Statement → List Statement → Bool
 has_kind entry entries = list_any (λ other. kind_number other == kind_number entry) entries
 
-abbrev pub prints_counts : Entry → Bool
+abbrev pub prints_counts : Statement → Bool
 prints_counts (Prints Counts) = true
 prints_counts _ = false
 
 -- What is asked for in these entries, whatever their order.
-pub record AskFor (entries : List Entry) (request : Request) : Type 0 where
+pub record AskFor (entries : List Statement) (request : Request) : Type 0 where
   pub rank : filter_map rank_in entries ≡ request.rank ∷ []
   pub field : filter_map field_in entries ≡ request.factors ∷ []
   pub size : filter_map size_in entries ≡ request.size ∷ []
@@ -78,13 +78,13 @@ subsets n zero = 1
 subsets zero (suc k) = 0
 subsets (suc n) (suc k) = subsets n k + subsets n (suc k)
 
-abbrev pub product : List ℕ → ℕ
-product [] = 1
-product (n ∷ ns) = n * product ns
+abbrev pub product_of : List ℕ → ℕ
+product_of [] = 1
+product_of (n ∷ ns) = n * product_of ns
 
 -- how many normalised columns there are: for each support, the entries below its first
 abbrev pub column_count : ℕ → List ℕ → ℕ
-column_count rank factors = sum (map (λ s. subsets rank s * product (map (λ q. (q - 1) ^ (s - 1)) factors)) (range_with_len 1 rank))
+column_count rank factors = sum (map (λ s. subsets rank s * product_of (map (λ q. (q - 1) ^ (s - 1)) factors)) (range_with_len 1 rank))
 
 abbrev pub most_bytes : ℕ
 most_bytes = 65536
@@ -92,21 +92,21 @@ most_bytes = 65536
 abbrev pub most_columns : ℕ
 most_columns = 1000000
 
-abbrev pub IsRank : ℕ → Type 0
-IsRank rank = (1 ≤ rank) × (rank ≤ 6)
+abbrev pub IsRankInRange : ℕ → Type 0
+IsRankInRange rank = (1 ≤ rank) × (rank ≤ 6)
 
-abbrev pub IsSize : ℕ → ℕ → Type 0
-IsSize rank size = (rank ≤ size) × (size ≤ 16)
+abbrev pub IsSizeInRange : ℕ → ℕ → Type 0
+IsSizeInRange rank size = (rank ≤ size) × (size ≤ 16)
 
 pub record IsWithinLimits (request : Request) : Type 0 where
-  pub rank : IsRank request.rank
-  pub size : IsSize request.rank request.size
+  pub rank : IsRankInRange request.rank
+  pub size : IsSizeInRange request.rank request.size
   pub columns : column_count request.rank request.factors ≤ most_columns
 
 -- The text is a request, with lines of forms that are read, and this is what it asks for.
-pub record StandsFor (forms : Entry → Bool) (text : List ℕ) (request : Request) : Type 0 where
+pub record StandsFor (forms : Statement → Bool) (text : List ℕ) (request : Request) : Type 0 where
   pub short : length text ≤ most_bytes
-  pub entries : List Entry
+  pub entries : List Statement
   pub said : SayInTurn forms (lines_of text) entries
   pub in_order : AreInOrder entries
   pub asked : AskFor entries request

@@ -4,7 +4,7 @@ use Rattle.std.specs.List.{slice_get}
 use Rattle.std.proofs.lemmas.List.{map-append, take_more, length-map, get_or-map}
 use Rattle.std.proofs.lemmas.Option.{slice_get_within, get_or_from_slice_get}
 use Rattle.arrayvec.specs.ArrayVec.{ArrayVec}
-use Rattle.matroid_theory.specs.Rep.{Rep, size, IsRep, IsShaped, IsProductColumn}
+use Rattle.matroid_theory.specs.Rep.{Rep, size, KeepsLimits, IsShaped, IsProductColumn}
 use Rattle.matroid_theory.specs.Level.{followed_by}
 use Rattle.level_driver.specs.Children.{rep_of}
 
@@ -33,7 +33,7 @@ module _ (factors : List ℕ) (rank : ℕ) (items : List (ArrayVec ℕ)) (i : �
   its_items = get_or-map (λ (c : ArrayVec ℕ). c.items) items i v [] l ∙ ap (λ c. c.items) (sym is)
 
   -- the next column fits
-  pub column_fits : (M : Rep) → IsRep (rep_of factors rank columns) → M ≡ rep_of factors rank (take i columns) → IsProductColumn M.factors M.rank v.items
+  pub column_fits : (M : Rep) → KeepsLimits (rep_of factors rank columns) → M ≡ rep_of factors rank (take i columns) → IsProductColumn M.factors M.rank v.items
   column_fits M r e =
       subst (λ (M : Rep). IsProductColumn M.factors M.rank v.items) (sym e)
       (subst (IsProductColumn factors rank) its_items (column_shaped (rep_of factors rank columns) r.shaped i there_is))

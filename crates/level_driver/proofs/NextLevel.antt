@@ -6,7 +6,7 @@ use Rattle.std.proofs.lemmas.List.{take_more, take_all}
 use Rattle.std.proofs.lemmas.List.Elements.{Contains-get_or}
 use Rattle.matroid_theory.specs.declared.Mode.TheVariants.{Linear}
 use Rattle.matroid_theory.specs.Field.{IsFactors}
-use Rattle.matroid_theory.specs.Rep.{Rep, size, IsRep}
+use Rattle.matroid_theory.specs.Rep.{Rep, size, KeepsLimits}
 use Rattle.matroid_theory.specs.Move.{AreEquivalent}
 use Rattle.matroid_theory.specs.Order.{rep_cmp, IsForm}
 use Rattle.matroid_theory.specs.Minor.{Matroid}
@@ -161,7 +161,7 @@ module _ (q : Request) (family : Family) (grows : Grows q family) (n : ℕ) wher
       }
 
       -- what was found are columns of representations
-      pub found_reps : IsFactors q.factors → IsWithinLimits q → n < q.size → All (λ cs. IsRep (rep_of q.factors q.rank cs)) found
+      pub found_reps : IsFactors q.factors → IsWithinLimits q → n < q.size → All (λ cs. KeepsLimits (rep_of q.factors q.rank cs)) found
       found_reps fields limits l k d m =
           let f = found_form (get_or found k d) (Contains-get_or found k d m) in
           let w = f.member in
@@ -202,7 +202,7 @@ module _ (q : Request) (Ns : List Matroid) (given : AreGivenBy (map given_as q.f
     of_family : (family : Family) → Grows q family → HasGrown family.forbidden parents tried found
     of_family family grows = subst (λ (Ns : List Matroid). HasGrown Ns parents tried found) (forbidden_are q Ns family given grows) grown
 
-    pub each_rep : All (λ cs. IsRep (rep_of q.factors q.rank cs)) found
+    pub each_rep : All (λ cs. KeepsLimits (rep_of q.factors q.rank cs)) found
     each_rep = found_reps q (grown_by q Ns) (grows_it q Ns given) n parents its_level tried found grown fields.some fields limits h.before
 
     pub level_grown : AllPairs (λ M N. rep_cmp M N ≡ Less) (map (rep_of q.factors q.rank) found) → IsLevelOf q (n + 1) (map (rep_of q.factors q.rank) found)

@@ -1,7 +1,7 @@
 -- The first level of a request: the unit columns alone, where they avoid what is forbidden.
 use Rattle.std.proofs.Common.{◌≡◌, ◌∙◌, ℕ, zero, suc, List, [], ◌∷◌, map, sym, ap, subst, arith}
 use Rattle.std.specs.List.{Contains}
-use Rattle.matroid_theory.specs.Rep.{Rep, shape, size, IsRep, IsStandard}
+use Rattle.matroid_theory.specs.Rep.{Rep, shape, size, KeepsLimits, IsStandard}
 use Rattle.matroid_theory.specs.Matroid.{Agrees}
 use Rattle.matroid_theory.specs.Minor.{Matroid}
 use Rattle.matroid_theory.specs.Level.{Family, IsLevel, IsLevelForm}
@@ -16,7 +16,7 @@ use Rattle.level_driver.proofs.MinorsCarried.{all_given_unique}
 pub forbidden_are : (q : Request) (Ns : List Matroid) (family : Family) → AreGivenBy (map given_as q.forbid) Ns → Grows q family → Ns ≡ family.forbidden
 forbidden_are q Ns family given grows = all_given_unique (map given_as q.forbid) Ns family.forbidden given grows.forbids
 
-module _ (q : Request) (U : Rep) (is_rep : IsRep U) (standard : IsStandard U) (shape_is : shape U ≡ record { factors = q.factors; rank = q.rank; size = q.rank }) where
+module _ (q : Request) (U : Rep) (is_rep : KeepsLimits U) (standard : IsStandard U) (shape_is : shape U ≡ record { factors = q.factors; rank = q.rank; size = q.rank }) where
   square : size U ≡ U.rank
   square = ap (λ s. s.size) shape_is ∙ sym (ap (λ s. s.rank) shape_is)
 

@@ -2,7 +2,7 @@
 ghost use Rattle.std.specs.Prelude.{◌≡◌, [], map, IfOk, OnOk};
 ghost use Rattle.std.specs.List.{All, AllPairs};
 ghost use Rattle.std.specs.declared.cmp.Ordering.TheVariants.{Less as less};
-ghost use Rattle.matroid_theory.specs.Rep.{IsRep};
+ghost use Rattle.matroid_theory.specs.Rep.{KeepsLimits};
 ghost use Rattle.matroid_theory.specs.Order.{rep_cmp};
 ghost use Rattle.level_driver.specs.Children.{rep_of, Adds};
 
@@ -56,7 +56,7 @@ impl Found {
         factors: &Factors,
         rank: u8,
     ) -> Result<FormList, AllocError>
-        requires { All (λ columns. IsRep (rep_of factors.now rank columns)) self.now }
+        requires { All (λ columns. KeepsLimits (rep_of factors.now rank columns)) self.now }
         ensures forms { IfOk result (λ forms. forms ≡ map (rep_of factors.now rank) self.now) }
         ensures rising { IfOk result (λ forms. AllPairs (λ M N. rep_cmp M N ≡ less) forms) }
     {
@@ -84,7 +84,7 @@ fn columns_of(form: &Rep) -> ColumnList
 
 /// The representation with these columns.
 fn rep_with(factors: Factors, rank: u8, columns: &ColumnList) -> Rep
-    requires { IsRep (rep_of factors rank (map (λ c. c.items) columns.now.items)) }
+    requires { KeepsLimits (rep_of factors rank (map (λ c. c.items) columns.now.items)) }
     ensures { result ≡ rep_of factors rank (map (λ c. c.items) columns.now.items) }
 {
     let mut rep = Rep::empty(factors, rank);

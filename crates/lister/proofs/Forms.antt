@@ -2,9 +2,9 @@
 use Rattle.std.proofs.Common.{◌≡◌, ◌∙◌, ℕ, zero, suc, ◌+◌, ◌<◌, List, [], ◌∷◌, ◌++◌, map, ap, arith, refl, sym, append_assoc}
 use Rattle.std.specs.List.{AllByRecursion, range_with_len}
 use Rattle.std.proofs.lemmas.List.FromFn.{map-range_with_len_more}
-use Rattle.matroid_theory.specs.Rep.{Rep, count, size, order, matrix, column_of, IsRep}
+use Rattle.matroid_theory.specs.Rep.{Rep, count, size, order, matrix, column_of, KeepsLimits}
 use Rattle.std.specs.List.{join_with_byte}
-use Rattle.formats.specs.Entry.{column_word}
+use Rattle.formats.specs.Statement.{column_word}
 use Rattle.formats.specs.Levels.{columns_of, columns_of_factor}
 use Rattle.formats.specs.Listing.{factor_text}
 use Rattle.formats.specs.Lines.{joined}
@@ -19,7 +19,7 @@ each_digit g a zero h = tt
 each_digit g a (suc n) h = (h a (omega arith), each_digit g (a + 1) n (λ i l. h i (omega arith)))
 
 -- the codes of a representation are spelled by digits
-pub column_digits : (M : Rep) → IsRep M → (f j : ℕ) → f < count M → j < size M → HasDigits (column_of M f j)
+pub column_digits : (M : Rep) → KeepsLimits M → (f j : ℕ) → f < count M → j < size M → HasDigits (column_of M f j)
 column_digits M is_rep f j l m =
     each_digit (λ i. matrix M f i j) 0 M.rank (λ i n.
     let small : order M f < 10 = order_small (order M f) (is_rep.shaped.orders f l) in

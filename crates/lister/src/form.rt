@@ -1,7 +1,7 @@
 ghost use Rattle.std.specs.Prelude.{◌≡◌, ◌+◌, ◌*◌, ◌≤◌, ◌<◌, ◌++◌, length, map, codes};
 ghost use Rattle.std.specs.List.{AllByRecursion, range_with_len, join_with_byte};
 ghost use Rattle.matroid_theory.specs.Rep.{count, size, column_of};
-ghost use Rattle.formats.specs.Entry.{column_word as word_of_codes};
+ghost use Rattle.formats.specs.Statement.{column_word as word_of_codes};
 ghost use Rattle.formats.specs.Levels.{columns_of, columns_of_factor};
 ghost use Rattle.formats.specs.Listing.{factor_text};
 ghost use Rattle.formats.specs.Listing as listing;

@@ -1,8 +1,8 @@
 ghost use Rattle.std.specs.Prelude.{◌≡◌, ◌+◌, ◌*◌, ◌≤◌, [], ◌∷◌, ◌++◌, false, IsTrue, length, map, option_to_list, codes};
 ghost use Rattle.named_matroids.specs.Names.{named_by};
 ghost use Rattle.formats.specs.Lines.{line_of_words};
-ghost use Rattle.formats.specs.Entry.{Version, FieldIs, RankIs, SizeIs, Forbids, ListsWith, minor_words, spelling};
-ghost use Rattle.formats.specs.Listing.{text_of_entries};
+ghost use Rattle.formats.specs.Statement.{Version, FieldIs, RankIs, SizeIs, Forbids, ListsWith, minor_words, spelling};
+ghost use Rattle.formats.specs.Listing.{text_of_statements};
 ghost use Rattle.formats.specs.Listing as listing;
 ghost use Rattle.request_reader.specs.Filters.{wanted_of};
 ghost use Rattle.request_reader.specs.Plain.{minors_of};
@@ -76,7 +76,7 @@ fn push_forbid_line(head: &mut Head, item: &MinorItem)
 /// Appends the lines that forbid minors, in their order.
 fn push_forbid_lines(head: &mut Head, items: &[MinorItem])
     requires { length head.old.items + 16 * length items.now ≤ 900 }
-    ensures bytes { head.new.items ≡ head.old.items ++ text_of_entries (map Forbids (minors_of items.now)) }
+    ensures bytes { head.new.items ≡ head.old.items ++ text_of_statements (map Forbids (minors_of items.now)) }
     ensures short { length head.new.items ≤ length head.old.items + 16 * length items.now }
 {
     for item in items {
@@ -100,7 +100,7 @@ fn push_flag_line(head: &mut Head, is_set: bool, word: &[u8])
 /// Appends the line of the minor that a form must have, where there is one.
 fn push_has_line(head: &mut Head, filters: &Filters)
     requires { length head.old.items ≤ 900 }
-    ensures bytes { head.new.items ≡ head.old.items ++ text_of_entries (map ListsWith (option_to_list (wanted_of filters.now))) }
+    ensures bytes { head.new.items ≡ head.old.items ++ text_of_statements (map ListsWith (option_to_list (wanted_of filters.now))) }
     ensures short { length head.new.items ≤ length head.old.items + 20 }
 {
     if let Some(item) = &filters.has {
@@ -111,7 +111,7 @@ fn push_has_line(head: &mut Head, filters: &Filters)
 
 /// The lines of a head before those that forbid minors.
 fn first_lines(factors: &Factors, rank: u8, size: u8) -> Head
-    ensures bytes { result.items ≡ codes "macek listing 1\n" ++ text_of_entries (Version ∷ FieldIs factors.now ∷ RankIs rank ∷ SizeIs size ∷ []) }
+    ensures bytes { result.items ≡ codes "macek listing 1\n" ++ text_of_statements (Version ∷ FieldIs factors.now ∷ RankIs rank ∷ SizeIs size ∷ []) }
     ensures short { length result.items ≤ 100 }
 {
     let mut rank_text = Buffer::new();

@@ -7,7 +7,7 @@ use Rattle.outside.specs.Bytes.{AppendsFront}
 use Rattle.outside.proofs.Known.{appends_none, appends_more}
 use Rattle.formats.specs.Request.{Request}
 use Rattle.formats.specs.Listing.{LevelEntry, level_count, level_pieces, head_text, end_text, listing_blocks, text_of_blocks, end_blocks}
-use Rattle.formats.specs.Levels.{IsLevelEntry, AreFirstLevels, AreLevels, IsListing, IsListingUpTo, IsCutListing}
+use Rattle.formats.specs.Levels.{IsLevelEntry, AreFirstLevels, AreLevels, IsListing, IsListingUpTo, IsListingCutOff}
 use Rattle.formats.specs.Run.{Gains}
 use Rattle.formats.proofs.Fronts.{level_blocks, text-append, more_levels, blocks_of_some, blocks_of_all}
 use Rattle.macek_run.specs.declared.write.Stop.{Stop}
@@ -81,7 +81,7 @@ module _ (q : Request) (old new : Option (List ℕ)) (room : 0 < level_count q) 
   first_levels : (Part : List ℕ → Type 0) (told : TellsLevel q q.rank (head_text q) Part) → AreFirstLevels q (told.entry ∷ [])
   first_levels Part told = more_first_levels q [] told.entry (no_levels q) told.is_entry (told.at ∙ (let e : q.rank ≡ q.rank + 0 = omega arith in e)) room
 
-  first_cut : TellsLevel q q.rank (head_text q) (AppendsFront old new) → Gains old new (IsCutListing q 0)
+  first_cut : TellsLevel q q.rank (head_text q) (AppendsFront old new) → Gains old new (IsListingCutOff q 0)
   first_cut told = record {
     written = told.part.front;
     gained = told.part.added;
@@ -163,7 +163,7 @@ module _ (q : Request) (size : ℕ) (old mid : Option (List ℕ)) (begun : HaveB
             ∙ ap (λ (t : List ℕ). text_of_blocks (level_blocks q begun.levels) ++ t) (append-nil (concat (level_pieces q.print told.entry))))) (appends_more old mid new _ _ begun.gained told.part);
       }
 
-      next_cut : (new : Option (List ℕ)) → TellsLevel q (size + 1) [] (AppendsFront mid new) → Gains old new (IsCutListing q (size + 1 - q.rank))
+      next_cut : (new : Option (List ℕ)) → TellsLevel q (size + 1) [] (AppendsFront mid new) → Gains old new (IsListingCutOff q (size + 1 - q.rank))
       next_cut new told = record {
         written = text_of_blocks (level_blocks q begun.levels) ++ told.part.front;
         gained = appends_more old mid new _ _ begun.gained told.part.added;
@@ -217,7 +217,7 @@ module _ (q : Request) (old mid new : Option (List ℕ)) (begun : Gains old mid 
   }
 
   -- a write failed in it
-  pub end_cut : 0 < level_count q → AppendsFront mid new end_text → Gains old new (IsCutListing q (level_count q))
+  pub end_cut : 0 < level_count q → AppendsFront mid new end_text → Gains old new (IsListingCutOff q (level_count q))
   end_cut some failed = record {
     written = begun.written ++ failed.front;
     gained = appends_more old mid new begun.written failed.front begun.gained failed.added;

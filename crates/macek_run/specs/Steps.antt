@@ -3,7 +3,7 @@ use Rattle.std.specs.Prelude.{◌≡◌, ℕ, List, ◌++◌}
 use Rattle.std.specs.List.{concat}
 use Rattle.formats.specs.Request.{Request}
 use Rattle.formats.specs.Listing.{LevelEntry, level_pieces}
-use Rattle.formats.specs.Levels.{IsLevelEntry, IsListingUpTo, IsCutListing}
+use Rattle.formats.specs.Levels.{IsLevelEntry, IsListingUpTo, IsListingCutOff}
 use Rattle.macek_run.specs.declared.write.Stop.{Stop}
 use Rattle.macek_run.specs.declared.write.Stop.TheVariants.{Failed, NoMemory}
 
@@ -16,5 +16,5 @@ pub record TellsLevel (q : Request) (n : ℕ) (front : List ℕ) (Part : List �
 
 -- The text is less than the listing, with so many whole levels.
 abbrev pub IsLess : Stop → Request → ℕ → List ℕ → Type 0
-IsLess Failed q whole text = IsCutListing q whole text
+IsLess Failed q whole text = IsListingCutOff q whole text
 IsLess NoMemory q whole text = IsListingUpTo q whole text

@@ -2,7 +2,7 @@
 ghost use Rattle.std.specs.Prelude.{◌≡◌, ◌++◌, ◌⊎◌, OnOk, IfErr};
 ghost use Rattle.outside.specs.Causes.{Rose};
 ghost use Rattle.formats.specs.Listing.{level_count, end_text as the_end};
-ghost use Rattle.formats.specs.Levels.{IsListing, IsListingUpTo, IsCutListing};
+ghost use Rattle.formats.specs.Levels.{IsListing, IsListingUpTo, IsListingCutOff};
 ghost use Rattle.formats.specs.Run.{Gains};
 ghost use Rattle.macek_run.specs.Steps.{IsLess};
 
@@ -64,7 +64,7 @@ pub fn write_listing<K: Sink>(alloc: Global, request: &Request, sink: &mut K) ->
         Gains (K.held sink.old) (K.held sink.new) (IsListing request.now)
         × (result.levels ≡ level_count request.now) × (K.faults sink.new ≡ K.faults sink.old) }
     ensures write_fault { result.status ≡ Status.WriteFault →
-        Gains (K.held sink.old) (K.held sink.new) (IsCutListing request.now result.levels)
+        Gains (K.held sink.old) (K.held sink.new) (IsListingCutOff request.now result.levels)
         × Rose (K.faults sink.old) (K.faults sink.new) }
     ensures no_memory { result.status ≡ Status.NoMemory →
         Gains (K.held sink.old) (K.held sink.new) (IsListingUpTo request.now result.levels) }

@@ -4,7 +4,7 @@ use Rattle.std.specs.Bool.{◌==◌}
 use Rattle.std.proofs.lemmas.Bool.{cases_lt, cases_eq, cases_Bool}
 use mathlib.Core.Bool.{true≢false}
 use Rattle.matroid_theory.specs.Field.{plus, times, negative, inverse, IsField}
-use Rattle.matroid_theory.specs.Matrix.{Matrix, combination, product, unit, size_below, AreCoefficients, IsIndependent, IsIndependentPart, IsRankOf}
+use Rattle.matroid_theory.specs.Matrix.{Matrix, combination, matrix_product, unit, size_below, AreCoefficients, IsIndependent, IsIndependentPart, IsRankOf}
 use Rattle.matroid_theory.specs.Matroid.{members}
 use Rattle.matroid_theory.proofs.Sums.{zero_below, plus_zero_right, combination-product, combination-scaled, sum_same, sum_zero, times_zero, zero_times, same_number, other_number}
 use Rattle.matroid_theory.proofs.Steps.{cleared_entry}
@@ -241,7 +241,7 @@ module _ (q : ℕ) (F : IsField q) (r n : ℕ) (A : Matrix) (codes : (i j : ℕ)
     -- A_J a = A (X a), and X a is 0
     picked_combination : (a : ℕ → ℕ) → ((i : ℕ) → i < size_below n I → combination q (size_below n J) (λ i l. coefficients (pick n I i) l) a i ≡ 0) → (i : ℕ) → i < r → combination q (size_below n J) (λ i l. A i (pick n J l)) a i ≡ 0
     picked_combination a z i m =
-        sum_same q F (size_below n J) (λ l. times q (A i (pick n J l)) (a l)) (λ l. times q (product q n A coefficients i l) (a l)) (λ l o. ap (λ y. times q y (a l)) (sym (X_is (pick n J l) (p.below l o) (p.member l o) i m)))
+        sum_same q F (size_below n J) (λ l. times q (A i (pick n J l)) (a l)) (λ l. times q (matrix_product q n A coefficients i l) (a l)) (λ l o. ap (λ y. times q y (a l)) (sym (X_is (pick n J l) (p.below l o) (p.member l o) i m)))
         ∙ combination-product q F (size_below n J) n A coefficients a i
         ∙ combination_zero q F n A (combination q (size_below n J) coefficients a) i row
       where

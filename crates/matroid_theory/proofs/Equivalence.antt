@@ -3,7 +3,7 @@ use Rattle.std.proofs.Common.{◌≡◌, ◌≢◌, ℕ, ◌+◌, ◌-◌, ◌%�
 use Rattle.std.specs.Bool.{◌==◌}
 use Rattle.std.proofs.Math.Nat.{mod-lt, zero-mod, mod_self, sub-zero}
 use Rattle.matroid_theory.specs.Field.{times, inverse, degree, raised, IsField, IsOrder}
-use Rattle.matroid_theory.specs.Matrix.{Matrix, combination, product, AreInverse, unit}
+use Rattle.matroid_theory.specs.Matrix.{Matrix, combination, matrix_product, AreInverse, unit}
 use Rattle.matroid_theory.specs.Rep.{Rep, Shape, shape, matrix, order, IsShaped}
 use Rattle.matroid_theory.specs.declared.Mode.{Mode}
 use Rattle.matroid_theory.specs.declared.Mode.TheVariants.{Linear, Semilinear}
@@ -18,7 +18,7 @@ module _ (q : ℕ) (F : IsField q) (r : ℕ) where
   -- a move after a move, in one factor
   one_after : (t2 t1 s2 s1 : ℕ) (G2 G1 : Matrix) (a : ℕ → ℕ) (i : ℕ) → 0 < degree q → ((k : ℕ) → k < r → a k < q)
       → times q s2 (combination q r G2 (λ k. raised q t2 (times q s1 (combination q r G1 (λ l. raised q t1 (a l)) k))) i)
-      ≡ times q (times q s2 (raised q t2 s1)) (combination q r (product q r G2 (λ k l. raised q t2 (G1 k l))) (λ l. raised q ((t2 + t1) % degree q) (a l)) i)
+      ≡ times q (times q s2 (raised q t2 s1)) (combination q r (matrix_product q r G2 (λ k l. raised q t2 (G1 k l))) (λ l. raised q ((t2 + t1) % degree q) (a l)) i)
   one_after t2 t1 s2 s1 G2 G1 a i d c =
       ap (times q s2)
       (combination-same q F r G2 (λ k. raised q t2 (times q s1 (combination q r G1 (λ l. raised q t1 (a l)) k))) (λ k. times q (raised q t2 s1) (combination q r (λ k l. raised q t2 (G1 k l)) (λ l. raised q ((t2 + t1) % degree q) (a l)) k)) i
@@ -74,8 +74,8 @@ unfoldable pub after : Shape → Move → Move → Move
 after S a b =
     record {
       power = λ f. (a.power f + b.power f) % degree (slice_index S.factors f);
-      rows = λ f. product (slice_index S.factors f) S.rank (a.rows f) (λ k l. raised (slice_index S.factors f) (a.power f) (b.rows f k l));
-      back = λ f. product (slice_index S.factors f) S.rank (λ k l. raised (slice_index S.factors f) (a.power f) (b.back f k l)) (a.back f);
+      rows = λ f. matrix_product (slice_index S.factors f) S.rank (a.rows f) (λ k l. raised (slice_index S.factors f) (a.power f) (b.rows f k l));
+      back = λ f. matrix_product (slice_index S.factors f) S.rank (λ k l. raised (slice_index S.factors f) (a.power f) (b.back f k l)) (a.back f);
       scalar = λ f j. times (slice_index S.factors f) (a.scalar f j) (raised (slice_index S.factors f) (a.power f) (b.scalar f (a.label j)));
       label = λ j. b.label (a.label j);
       place = λ j. a.place (b.place j);
@@ -117,7 +117,7 @@ module _ (mode : Mode) (S : Shape) (fields : (f : ℕ) → f < length S.factors 
     labels = record { below = λ j l. l; inverse_below = λ j l. l; there = λ j l. refl; back = λ j l. refl };
   }
     where
-      units : (f : ℕ) → f < length S.factors → (i j : ℕ) → i < S.rank → j < S.rank → product (slice_index S.factors f) S.rank unit unit i j ≡ unit i j
+      units : (f : ℕ) → f < length S.factors → (i j : ℕ) → i < S.rank → j < S.rank → matrix_product (slice_index S.factors f) S.rank unit unit i j ≡ unit i j
       units f l i j m n = let F = law f l in combination-unit (slice_index S.factors f) F S.rank (λ k. unit k j) i m (unit_code (slice_index S.factors f) F.two i j)
 
   pub after_move : (a b : Move) → IsMove mode S a → IsMove mode S b → IsMove mode S (after S a b)

@@ -82,16 +82,6 @@ module _ (U : Rep) (shaped : IsShaped U) (standard : IsStandard U) (square : siz
       s.units f i j (subst (λ s. f < length s.factors) (sym e) l) (subst (λ s. i < s.rank) (sym e) m) (subst (λ s. j < s.rank) (sym e) n')
       ∙ sym (standard.units f i j l m n'))
 
-  pub unit_form : (mode : Mode) → IsForm mode U
-  unit_form mode = record {
-    shaped = shaped;
-    standard = standard;
-    least = λ N s e g.
-        let p : N ≡ U = unit_only N e.takes.shaped s e.takes.same_shape in
-        let t = columns_total in
-        reversed (rep_cmp U U) (t.antisymm U.columns U.columns) (ap (rep_cmp U) (sym p) ∙ g);
-  }
-
   -- all columns are independent in each factor
   all_independent : (f : ℕ) → f < count U → IsIndependentIn U f (λ _. true)
   all_independent f l =
@@ -115,22 +105,31 @@ module _ (U : Rep) (shaped : IsShaped U) (standard : IsStandard U) (square : siz
   pub unit_simple : IsSimple U
   unit_simple f i j l m n = some_independent f l (λ k. (k == i) || (k == j))
 
+  pub unit_form : 0 < count U → (mode : Mode) → IsForm mode U
+  unit_form some mode = record {
+    representation = record { some = some; shaped = shaped; agrees = unit_agrees };
+    standard = standard;
+    least = λ N s e g.
+        let p : N ≡ U = unit_only N e.takes.shaped s e.takes.same_shape in
+        let t = columns_total in
+        reversed (rep_cmp U U) (t.antisymm U.columns U.columns) (ap (rep_cmp U) (sym p) ∙ g);
+  }
+
   -- where it has no forbidden minor, it is the level
-  pub first_level : (q : Family) → U.factors ≡ q.factors → U.rank ≡ q.rank → All (λ N. ¬ (IsMinor N U)) q.forbidden → IsLevel q q.rank (U ∷ [])
-  first_level q factors rank avoids = record {
+  pub first_level : 0 < count U → (q : Family) → U.factors ≡ q.factors → U.rank ≡ q.rank → All (λ N. ¬ (IsMinor N U)) q.forbidden → IsLevel q q.rank (U ∷ [])
+  first_level some q factors rank avoids = record {
     rising = λ i j d l m. absurd (omega arith);
     exact = λ M. (there M, back M);
   }
     where
       member : IsLevelForm q q.rank U
       member = record {
-        form = unit_form q.mode;
+        form = unit_form some q.mode;
         member = record {
           same_factors = factors;
           ranks = rank;
           sizes = square ∙ rank;
-          shaped = shaped;
-          agrees = unit_agrees;
+          representation = record { some = some; shaped = shaped; agrees = unit_agrees };
           simple = unit_simple;
           avoids = avoids;
         };
@@ -144,5 +143,6 @@ module _ (U : Rep) (shaped : IsShaped U) (standard : IsStandard U) (square : siz
       back M h =
           let m = h.member in
           let f = h.form in
+          let w = m.representation in
           let as_large : size M ≡ size U = m.sizes ∙ sym rank ∙ sym square in
-          (0, lit< tt, sym (unit_only M m.shaped f.standard (λ i. record { factors = (m.same_factors ∙ sym factors) i; rank = (m.ranks ∙ sym rank) i; size = as_large i })))
+          (0, lit< tt, sym (unit_only M w.shaped f.standard (λ i. record { factors = (m.same_factors ∙ sym factors) i; rank = (m.ranks ∙ sym rank) i; size = as_large i })))

@@ -295,9 +295,10 @@ unit_normalised P v shaped st b = record {
     code i f l m = sym (matrix_last P v f i) ∙ st.units f i (size P) m l b
 
 -- the last column of a simple form is normalised
-pub last_normalised : (mode : Mode) (P : Rep) (v : List ℕ) → 0 < count P → IsForm mode (followed_by P v) → Agrees (followed_by P v) → IsSimple (followed_by P v) → IsNormalised P.factors P.rank v
-last_normalised mode P v pos h a simple =
+pub last_normalised : (mode : Mode) (P : Rep) (v : List ℕ) → IsForm mode (followed_by P v) → IsSimple (followed_by P v) → IsNormalised P.factors P.rank v
+last_normalised mode P v h simple =
+    let w = h.representation in
     elim (cases_lt (size P) P.rank) [
-      | inl b ↦ unit_normalised P v h.shaped h.standard b
-      | inr room ↦ normalised P v h.shaped (standard_before P v room h.standard) mode h pos a simple
+      | inl b ↦ unit_normalised P v w.shaped h.standard b
+      | inr room ↦ normalised P v w.shaped (standard_before P v room h.standard) mode h w.some w.agrees simple
     ]

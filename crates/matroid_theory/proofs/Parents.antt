@@ -9,25 +9,25 @@ use Rattle.matroid_theory.proofs.Prefix.{prefix_form}
 use Rattle.matroid_theory.proofs.Rest.{units_basis, rest_member}
 use Rattle.matroid_theory.proofs.Normalised.{last_normalised}
 
-pub last_try : (q : Family) (n : ℕ) (P : Rep) (v : List ℕ) → 0 < length q.factors → q.rank ≤ n → IsLevelForm q (n + 1) (followed_by P v) → IsTry q n (P, v)
-last_try q n P v some room h = record {
+pub last_try : (q : Family) (n : ℕ) (P : Rep) (v : List ℕ) → q.rank < n → IsLevelForm q n (followed_by P v) → IsTry q n (P, v)
+last_try q n P v room h = record {
   parent = record {
     form = form;
-    member = rest_member q n P v (λ j. nat_lt j P.rank) some (units_basis P form.shaped form.standard 0 pos) h.member;
+    member = (let w = form.representation in
+        rest_member q n P v (λ j. nat_lt j P.rank) (units_basis P w.shaped form.standard 0 w.some) h.member);
   };
   column = (let m = h.member in
-      subst (λ fs. IsNormalised fs q.rank v) m.same_factors (subst (λ r. IsNormalised P.factors r v) m.ranks (last_normalised q.mode P v pos h.form m.agrees m.simple)));
+      subst (λ fs. IsNormalised fs q.rank v) m.same_factors
+      (subst (λ r. IsNormalised P.factors r v) m.ranks (last_normalised q.mode P v h.form m.simple)));
   member = h.member;
 }
   where
-    pos : 0 < count P
-    pos = let m = h.member in subst (λ fs. 0 < length fs) (sym m.same_factors) some
 
     enough : P.rank ≤ size P
     enough =
         let m = h.member in
         let k : size (followed_by P v) ≡ suc (size P) = size_followed P v in
-        let e : size (followed_by P v) ≡ n + 1 = m.sizes in
+        let e : size (followed_by P v) ≡ n = m.sizes in
         let r : P.rank ≡ q.rank = m.ranks in
         omega arith
 

@@ -1,6 +1,6 @@
 -- Where the last column of a form is left out, a form is left.
 use Rattle.std.proofs.Common.{◌≡◌, ◌≢◌, ℕ, zero, suc, ◌<◌, ◌≤◌, refl, sym, ◌∙◌, ap, subst, arith, List, [], ◌∷◌, ◌++◌, length, cond, inl, inr, slice_index}
-use Rattle.std.specs.Bool.{◌==◌}
+use Rattle.std.specs.Bool.{◌==◌, nat_lt}
 use Rattle.std.proofs.lemmas.Bool.{cases_lt}
 use Rattle.std.specs.Cmp.Lexicographic.{slice_cmp}
 use Rattle.std.specs.Ordering.{nat_cmp, ordering_then}
@@ -8,13 +8,15 @@ use Rattle.std.specs.declared.cmp.Ordering.{Ordering}
 use Rattle.std.specs.declared.cmp.Ordering.TheVariants.{Less, Equal, Greater}
 use Rattle.matroid_theory.specs.Field.{IsOrder, IsField, times, raised}
 use Rattle.matroid_theory.specs.Matrix.{Matrix, combination}
-use Rattle.matroid_theory.specs.Rep.{Rep, Shape, shape, count, size, order, matrix, IsShaped}
+use Rattle.matroid_theory.specs.Rep.{Rep, Shape, shape, count, size, order, matrix, IsShaped, IsStandard}
+use Rattle.matroid_theory.specs.Matroid.{IsRepresentation}
 use Rattle.matroid_theory.specs.declared.Mode.{Mode}
 use Rattle.matroid_theory.specs.Move.{Move, IsMove, moved, AreEquivalent}
 use Rattle.matroid_theory.specs.Order.{IsForm}
 use Rattle.matroid_theory.specs.Level.{followed_by}
 use Rattle.matroid_theory.proofs.FieldLaws.{field_laws}
 use Rattle.matroid_theory.proofs.Sums.{same_number, other_number, combination-same}
+use Rattle.matroid_theory.proofs.Rest.{units_basis, rest_agrees}
 use Rattle.matroid_theory.proofs.Columns.{column_with, column_with-at, column_with_codes}
 use Rattle.matroid_theory.proofs.Followed.{matrix_before, matrix_last, size_followed, shaped_pushed, shaped_before, standard_followed, standard_before}
 
@@ -155,12 +157,22 @@ module _ (mode : Mode) (P P' : Rep) (v : List ℕ) (whole : IsShaped (followed_b
 -- where the last column of a form is left out, and there are still rank many columns, a form is left
 pub prefix_form : (mode : Mode) (P : Rep) (v : List ℕ) → P.rank ≤ size P → IsForm mode (followed_by P v) → IsForm mode P
 prefix_form mode P v room h = record {
-  shaped = shaped_before P v whole;
-  standard = standard_before P v room h.standard;
+  representation = record {
+    some = form.some;
+    shaped = shaped_before P v whole;
+    agrees = rest_agrees P v whole form.some (λ j. nat_lt j P.rank) (units_basis P (shaped_before P v whole) standard 0 form.some) form.agrees;
+  };
+  standard = standard;
   least = λ P' s e g. h.least (followed_by P' (last mode P P' v whole e)) (standard_followed P' (last mode P P' v whole e) s) (equivalent_whole mode P P' v whole e)
       (slice_cmp-append (slice_cmp nat_cmp) P.columns (v ∷ []) P'.columns (last mode P P' v whole e ∷ []) (sym (same_size mode P P' v whole e))
       ∙ ap (λ (o : Ordering). ordering_then o (slice_cmp (slice_cmp nat_cmp) (v ∷ []) (last mode P P' v whole e ∷ []))) g);
 }
   where
+    form : IsRepresentation (followed_by P v)
+    form = h.representation
+
     whole : IsShaped (followed_by P v)
-    whole = h.shaped
+    whole = form.shaped
+
+    standard : IsStandard P
+    standard = standard_before P v room h.standard

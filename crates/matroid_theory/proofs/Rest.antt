@@ -74,7 +74,7 @@ module _ (P : Rep) (v : List ℕ) (shaped : IsShaped (followed_by P v)) where
       let w = basis_in_whole f l (but (size P) S) (but_own (size P) S) (IsBasis-same P f S (but (size P) S) (λ j o. sym (other S j o)) b) in
       IsBasis-same P g (but (size P) S) S (other S) (basis_in_part g m (but (size P) S) (but_own (size P) S) (a.same f g l m (but (size P) S) w))
 
-  rest_agrees : 0 < count P → (S : ℕ → Bool) → IsBasis P 0 S → Agrees (followed_by P v) → Agrees P
+  pub rest_agrees : 0 < count P → (S : ℕ → Bool) → IsBasis P 0 S → Agrees (followed_by P v) → Agrees P
   rest_agrees pos S b a = record {
     some = λ f l. (S, rest_same a 0 f pos l S b);
     same = rest_same a;
@@ -117,17 +117,18 @@ module _ (P : Rep) (v : List ℕ) (shaped : IsShaped (followed_by P v)) where
       none : (X : ℕ) → image N.size f (members X) (size P) ≡ false
       none X = any_none N.size (λ x. members X x && (f x == size P)) (λ x l. and_false (members X x) (f x == size P) (other_number (f x) (size P) (λ e. (let i = h.injection in let b : f x < size P = i.below x l in absurd (omega arith)))))
 
-  rest_member_of : (q : Family) (n : ℕ) (S : ℕ → Bool) → 0 < count P → IsBasis P 0 S → IsMember q (n + 1) (followed_by P v) → IsMember q n P
-  rest_member_of q n S pos b m = record {
-    same_factors = m.same_factors;
-    ranks = m.ranks;
-    sizes = (let k : size (followed_by P v) ≡ suc (size P) = size_followed P v in let e : size (followed_by P v) ≡ n + 1 = m.sizes in omega arith);
-    shaped = shaped_before P v shaped;
-    agrees = rest_agrees pos S b m.agrees;
-    simple = rest_simple m.simple;
-    avoids = λ k d l w. m.avoids k d l (rest_minor _ pos w);
-  }
+  rest_member_of : (q : Family) (n : ℕ) (S : ℕ → Bool) → IsBasis P 0 S → IsMember q n (followed_by P v) → IsMember q (size P) P
+  rest_member_of q n S b m =
+      let w = m.representation in
+      record {
+        same_factors = m.same_factors;
+        ranks = m.ranks;
+        sizes = refl;
+        representation = record { some = w.some; shaped = shaped_before P v shaped; agrees = rest_agrees w.some S b w.agrees };
+        simple = rest_simple m.simple;
+        avoids = λ k d l x. m.avoids k d l (rest_minor _ w.some x);
+      }
 
 -- where the last column of a member is left out, and there is still a basis, a member is left
-pub rest_member : (q : Family) (n : ℕ) (P : Rep) (v : List ℕ) (S : ℕ → Bool) → 0 < length q.factors → IsBasis P 0 S → IsMember q (n + 1) (followed_by P v) → IsMember q n P
-rest_member q n P v S pos b m = rest_member_of P v m.shaped q n S (subst (λ fs. 0 < length fs) (sym m.same_factors) pos) b m
+pub rest_member : (q : Family) (n : ℕ) (P : Rep) (v : List ℕ) (S : ℕ → Bool) → IsBasis P 0 S → IsMember q n (followed_by P v) → IsMember q (size P) P
+rest_member q n P v S b m = let w = m.representation in rest_member_of P v w.shaped q n S b m

@@ -4,7 +4,7 @@ use Rattle.matroid_theory.specs.Move.{ArePermutation}
 use Rattle.std.specs.Bool.{◌==◌}
 use Rattle.std.proofs.lemmas.Bool.{cases_lt, cases_Bool}
 use Rattle.matroid_theory.specs.Field.{plus, times, negative, IsField}
-use Rattle.matroid_theory.specs.Matrix.{Matrix, sum_below, combination, product, unit, AreInverse}
+use Rattle.matroid_theory.specs.Matrix.{Matrix, sum_below, combination, matrix_product, unit, AreInverse}
 
 pub same_number : (i : ℕ) → (i == i) ≡ true
 same_number i = eq-eqb i i refl
@@ -107,7 +107,7 @@ module _ (q : ℕ) (F : IsField q) where
       other j _ ne = ap (λ b. times q (cond b 1 0) (a j)) (other_number i j (λ e. ne (sym e))) ∙ zero_times (a j)
 
   -- (G H) a = G (H a)
-  pub combination-product : (n m : ℕ) (G H : Matrix) (a : ℕ → ℕ) (i : ℕ) → combination q n (product q m G H) a i ≡ combination q m G (combination q n H a) i
+  pub combination-product : (n m : ℕ) (G H : Matrix) (a : ℕ → ℕ) (i : ℕ) → combination q n (matrix_product q m G H) a i ≡ combination q m G (combination q n H a) i
   combination-product n m G H a i =
       sum_same n (λ j. times q (sum_below q m (λ k. times q (G i k) (H k j))) (a j)) (λ j. sum_below q m (λ k. times q (times q (G i k) (H k j)) (a j)))
       (λ j _. sym (sum_times_right m (a j) (λ k. times q (G i k) (H k j))))
@@ -129,7 +129,7 @@ module _ (q : ℕ) (F : IsField q) where
   pub inverse-undoes : (r : ℕ) (G H : Matrix) → AreInverse q r G H → (a : ℕ → ℕ) (i : ℕ) → i < r → a i < q → combination q r G (combination q r H a) i ≡ a i
   inverse-undoes r G H v a i l c =
       sym (combination-product r r G H a i)
-      ∙ sum_same r (λ j. times q (product q r G H i j) (a j)) (λ j. times q (unit i j) (a j)) (λ j m. ap (λ x. times q x (a j)) (v.right i j l m))
+      ∙ sum_same r (λ j. times q (matrix_product q r G H i j) (a j)) (λ j. times q (unit i j) (a j)) (λ j m. ap (λ x. times q x (a j)) (v.right i j l m))
       ∙ combination-unit r a i l c
 
   -- a sum in another order

@@ -1,10 +1,9 @@
 -- Members, levels, what is listed, and tries.
---     Every representation that is spoken of here is a member, so it is shaped and its factors agree.
 use Rattle.std.specs.Prelude.{ℕ, ◌+◌, ◌*◌, ◌<◌, ◌≡◌, ◌≢◌, ◌↔◌, List, [], ◌∷◌, ◌++◌, length, slice_index, Bool, IsTrue, Option, IfSome}
 use Rattle.std.specs.List.{All, AllPairs, Contains}
 use Rattle.std.specs.declared.cmp.Ordering.TheVariants.{Less}
-use Rattle.matroid_theory.specs.Rep.{Rep, IsShaped, IsProductColumn, size}
-use Rattle.matroid_theory.specs.Matroid.{Agrees, IsSimple}
+use Rattle.matroid_theory.specs.Rep.{Rep, IsProductColumn, size}
+use Rattle.matroid_theory.specs.Matroid.{IsRepresentation, IsSimple}
 use Rattle.matroid_theory.specs.declared.Mode.{Mode}
 use Rattle.matroid_theory.specs.Move.{AreEquivalent}
 use Rattle.matroid_theory.specs.Order.{rep_cmp, IsForm}
@@ -23,8 +22,7 @@ pub record IsMember (q : Family) (n : ℕ) (M : Rep) : Type 0 where
   pub same_factors : M.factors ≡ q.factors
   pub ranks : M.rank ≡ q.rank
   pub sizes : size M ≡ n
-  pub shaped : IsShaped M
-  pub agrees : Agrees M
+  pub representation : IsRepresentation M
   pub simple : IsSimple M
   pub avoids : All (λ N. ¬ (IsMinor N M)) q.forbidden
 
@@ -74,11 +72,11 @@ pub record IsNormalised (factors : List ℕ) (rank : ℕ) (v : List ℕ) : Type 
 abbrev pub followed_by : Rep → List ℕ → Rep
 followed_by P v = record P { columns = P.columns ++ v ∷ [] }
 
--- a try of size n + 1: a form P of the level of size n and a normalised column v such that P followed by v is a member
+-- a try of size n: a form P of its level and a normalised column v such that P followed by v is a member of size n
 pub record IsTry (q : Family) (n : ℕ) (try : Rep × List ℕ) : Type 0 where
-  pub parent : IsLevelForm q n try.0
+  pub parent : IsLevelForm q (size try.0) try.0
   pub column : IsNormalised q.factors q.rank try.1
-  pub member : IsMember q (n + 1) (followed_by try.0 try.1)
+  pub member : IsMember q n (followed_by try.0 try.1)
 
 -- a try whose form is N
 pub record IsTryFor (q : Family) (n : ℕ) (N : Rep) (try : Rep × List ℕ) : Type 0 where

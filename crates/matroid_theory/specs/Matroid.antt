@@ -2,7 +2,7 @@
 use Rattle.std.specs.Prelude.{ℕ, ◌<◌, ◌≡◌, ◌==◌, ◌||◌, Bool}
 use Rattle.std.specs.Int.{bit_at}
 use Rattle.matroid_theory.specs.Matrix.{IsIndependent, size_below}
-use Rattle.matroid_theory.specs.Rep.{Rep, count, size, order, matrix}
+use Rattle.matroid_theory.specs.Rep.{Rep, count, size, order, matrix, IsShaped}
 
 -- the set that a mask stands for: bit j stands for column j
 abbrev pub members : ℕ → ℕ → Bool
@@ -21,6 +21,12 @@ pub record IsBasis (M : Rep) (f : ℕ) (S : ℕ → Bool) : Type 0 where
 pub record Agrees (M : Rep) : Type 0 where
   pub some : (f : ℕ) → f < count M → (S : ℕ → Bool) × IsBasis M f S
   pub same : (f g : ℕ) → f < count M → g < count M → (S : ℕ → Bool) → IsBasis M f S → IsBasis M g S
+
+-- a representation over a product of fields: there is a factor, the matrices are shaped, and the factors agree
+pub record IsRepresentation (M : Rep) : Type 0 where
+  pub some : 0 < count M
+  pub shaped : IsShaped M
+  pub agrees : Agrees M
 
 -- in every factor each set of one or two columns is independent
 abbrev pub IsSimple : Rep → Type 0

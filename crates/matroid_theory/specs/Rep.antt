@@ -54,7 +54,7 @@ pub record IsProductColumn (factors : List ℕ) (rank : ℕ) (v : List ℕ) : Ty
   pub codes : (i f : ℕ) → i < rank → f < length factors → slice_index v (i * length factors + f) < slice_index factors f
 
 -- what the type keeps: one to three fields, rank 1 to 6, size at most 16, and codes of the right number and range
-pub record IsRep (M : Rep) : Type 0 where
+pub record KeepsLimits (M : Rep) : Type 0 where
   pub fields : IsFactors M.factors
   pub rank_positive : 0 < M.rank
   pub rank_most : M.rank ≤ 6

@@ -5,7 +5,7 @@ ghost use Rattle.std.specs.declared.cmp.Ordering.TheVariants.{Less as less, Equa
 ghost use Rattle.std.specs.Bool.{nat_lt};
 ghost use Rattle.std.specs.Ordering.{ordering_reverse};
 ghost use Rattle.matroid_theory.specs.Field.{IsOrder, IsField, IsSum, IsProduct, plus, times, inverse, degree, raised};
-ghost use Rattle.matroid_theory.specs.Matrix.{Matrix, AreInverse, IsIndependent, IsIndependentPart, IsRankOf, combination, product, size_below};
+ghost use Rattle.matroid_theory.specs.Matrix.{Matrix, AreInverse, IsIndependent, IsIndependentPart, IsRankOf, combination, matrix_product, size_below};
 ghost use Rattle.matroid_theory.specs.Rep.{Rep, Shape, shape, count, size, order, matrix, IsShaped, IsStandard};
 ghost use Rattle.matroid_theory.specs.Matroid.{IsBasis, Agrees, IsSimple};
 ghost use Rattle.matroid_theory.specs.declared.Mode.{Mode};
@@ -87,7 +87,7 @@ pub fn ranks()
     ensures unique { (q r n : ℕ) (A : Matrix) (S : ℕ → Bool) (k l : ℕ) →
         IsRankOf q r n A S k → IsRankOf q r n A S l → k ≡ l }
     ensures kept { (q r n : ℕ) (G H A : Matrix) (S : ℕ → Bool) (k : ℕ) → IsField q → AreInverse q r G H →
-        IsRankOf q r n A S k ↔ IsRankOf q r n (product q r G A) S k }
+        IsRankOf q r n A S k ↔ IsRankOf q r n (matrix_product q r G A) S k }
 {}
 
 /// The identity is a move, and so are a move after a move and the inverse of a move.
@@ -168,10 +168,10 @@ pub fn standard_exists()
 /// is left. So each form of a level of size above the rank comes from a try: a form of the level before and its last column.
 pub fn prefix()
     ensures form { (mode : Mode) (P : Rep) (v : List ℕ) → P.rank ≤ size P → IsForm mode (followed_by P v) → IsForm mode P }
-    ensures normalised { (mode : Mode) (P : Rep) (v : List ℕ) → 0 < count P → IsForm mode (followed_by P v) →
-        Agrees (followed_by P v) → IsSimple (followed_by P v) → IsNormalised P.factors P.rank v }
-    ensures member { (q : Family) (n : ℕ) (P : Rep) (v : List ℕ) (S : ℕ → Bool) → 0 < length q.factors → IsBasis P 0 S →
-        IsMember q (n + 1) (followed_by P v) → IsMember q n P }
-    ensures tries { (q : Family) (n : ℕ) (P : Rep) (v : List ℕ) → 0 < length q.factors → q.rank ≤ n →
-        IsLevelForm q (n + 1) (followed_by P v) → IsTry q n (P, v) }
+    ensures normalised { (mode : Mode) (P : Rep) (v : List ℕ) → IsForm mode (followed_by P v) →
+        IsSimple (followed_by P v) → IsNormalised P.factors P.rank v }
+    ensures member { (q : Family) (n : ℕ) (P : Rep) (v : List ℕ) (S : ℕ → Bool) → IsBasis P 0 S →
+        IsMember q n (followed_by P v) → IsMember q (size P) P }
+    ensures tries { (q : Family) (n : ℕ) (P : Rep) (v : List ℕ) → q.rank < n →
+        IsLevelForm q n (followed_by P v) → IsTry q n (P, v) }
 {}

@@ -7,7 +7,7 @@ use Rattle.arrayvec.specs.ArrayVec.{ArrayVec}
 use Rattle.matroid_theory.specs.Matrix.{size_below, IsIndependent, IsRankOf}
 use Rattle.matroid_theory.specs.Matroid.{members}
 use Rattle.matroid_theory.specs.Minor.{Matroid}
-use Rattle.matroid_theory.specs.Given.{Given, AllSets, Columns, DualOfColumns, IsColumnBasis, IsGivenBasis, IsGivenBy}
+use Rattle.matroid_theory.specs.Given.{Given, AllSets, ColumnsOver, DualOfColumns, IsColumnBasis, IsGivenBasis, IsGivenBy}
 use Rattle.matroid_theory.specs.Given as given
 use Rattle.matroid_theory.proofs.Masks.{mask, mask-below, members-mask, size-same, IsIndependent-same}
 use Rattle.matroid_theory.proofs.Bases.{rank_unique, size_most}
@@ -62,7 +62,7 @@ module _ (q : ℕ) (columns : List (ArrayVec ℕ)) (k : ℕ) (rank : IsRankOfCol
       sym (ap (λ n. size_below n S) (length_codes columns))
       ∙ rank_unique q (height columns) (length columns) (matrix_of columns) (λ _. true) (size_below (length (codes_of columns)) S) k (subst (λ (T : Type 0). T) (rank_codes q columns (λ _. true) (size_below (length (codes_of columns)) S)) b.greatest) rank
 
-  pub columns_given : (masks : List ℕ) → AreMasks (length columns) (λ X. IsGivenBasis (Columns q (codes_of columns)) (members X)) masks → IsGivenBy (Columns q (codes_of columns)) (record { rank = k; size = length columns; bases = masks })
+  pub columns_given : (masks : List ℕ) → AreMasks (length columns) (λ X. IsGivenBasis (ColumnsOver q (codes_of columns)) (members X)) masks → IsGivenBy (ColumnsOver q (codes_of columns)) (record { rank = k; size = length columns; bases = masks })
   columns_given masks h = record {
     sizes = sym (length_codes columns);
     rising = h.rising;
@@ -132,7 +132,7 @@ module _ (N : Matroid) (small : IsSmallMatroid N) where
     }
 
     -- it is what is given as the dual
-    pub dual_given : (q : ℕ) (columns : List (List ℕ)) → IsGivenBy (Columns q columns) N → IsGivenBy (DualOfColumns q columns) D
+    pub dual_given : (q : ℕ) (columns : List (List ℕ)) → IsGivenBy (ColumnsOver q columns) N → IsGivenBy (DualOfColumns q columns) D
     dual_given q columns h = record {
       sizes = d.sizes ∙ h.sizes;
       rising = d.bases.rising;

@@ -12,7 +12,7 @@ use Rattle.std.specs.List.{AllByRecursion}
 use Rattle.std.specs.Str.Parse.{AllDigits}
 use Rattle.std.proofs.lemmas.Fmt.{decimal_is_IsNumeral, decimal_injective}
 use Rattle.std.proofs.lemmas.Str.Parse.{digit_from_value}
-use Rattle.formats.specs.Entry.{IsNumber}
+use Rattle.formats.specs.Statement.{IsNumber}
 
 -- no comma in front of the first comma of another
 abbrev NoComma : List ℕ → Type 0

@@ -2,7 +2,7 @@
 use Rattle.std.specs.Prelude.{ℕ, ◌<◌, ◌≤◌, ◌≡◌, List, [], ◌∷◌}
 use Rattle.matroid_theory.specs.Minor.{Matroid}
 use Rattle.formats.specs.Entry as line
-use Rattle.formats.specs.Entry.{minor_words, elements_of, IsUniform}
+use Rattle.formats.specs.Statement.{minor_words, elements_of, IsUniform}
 use Rattle.named_matroids.specs.declared.spelling.Spelling.{Spelling}
 use Rattle.named_matroids.specs.declared.spelling.Spelling.TheVariants.{Uniform, Fano, FanoDual, NonFano, KFour, KFive}
 use Rattle.named_matroids.specs.declared.spelling.NameFault.{NameFault}

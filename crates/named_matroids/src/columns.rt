@@ -2,7 +2,7 @@
 ghost use Rattle.std.specs.Prelude.{◌≡◌, ◌≤◌, ◌<◌, ◌^◌, ◌↔◌, length, IsTrue};
 ghost use Rattle.matroid_theory.specs.Matrix.{IsIndependent};
 ghost use Rattle.matroid_theory.specs.Matroid.{members};
-ghost use Rattle.matroid_theory.specs.Given.{Columns, IsGivenBasis, IsGivenBy};
+ghost use Rattle.matroid_theory.specs.Given.{ColumnsOver, IsGivenBasis, IsGivenBy};
 ghost use Rattle.elimination.specs.Columns.{height, matrix_of, AreColumns, IsRankOfColumns};
 ghost use Rattle.named_matroids.specs.SmallMatroids.{AreMasks};
 ghost use Rattle.named_matroids.specs.Listed.{codes_of, ArePicked};
@@ -17,7 +17,7 @@ pub fn matroid_of(field: Field, columns: &[Column]) -> Minor
     requires some { 0 < length columns.now }
     requires few { length columns.now ≤ 10 }
     requires columns { AreColumns field (height columns.now) columns.now }
-    ensures { IsGivenBy (Columns field (codes_of columns.now)) result }
+    ensures { IsGivenBy (ColumnsOver field (codes_of columns.now)) result }
 {
     field.laws();
     let rank = rank(field, columns);
@@ -30,7 +30,7 @@ fn bases_of(field: Field, columns: &[Column], rank: usize) -> Masks
     requires few { length columns.now ≤ 10 }
     requires columns { AreColumns field (height columns.now) columns.now }
     requires rank { IsRankOfColumns field (height columns.now) columns.now rank }
-    ensures { AreMasks (length columns.now) (λ X. IsGivenBasis (Columns field (codes_of columns.now)) (members X)) result.items }
+    ensures { AreMasks (length columns.now) (λ X. IsGivenBasis (ColumnsOver field (codes_of columns.now)) (members X)) result.items }
 {
     let mut bases = ArrayVec::new();
     for set in 0..1u32 << columns.len() {
@@ -48,7 +48,7 @@ fn is_basis(field: Field, columns: &[Column], rank: usize, set: Mask) -> bool
     requires columns { AreColumns field (height columns.now) columns.now }
     requires rank { IsRankOfColumns field (height columns.now) columns.now rank }
     requires set { set < 2 ^ length columns.now }
-    ensures { IsTrue result ↔ IsGivenBasis (Columns field (codes_of columns.now)) (members set) }
+    ensures { IsTrue result ↔ IsGivenBasis (ColumnsOver field (codes_of columns.now)) (members set) }
 {
     set.count_ones() as usize == rank && is_independent(field, columns, set)
 }

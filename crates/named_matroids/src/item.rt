@@ -1,6 +1,6 @@
 //! A matroid with its name.
 ghost use Rattle.std.specs.Prelude.{◌≡◌, ◌↔◌, [], ◌∷◌, IfOk, IsErrOf};
-ghost use Rattle.formats.specs.Entry.{minor_words};
+ghost use Rattle.formats.specs.Statement.{minor_words};
 ghost use Rattle.formats.specs.Minors.{given_as};
 ghost use Rattle.matroid_theory.specs.Given.{IsGivenBy};
 ghost use Rattle.named_matroids.specs.Names.{named_by, IsSmallName, NamesTooBig, NamesNone};

@@ -1,7 +1,7 @@
 //! Numbers.
 ghost use Rattle.std.specs.Prelude.{◌≡◌, ◌≤◌, ◌<◌, ◌^◌, ◌==◌, ◌++◌, ℕ, length, codes, position, MatchOption, decimal};
 ghost use Rattle.std.specs.Str.Parse.{AllDigits, digits_value};
-ghost use Rattle.formats.specs.Entry.{IsNumber};
+ghost use Rattle.formats.specs.Statement.{IsNumber};
 
 /// The number that a word spells: at most nine digits, of which the first is `0` in `0` alone.
 pub fn number_of(word: &[u8]) -> Option<u32>

@@ -1,6 +1,6 @@
 //! How a matroid is spelled.
 ghost use Rattle.std.specs.Prelude.{◌≡◌, ◌≤◌, ℕ, [], ◌∷◌, MatchOption, MatchResult};
-ghost use Rattle.formats.specs.Entry.{Uniform as AsUniform, IsUniform, minor_words};
+ghost use Rattle.formats.specs.Statement.{Uniform as AsUniform, IsUniform, minor_words};
 ghost use Rattle.named_matroids.specs.Names.{named_by, IsSmallName, IsNameFault};
 
 use crate::number::numbers_of;

@@ -1,7 +1,7 @@
 //! The matrices of the matroids that have a name.
 ghost use Rattle.std.specs.Prelude.{◌≡◌, ◌≤◌, ◌<◌, length, IsTrue};
 ghost use Rattle.matroid_theory.specs.Field.{IsOrder};
-ghost use Rattle.matroid_theory.specs.Given.{Columns, IsGivenBy};
+ghost use Rattle.matroid_theory.specs.Given.{ColumnsOver, IsGivenBy};
 ghost use Rattle.named_matroids.specs.Listed.{codes_of, are_codes};
 
 use crate::columns::matroid_of;
@@ -41,7 +41,7 @@ pub fn matroid_of_table<const N: usize>(order: u8, table: &[[u8; N]]) -> Minor
     requires some { 0 < length table.now }
     requires few { length table.now ≤ 10 }
     requires codes { IsTrue (are_codes order N table.now) }
-    ensures { IsGivenBy (Columns order table.now) result }
+    ensures { IsGivenBy (ColumnsOver order table.now) result }
 {
     let columns = columns_of(table);
     match Field::of(order) {

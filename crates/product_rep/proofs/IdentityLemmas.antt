@@ -11,8 +11,8 @@ use Rattle.std.proofs.Math.ListN.{get_or-append}
 use Rattle.std.proofs.lemmas.Grind.{common_steps}
 use Rattle.matroid_theory.specs.declared.Mode.TheVariants.{Linear}
 use Rattle.matroid_theory.specs.Field.{times, raised, degree, IsField}
-use Rattle.matroid_theory.specs.Matrix.{Matrix, unit, product, sum_below}
-use Rattle.matroid_theory.specs.Rep.{Rep, size, count, order, matrix, shape, IsRep}
+use Rattle.matroid_theory.specs.Matrix.{Matrix, unit, matrix_product, sum_below}
+use Rattle.matroid_theory.specs.Rep.{Rep, size, count, order, matrix, shape, KeepsLimits}
 use Rattle.matroid_theory.specs.Move.{MoveTable, IsMove, TakesTo, move_of, row_place, scalar_place}
 use Rattle.matroid_theory.proofs.FieldLaws.{field_laws}
 use Rattle.matroid_theory.proofs.Sums.{sum_same, combination-unit, same_number, other_number}
@@ -52,12 +52,12 @@ place-none xs j n = found (position_or_len (λ l. l == j) xs) (position_or_len_i
     found p e = grind (arith, common_steps)
 
 -- the product of two identity matrices
-unit-product : (q r : ℕ) → IsField q → (A B : Matrix) → ((i k : ℕ) → i < r → k < r → A i k ≡ unit i k) → ((i k : ℕ) → i < r → k < r → B i k ≡ unit i k) → (i j : ℕ) → i < r → j < r → product q r A B i j ≡ unit i j
+unit-product : (q r : ℕ) → IsField q → (A B : Matrix) → ((i k : ℕ) → i < r → k < r → A i k ≡ unit i k) → ((i k : ℕ) → i < r → k < r → B i k ≡ unit i k) → (i j : ℕ) → i < r → j < r → matrix_product q r A B i j ≡ unit i j
 unit-product q r F A B a b i j l m =
     sum_same q F r (λ k. times q (A i k) (B k j)) (λ k. times q (unit i k) (unit k j)) (λ k o. λ u. times q (a i k l o u) (b k j o m u))
     ∙ combination-unit q F r (λ k. unit k j) i l (unit_code q F i j)
 
-module _ (M : Rep) (t : MoveTable) (h : IsRep M) (powers : (f : ℕ) → f < count M → slice_index t.powers f ≡ 0) (rows : (f i k : ℕ) → f < count M → i < M.rank → k < M.rank → slice_index t.rows (row_place t.shape f i k) ≡ unit i k) (scalars : (f j : ℕ) → f < count M → j < size M → slice_index t.scalars (scalar_place t.shape f j) ≡ 1) (labels : (j : ℕ) → j < size M → slice_index t.labels j ≡ j) where
+module _ (M : Rep) (t : MoveTable) (h : KeepsLimits M) (powers : (f : ℕ) → f < count M → slice_index t.powers f ≡ 0) (rows : (f i k : ℕ) → f < count M → i < M.rank → k < M.rank → slice_index t.rows (row_place t.shape f i k) ≡ unit i k) (scalars : (f j : ℕ) → f < count M → j < size M → slice_index t.scalars (scalar_place t.shape f j) ≡ 1) (labels : (j : ℕ) → j < size M → slice_index t.labels j ≡ j) where
   field : (f : ℕ) → f < count M → IsField (order M f)
   field f l = field_laws (order M f) (h.fields.fields f l)
 

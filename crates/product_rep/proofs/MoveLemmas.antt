@@ -6,7 +6,7 @@ use Rattle.std.proofs.lemmas.Nat.{div-mul-add, mod-mul-add}
 use Rattle.matroid_theory.specs.declared.Mode.TheVariants.{Linear}
 use Rattle.matroid_theory.specs.Field.{times, raised}
 use Rattle.matroid_theory.specs.Matrix.{sum_below}
-use Rattle.matroid_theory.specs.Rep.{Rep, size, count, order, matrix, shape, column_of, IsRep, IsProductColumn}
+use Rattle.matroid_theory.specs.Rep.{Rep, size, count, order, matrix, shape, column_of, KeepsLimits, IsProductColumn}
 use Rattle.matroid_theory.specs.Move.{MoveTable, IsMove, moved, move_of, row_place, scalar_place}
 use Rattle.matroid_theory.proofs.FieldLaws.{field_laws}
 use Rattle.matroid_theory.proofs.Sums.{sum_same}
@@ -24,12 +24,12 @@ pub label_below : (M : Rep) (t : MoveTable) (j l : ℕ) → IsMove Linear (shape
 label_below M t j l v b e = subst (λ (x : ℕ). x < size M) (sym e) (v.labels.below j b)
 
 -- the codes of a column of one factor are below its order
-pub column_codes : (M : Rep) (f j k q : ℕ) (xs : List ℕ) → IsRep M → xs ≡ column_of M f j → q ≡ order M f → f < count M → k < M.rank → j < size M → slice_index xs k < q
+pub column_codes : (M : Rep) (f j k q : ℕ) (xs : List ℕ) → KeepsLimits M → xs ≡ column_of M f j → q ≡ order M f → f < count M → k < M.rank → j < size M → slice_index xs k < q
 column_codes M f j k q xs h e o l m n =
     subst (λ (q : ℕ). slice_index xs k < q) (sym o) (subst (λ (x : ℕ). x < order M f) (sym (column-entry M f j k xs e m)) (h.shaped.codes f k j l m n))
 
 -- the scalar times the row times the column is the moved code, since the power 0 changes nothing
-pub code-moved : (M : Rep) (t : MoveTable) (f i j q s x l n : ℕ) (row column : List ℕ) → IsRep M → IsMove Linear (shape M) (move_of t) → f < count M → q ≡ order M f → s ≡ slice_index t.scalars (scalar_place t.shape f j) → n ≡ M.rank → l ≡ slice_index t.labels j → ((k : ℕ) → k < M.rank → slice_index row k ≡ slice_index t.rows (row_place t.shape f i k)) → column ≡ column_of M f l → x ≡ sum_below q n (λ k. times q (slice_index row k) (slice_index column k)) → times q s x ≡ moved (shape M) (matrix M) (move_of t) f i j
+pub code-moved : (M : Rep) (t : MoveTable) (f i j q s x l n : ℕ) (row column : List ℕ) → KeepsLimits M → IsMove Linear (shape M) (move_of t) → f < count M → q ≡ order M f → s ≡ slice_index t.scalars (scalar_place t.shape f j) → n ≡ M.rank → l ≡ slice_index t.labels j → ((k : ℕ) → k < M.rank → slice_index row k ≡ slice_index t.rows (row_place t.shape f i k)) → column ≡ column_of M f l → x ≡ sum_below q n (λ k. times q (slice_index row k) (slice_index column k)) → times q s x ≡ moved (shape M) (matrix M) (move_of t) f i j
 code-moved M t f i j q s x l n row column h v o qe se ne le re ce xe =
     ap (times q s) xe
     ∙ (λ u. times (qe u) (se u) (sum_below (qe u) (ne u) (λ k. times (qe u) (slice_index row k) (slice_index column k))))
@@ -54,7 +54,7 @@ code-at M t j n c r xs ce re ne h i f l m =
     ∙ (λ u. moved (shape M) (matrix M) (move_of t) (mod-mul-add i (count M) f m u) (div-mul-add i (count M) f m u) j)
 
 -- a moved column may follow
-pub moved_column : (M P : Rep) (t : MoveTable) (j : ℕ) (v : List ℕ) → IsRep M → P.factors ≡ M.factors → P.rank ≡ M.rank → length v ≡ M.rank * count M → ((i f : ℕ) → i < M.rank → f < count M → slice_index v (i * count M + f) ≡ moved (shape M) (matrix M) (move_of t) f i j) → IsProductColumn P.factors P.rank v
+pub moved_column : (M P : Rep) (t : MoveTable) (j : ℕ) (v : List ℕ) → KeepsLimits M → P.factors ≡ M.factors → P.rank ≡ M.rank → length v ≡ M.rank * count M → ((i f : ℕ) → i < M.rank → f < count M → slice_index v (i * count M + f) ≡ moved (shape M) (matrix M) (move_of t) f i j) → IsProductColumn P.factors P.rank v
 moved_column M P t j v h fe re l c =
     subst (λ (fs : List ℕ). IsProductColumn fs P.rank v) (sym fe) (subst (λ (r : ℕ). IsProductColumn M.factors r v) (sym re) (record {
       rows = l;

@@ -6,7 +6,7 @@ use Rattle.std.proofs.lemmas.List.{take-append-le, drop-append-le, drop-take, dr
 use Rattle.std.proofs.lemmas.List.Edits.{length-remove, get_or-remove_below, get_or-remove_above}
 use Rattle.std.proofs.Math.Nat.{mul-le-mul, le_refl}
 use Rattle.std.proofs.Math.Seq.{take-add}
-use Rattle.matroid_theory.specs.Rep.{Rep, count, size, order, IsShaped, IsRep}
+use Rattle.matroid_theory.specs.Rep.{Rep, count, size, order, IsShaped, KeepsLimits}
 use Rattle.product_rep.specs.declared.rep.Rep.TheInside.{Inside}
 use Rattle.product_rep.specs.Pieces.{pieces, matrices, KeepsRep}
 use Rattle.product_rep.proofs.PiecesLemmas.{take-all, size-matrices, place_within}
@@ -95,7 +95,7 @@ remove_view a b j k l f r s c =
 pub remove_keeps : (a b : Inside) (j : ℕ) → KeepsRep a → j < a.size → b.factors ≡ a.factors → b.rank ≡ a.rank → b.size + 1 ≡ a.size → b.codes.items ≡ take (j * (a.rank * length a.factors)) a.codes.items ++ drop ((j + 1) * (a.rank * length a.factors)) a.codes.items → KeepsRep b
 remove_keeps a b j k l f r s c = record {
   full = ap (λ (xs : List ℕ). length xs) c ∙ length-without a.size w j a.codes.items l k.full ∙ rows ∙ (λ i. b.size * (sym r i * length (sym f i)));
-  is_rep = subst IsRep (sym (remove_view a b j k l f r s c)) (record {
+  is_rep = subst KeepsLimits (sym (remove_view a b j k l f r s c)) (record {
     fields = whole.fields;
     rank_positive = whole.rank_positive;
     rank_most = whole.rank_most;

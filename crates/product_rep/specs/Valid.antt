@@ -1,6 +1,6 @@
 -- What makes a table a move, entry by entry.
 use Rattle.std.specs.Prelude.{ℕ, ◌+◌, ◌*◌, ◌<◌, ◌≤◌, ◌≡◌, ◌≢◌, List, length, slice_index}
-use Rattle.matroid_theory.specs.Matrix.{Matrix, product, unit}
+use Rattle.matroid_theory.specs.Matrix.{Matrix, matrix_product, unit}
 use Rattle.matroid_theory.specs.Move.{MoveTable, move_of}
 
 -- the scalar of column j in factor f is a code that isn't 0
@@ -34,7 +34,7 @@ AreCodes q r A = (i : ℕ) → i < r → AreRowCodes q r A i
 
 -- row i of the product, and all of it, is that of the identity matrix
 abbrev pub IsUnitRow : ℕ → ℕ → Matrix → Matrix → ℕ → Type 0
-IsUnitRow q r A B i = (j : ℕ) → j < r → product q r A B i j ≡ unit i j
+IsUnitRow q r A B i = (j : ℕ) → j < r → matrix_product q r A B i j ≡ unit i j
 
 abbrev pub AreUnitRows : ℕ → ℕ → Matrix → Matrix → Type 0
 AreUnitRows q r A B = (i : ℕ) → i < r → IsUnitRow q r A B i

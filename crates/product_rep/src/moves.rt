@@ -3,8 +3,8 @@ ghost use Rattle.std.specs.List.{position};
 ghost use Rattle.product_rep.specs.Valid.{IsScalar, IsLabel, block, HasBlock, AreRowCodes, AreCodes, IsUnitRow, AreUnitRows, AreInverseCodes, IsFactorPart};
 ghost use Rattle.matroid_theory.specs.declared.Mode.TheVariants.{Linear as linear};
 ghost use Rattle.matroid_theory.specs.Field.{times};
-ghost use Rattle.matroid_theory.specs.Matrix.{product, sum_below, unit};
-ghost use Rattle.matroid_theory.specs.Rep.{count, size, matrix, shape, IsRep};
+ghost use Rattle.matroid_theory.specs.Matrix.{matrix_product, sum_below, unit};
+ghost use Rattle.matroid_theory.specs.Rep.{count, size, matrix, shape, KeepsLimits};
 ghost use Rattle.matroid_theory.specs.Move.{ArePermutation, IsMove, TakesTo, moved, move_of, row_place, scalar_place};
 
 use crate::{Factors, ProductColumn, Rep};
@@ -282,7 +282,7 @@ pub fn act(rep: &Rep, step: &Move) -> Rep
 
 /// Column `j` of all factors, after the move.
 fn moved_column(rep: &Rep, step: &Move, j: usize) -> ProductColumn
-    requires is_rep { IsRep rep.now }
+    requires is_rep { KeepsLimits rep.now }
     requires shape { step.now.shape ≡ shape rep.now }
     requires valid { IsMove linear (shape rep.now) (move_of step.now) }
     requires column { j < size rep.now }
@@ -300,7 +300,7 @@ fn moved_column(rep: &Rep, step: &Move, j: usize) -> ProductColumn
 
 /// The code at row `i` of column `j` of the factor, after the move.
 fn moved_code(rep: &Rep, step: &Move, factor: usize, i: usize, j: usize) -> u8
-    requires is_rep { IsRep rep.now }
+    requires is_rep { KeepsLimits rep.now }
     requires shape { step.now.shape ≡ shape rep.now }
     requires valid { IsMove linear (shape rep.now) (move_of step.now) }
     requires factor { factor < count rep.now }
@@ -383,7 +383,7 @@ fn product_entry(
     requires right_codes { AreCodes field rank (block rank factor right.now) }
     requires row { i < rank }
     requires column { j < rank }
-    ensures { result ≡ product field rank (block rank factor left.now) (block rank factor right.now) i j }
+    ensures { result ≡ matrix_product field rank (block rank factor left.now) (block rank factor right.now) i j }
 {
     field.laws();
     let mut sum = 0;

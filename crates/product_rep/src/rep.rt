@@ -1,5 +1,5 @@
 ghost use Rattle.std.specs.Prelude.{◌≡◌, ◌<◌, ◌≤◌, ◌+◌, ◌*◌, ℕ, [], ◌++◌, Some, length, remove, replicate, slice_get, slice_index};
-ghost use Rattle.matroid_theory.specs.Rep.{Rep as Matrices, size, count, shape, column_of, IsRep, IsStandard, IsProductColumn};
+ghost use Rattle.matroid_theory.specs.Rep.{Rep as Matrices, size, count, shape, column_of, KeepsLimits, IsStandard, IsProductColumn};
 ghost use Rattle.matroid_theory.specs.Level.{followed_by};
 ghost use Rattle.matroid_theory.specs.Matrix.{unit};
 ghost use Rattle.matroid_theory.specs.Order.{rep_cmp};
@@ -69,7 +69,7 @@ impl Rep {
     /// The number of columns, at most 16.
     pub fn size(&self) -> usize
         ensures value { result ≡ size self.now }
-        ensures is_rep { IsRep self.now }
+        ensures is_rep { KeepsLimits self.now }
     {
         usize::from(self.size)
     }

@@ -10,30 +10,30 @@ use Rattle.std.proofs.lemmas.List.Sums.{sum_by_push}
 use Rattle.std.proofs.lemmas.Grind.{common_steps, pow_more}
 use Rattle.matroid_theory.specs.Field.{IsOrder}
 use Rattle.matroid_theory.proofs.FieldLaws.{by_order}
-use Rattle.formats.specs.Request.{subsets, product}
+use Rattle.formats.specs.Request.{subsets, product_of}
 
 -- how many columns have a support of so many rows
 abbrev pub columns_of_support : ℕ → List ℕ → ℕ → ℕ
-columns_of_support rank factors s = subsets rank s * product (map (λ q. (q - 1) ^ (s - 1)) factors)
+columns_of_support rank factors s = subsets rank s * product_of (map (λ q. (q - 1) ^ (s - 1)) factors)
 
 one_pow : (k : ℕ) → 1 ^ k ≡ 1
 one_pow zero = refl
 one_pow (suc k) = let e = one_pow k in grind (arith, pow_more 1 k, add-one k)
 
 -- a product of powers is the power of the product
-pub product_powers : (k : ℕ) (xs : List ℕ) → product (map (λ q. (q - 1) ^ k) xs) ≡ product (map (λ q. q - 1) xs) ^ k
+pub product_powers : (k : ℕ) (xs : List ℕ) → product_of (map (λ q. (q - 1) ^ k) xs) ≡ product_of (map (λ q. q - 1) xs) ^ k
 product_powers k [] = sym (one_pow k)
-product_powers k (x ∷ xs) = ap (λ (n : ℕ). (x - 1) ^ k * n) (product_powers k xs) ∙ sym (mul-pow (x - 1) (product (map (λ q. q - 1) xs)) k)
+product_powers k (x ∷ xs) = ap (λ (n : ℕ). (x - 1) ^ k * n) (product_powers k xs) ∙ sym (mul-pow (x - 1) (product_of (map (λ q. q - 1) xs)) k)
 
-product-append : (xs : List ℕ) (y : ℕ) → product (xs ++ y ∷ []) ≡ product xs * y
+product-append : (xs : List ℕ) (y : ℕ) → product_of (xs ++ y ∷ []) ≡ product_of xs * y
 product-append [] y = omega arith
 product-append (x ∷ xs) y = let e = product-append xs y in grind (arith, common_steps)
 
 -- one factor more
-pub product_more : (xs : List ℕ) (i : ℕ) → i < length xs → product (map (λ q. q - 1) (take (i + 1) xs)) ≡ product (map (λ q. q - 1) (take i xs)) * (slice_index xs i - 1)
+pub product_more : (xs : List ℕ) (i : ℕ) → i < length xs → product_of (map (λ q. q - 1) (take (i + 1) xs)) ≡ product_of (map (λ q. q - 1) (take i xs)) * (slice_index xs i - 1)
 product_more xs i l =
-    ap (λ (ys : List ℕ). product (map (λ q. q - 1) ys)) (take_more xs i 0 l)
-    ∙ ap product (map-append (λ (q : ℕ). q - 1) (take i xs) (slice_index xs i ∷ []))
+    ap (λ (ys : List ℕ). product_of (map (λ q. q - 1) ys)) (take_more xs i 0 l)
+    ∙ ap product_of (map-append (λ (q : ℕ). q - 1) (take i xs) (slice_index xs i ∷ []))
     ∙ product-append (map (λ q. q - 1) (take i xs)) (slice_index xs i - 1)
 
 -- a field has 2 to 9 elements
@@ -45,12 +45,12 @@ pub entries_few : (n i : ℕ) → n ≤ 8 ^ i → i ≤ 3 → n ≤ 512
 entries_few n i h l = let p : 8 ^ i ≤ 8 ^ 3 = pow-le-pow_right (lit< tt) l in omega arith
 
 -- one support more
-pub count_more : (rank : ℕ) (factors : List ℕ) (s : ℕ) → sum (map (columns_of_support rank factors) (range_with_len 1 (s + 1))) ≡ sum (map (columns_of_support rank factors) (range_with_len 1 s)) + subsets rank (s + 1) * product (map (λ q. q - 1) factors) ^ s
+pub count_more : (rank : ℕ) (factors : List ℕ) (s : ℕ) → sum (map (columns_of_support rank factors) (range_with_len 1 (s + 1))) ≡ sum (map (columns_of_support rank factors) (range_with_len 1 s)) + subsets rank (s + 1) * product_of (map (λ q. q - 1) factors) ^ s
 count_more rank factors s =
     let at : s + 1 - 1 ≡ s = omega arith in
     ap sum (map-range_with_len_more (columns_of_support rank factors) 1 s (s + 1) (omega arith))
     ∙ sum_by_push (λ (x : ℕ). x) (map (columns_of_support rank factors) (range_with_len 1 s)) (columns_of_support rank factors (s + 1))
-    ∙ ap (λ (k : ℕ). sum (map (columns_of_support rank factors) (range_with_len 1 s)) + subsets rank (s + 1) * product (map (λ q. (q - 1) ^ k) factors)) at
+    ∙ ap (λ (k : ℕ). sum (map (columns_of_support rank factors) (range_with_len 1 s)) + subsets rank (s + 1) * product_of (map (λ q. (q - 1) ^ k) factors)) at
     ∙ ap (λ (n : ℕ). sum (map (columns_of_support rank factors) (range_with_len 1 s)) + subsets rank (s + 1) * n) (product_powers s factors)
 
 -- a power of at most 512 entries is small
@@ -102,7 +102,7 @@ pub choices_few : (choices rank : ℕ) → choices ≤ 2 ^ rank → rank ≤ 6 �
 choices_few choices rank h l = let p : 2 ^ rank ≤ 2 ^ 6 = pow-le-pow_right (lit< tt) l in omega arith
 
 -- one step of the count
-pub count_step : (rank : ℕ) (factors : List ℕ) (s count choices below entries : ℕ) → count ≡ sum (map (columns_of_support rank factors) (range_with_len 1 s)) → choices ≡ subsets rank (s + 1) → below ≡ entries ^ s → entries ≡ product (map (λ q. q - 1) factors) → count + choices * below ≡ sum (map (columns_of_support rank factors) (range_with_len 1 (s + 1)))
+pub count_step : (rank : ℕ) (factors : List ℕ) (s count choices below entries : ℕ) → count ≡ sum (map (columns_of_support rank factors) (range_with_len 1 s)) → choices ≡ subsets rank (s + 1) → below ≡ entries ^ s → entries ≡ product_of (map (λ q. q - 1) factors) → count + choices * below ≡ sum (map (columns_of_support rank factors) (range_with_len 1 (s + 1)))
 count_step rank factors s count choices below entries c h b e =
     (λ i. c i + h i * (b ∙ (λ t. e t ^ s)) i) ∙ sym (count_more rank factors s)
 

@@ -5,7 +5,7 @@ use Rattle.std.proofs.lemmas.List.{map-append, length-map}
 use Rattle.std.specs.Prelude.{IsTrue, filter_map, option_to_list}
 use Rattle.matroid_theory.specs.Given.{IsGivenBy}
 use Rattle.named_matroids.specs.Names.{NamedMatroid, named_by, IsSmallName}
-use Rattle.formats.specs.Entry.{Entry, Version, RankIs, FieldIs, SizeIs, Forbids, Prints, kind_number}
+use Rattle.formats.specs.Statement.{Statement, Version, RankIs, FieldIs, SizeIs, Forbids, Prints, kind_number}
 use Rattle.formats.specs.Minors.{given_as}
 use Rattle.formats.specs.Request.{count_of_kind, rank_in, field_in, size_in, forbidden_in}
 use Rattle.formats.specs.declared.refusal.PrintMode.TheVariants.{Forms}
@@ -29,7 +29,7 @@ use Rattle.request_reader.proofs.EntryCounts.{of_kind, count_end, count_kept, al
 use Rattle.request_reader.proofs.FilterValues.{filters_kept}
 
 -- one entry more, of a kind that wasn't there
-pub version_end : (es : List Entry) (values : Values) → Holds es values → values.version ≡ false → Holds (es ++ Version ∷ []) (record values { version = true })
+pub version_end : (es : List Statement) (values : Values) → Holds es values → values.version ≡ false → Holds (es ++ Version ∷ []) (record values { version = true })
 version_end es values h new =
     let none : count_of_kind 0 es ≡ 0 = h.version ∙ ap (λ (b : Bool). cond b 1 0) new in
     record {
@@ -45,7 +45,7 @@ version_end es values h new =
       print = count_end 10 es Version ∙ add-zero _ ∙ h.print;
     }
 
-pub rank_end : (es : List Entry) (values : Values) (n : ℕ) → Holds es values → values.rank ≡ None → Holds (es ++ RankIs n ∷ []) (record values { rank = Some n })
+pub rank_end : (es : List Statement) (values : Values) (n : ℕ) → Holds es values → values.rank ≡ None → Holds (es ++ RankIs n ∷ []) (record values { rank = Some n })
 rank_end es values n h new =
     let none : filter_map rank_in es ≡ [] = h.rank ∙ ap option_to_list new in
     record {
@@ -61,7 +61,7 @@ rank_end es values n h new =
       print = count_end 10 es (RankIs n) ∙ add-zero _ ∙ h.print;
     }
 
-pub field_end : (es : List Entry) (values : Values) (fs : List ℕ) → Holds es values → values.factors ≡ None → Holds (es ++ FieldIs fs ∷ []) (record values { factors = Some fs })
+pub field_end : (es : List Statement) (values : Values) (fs : List ℕ) → Holds es values → values.factors ≡ None → Holds (es ++ FieldIs fs ∷ []) (record values { factors = Some fs })
 field_end es values fs h new =
     let none : filter_map field_in es ≡ [] = h.field ∙ ap option_to_list new in
     record {
@@ -77,7 +77,7 @@ field_end es values fs h new =
       print = count_end 10 es (FieldIs fs) ∙ add-zero _ ∙ h.print;
     }
 
-pub size_end : (es : List Entry) (values : Values) (n : ℕ) → Holds es values → values.size ≡ None → Holds (es ++ SizeIs n ∷ []) (record values { size = Some n })
+pub size_end : (es : List Statement) (values : Values) (n : ℕ) → Holds es values → values.size ≡ None → Holds (es ++ SizeIs n ∷ []) (record values { size = Some n })
 size_end es values n h new =
     let none : filter_map size_in es ≡ [] = h.size ∙ ap option_to_list new in
     record {
@@ -93,7 +93,7 @@ size_end es values n h new =
       print = count_end 10 es (SizeIs n) ∙ add-zero _ ∙ h.print;
     }
 
-pub print_end : (es : List Entry) (values : Values) → Holds es values → values.print ≡ false → Holds (es ++ Prints Forms ∷ []) (record values { print = true })
+pub print_end : (es : List Statement) (values : Values) → Holds es values → values.print ≡ false → Holds (es ++ Prints Forms ∷ []) (record values { print = true })
 print_end es values h new =
     let none : count_of_kind 10 es ≡ 0 = h.print ∙ ap (λ (b : Bool). cond b 1 0) new in
     record {
@@ -110,12 +110,12 @@ print_end es values h new =
     }
 
 -- as many are forbidden as there are lines that do so
-pub forbids_held : (es : List Entry) (values : Values) → Holds es values → count_of_kind 4 es ≡ length values.forbid.items
+pub forbids_held : (es : List Statement) (values : Values) → Holds es values → count_of_kind 4 es ≡ length values.forbid.items
 forbids_held es values h = forbid_count es ∙ ap length h.forbid ∙ length-map values.forbid.items (λ item. named_by item.spelling)
 
-pub forbid_end : (es : List Entry) (values : Values) (item : NamedMatroid) → Holds es values → length values.forbid.items < 8 → IsSmallName (named_by item.spelling) → IsGivenBy (given_as (named_by item.spelling)) item.matroid → Holds (es ++ Forbids (named_by item.spelling) ∷ []) (record values { forbid = record { items = values.forbid.items ++ item ∷ [] } })
+pub forbid_end : (es : List Statement) (values : Values) (item : NamedMatroid) → Holds es values → length values.forbid.items < 8 → IsSmallName (named_by item.spelling) → IsGivenBy (given_as (named_by item.spelling)) item.matroid → Holds (es ++ Forbids (named_by item.spelling) ∷ []) (record values { forbid = record { items = values.forbid.items ++ item ∷ [] } })
 forbid_end es values item h room small given =
-    let e : Entry = Forbids (named_by item.spelling) in
+    let e : Statement = Forbids (named_by item.spelling) in
     let fewer : count_of_kind 4 es < 8 = omega (arith, forbids_held es values h) in
     record {
       are_read = all_end (λ e. IsTrue (forms_now e)) es e h.are_read (name_read item.spelling);
@@ -131,7 +131,7 @@ forbid_end es values item h room small given =
     }
 
 -- an entry that is a filter tells nothing else
-record TellsNoLine (e : Entry) : Type 0 where
+record TellsNoLine (e : Statement) : Type 0 where
   version : of_kind 0 e ≡ 0
   rank : rank_in e ≡ None
   field : field_in e ≡ None
@@ -145,11 +145,11 @@ flag_tells flag.Three = record { version = refl; rank = refl; field = refl; size
 flag_tells flag.Cosimple = record { version = refl; rank = refl; field = refl; size = refl; forbid = refl; print = refl }
 flag_tells flag.Distinct = record { version = refl; rank = refl; field = refl; size = refl; forbid = refl; print = refl }
 
-filter_tells : (filter : Filter) (e : Entry) → IsFilter filter e → TellsNoLine e
+filter_tells : (filter : Filter) (e : Statement) → IsFilter filter e → TellsNoLine e
 filter_tells (filter.Flag flag) e is = subst TellsNoLine (sym is) (flag_tells flag)
 filter_tells (filter.Has item) e is = subst TellsNoLine (sym is.1) (record { version = refl; rank = refl; field = refl; size = refl; forbid = refl; print = refl })
 
-pub filter_new : (es : List Entry) (values : Values) (s : Said) (e : Entry) (filter : Filter) (filters : Filters) → Holds es values → IsSaid s e → s ≡ said.Filter filter → (HoldsFilters es values.filters → IsFilter filter e → IsNewFilter es e filters) → Holds (es ++ e ∷ []) (record values { filters = filters })
+pub filter_new : (es : List Statement) (values : Values) (s : Said) (e : Statement) (filter : Filter) (filters : Filters) → Holds es values → IsSaid s e → s ≡ said.Filter filter → (HoldsFilters es values.filters → IsFilter filter e → IsNewFilter es e filters) → Holds (es ++ e ∷ []) (record values { filters = filters })
 filter_new es values s e filter filters h said is with_it =
     let at : IsFilter filter e = subst (λ (s : Said). IsSaid s e) is said in
     let new = with_it h.filters at in
@@ -167,75 +167,75 @@ filter_new es values s e filter filters h said is with_it =
       print = count_kept 10 es e _ h.print tells.print;
     }
 
-pub filter_wrong : (es : List Entry) (values : Values) (s : Said) (e : Entry) (filter : Filter) (w : Wrong) → Holds es values → IsSaid s e → s ≡ said.Filter filter → (HoldsFilters es values.filters → IsFilter filter e → IsWrong es e w) → IsWrong es e w
+pub filter_wrong : (es : List Statement) (values : Values) (s : Said) (e : Statement) (filter : Filter) (w : Wrong) → Holds es values → IsSaid s e → s ≡ said.Filter filter → (HoldsFilters es values.filters → IsFilter filter e → IsWrong es e w) → IsWrong es e w
 filter_wrong es values s e filter w h said is with_it = with_it h.filters (subst (λ (s : Said). IsSaid s e) is said)
 
 -- what is said was not said before, or was
-pub version_new : (es : List Entry) (values : Values) (s : Said) (e : Entry) → Holds es values → IsSaid s e → s ≡ said.Version → values.version ≡ false → Holds (es ++ e ∷ []) (record values { version = true })
+pub version_new : (es : List Statement) (values : Values) (s : Said) (e : Statement) → Holds es values → IsSaid s e → s ≡ said.Version → values.version ≡ false → Holds (es ++ e ∷ []) (record values { version = true })
 version_new es values s e h said is new =
     let at : e ≡ Version = subst (λ (s : Said). IsSaid s e) is said in
-    subst (λ (e : Entry). Holds (es ++ e ∷ []) (record values { version = true })) (sym at) (version_end es values h new)
+    subst (λ (e : Statement). Holds (es ++ e ∷ []) (record values { version = true })) (sym at) (version_end es values h new)
 
-pub rank_new : (es : List Entry) (values : Values) (s : Said) (e : Entry) (n : ℕ) → Holds es values → IsSaid s e → s ≡ said.Rank n → is_some values.rank ≡ false → Holds (es ++ e ∷ []) (record values { rank = Some n })
+pub rank_new : (es : List Statement) (values : Values) (s : Said) (e : Statement) (n : ℕ) → Holds es values → IsSaid s e → s ≡ said.Rank n → is_some values.rank ≡ false → Holds (es ++ e ∷ []) (record values { rank = Some n })
 rank_new es values s e n h said is new =
     let at : e ≡ RankIs n = subst (λ (s : Said). IsSaid s e) is said in
-    subst (λ (e : Entry). Holds (es ++ e ∷ []) (record values { rank = Some n })) (sym at) (rank_end es values n h (none_there values.rank new))
+    subst (λ (e : Statement). Holds (es ++ e ∷ []) (record values { rank = Some n })) (sym at) (rank_end es values n h (none_there values.rank new))
 
-pub field_new : (es : List Entry) (values : Values) (s : Said) (e : Entry) (fs : List ℕ) → Holds es values → IsSaid s e → s ≡ said.Field fs → is_some values.factors ≡ false → Holds (es ++ e ∷ []) (record values { factors = Some fs })
+pub field_new : (es : List Statement) (values : Values) (s : Said) (e : Statement) (fs : List ℕ) → Holds es values → IsSaid s e → s ≡ said.Field fs → is_some values.factors ≡ false → Holds (es ++ e ∷ []) (record values { factors = Some fs })
 field_new es values s e fs h said is new =
     let at : e ≡ FieldIs fs = subst (λ (s : Said). IsSaid s e) is said in
-    subst (λ (e : Entry). Holds (es ++ e ∷ []) (record values { factors = Some fs })) (sym at) (field_end es values fs h (none_there values.factors new))
+    subst (λ (e : Statement). Holds (es ++ e ∷ []) (record values { factors = Some fs })) (sym at) (field_end es values fs h (none_there values.factors new))
 
-pub size_new : (es : List Entry) (values : Values) (s : Said) (e : Entry) (n : ℕ) → Holds es values → IsSaid s e → s ≡ said.Size n → is_some values.size ≡ false → Holds (es ++ e ∷ []) (record values { size = Some n })
+pub size_new : (es : List Statement) (values : Values) (s : Said) (e : Statement) (n : ℕ) → Holds es values → IsSaid s e → s ≡ said.Size n → is_some values.size ≡ false → Holds (es ++ e ∷ []) (record values { size = Some n })
 size_new es values s e n h said is new =
     let at : e ≡ SizeIs n = subst (λ (s : Said). IsSaid s e) is said in
-    subst (λ (e : Entry). Holds (es ++ e ∷ []) (record values { size = Some n })) (sym at) (size_end es values n h (none_there values.size new))
+    subst (λ (e : Statement). Holds (es ++ e ∷ []) (record values { size = Some n })) (sym at) (size_end es values n h (none_there values.size new))
 
-pub print_new : (es : List Entry) (values : Values) (s : Said) (e : Entry) → Holds es values → IsSaid s e → s ≡ said.PrintsForms → values.print ≡ false → Holds (es ++ e ∷ []) (record values { print = true })
+pub print_new : (es : List Statement) (values : Values) (s : Said) (e : Statement) → Holds es values → IsSaid s e → s ≡ said.PrintsForms → values.print ≡ false → Holds (es ++ e ∷ []) (record values { print = true })
 print_new es values s e h said is new =
     let at : e ≡ Prints Forms = subst (λ (s : Said). IsSaid s e) is said in
-    subst (λ (e : Entry). Holds (es ++ e ∷ []) (record values { print = true })) (sym at) (print_end es values h new)
+    subst (λ (e : Statement). Holds (es ++ e ∷ []) (record values { print = true })) (sym at) (print_end es values h new)
 
-pub forbid_new : (es : List Entry) (values : Values) (s : Said) (e : Entry) (item : NamedMatroid) → Holds es values → IsSaid s e → s ≡ said.Forbid (minor.Small item) → length values.forbid.items < 8 → IsGivenBy (given_as (named_by item.spelling)) item.matroid → Holds (es ++ e ∷ []) (record values { forbid = record { items = values.forbid.items ++ item ∷ [] } })
+pub forbid_new : (es : List Statement) (values : Values) (s : Said) (e : Statement) (item : NamedMatroid) → Holds es values → IsSaid s e → s ≡ said.Forbid (minor.Small item) → length values.forbid.items < 8 → IsGivenBy (given_as (named_by item.spelling)) item.matroid → Holds (es ++ e ∷ []) (record values { forbid = record { items = values.forbid.items ++ item ∷ [] } })
 forbid_new es values s e item h said is room given =
     let at = subst (λ (s : Said). IsSaid s e) is said in
     let small : IsSmallName (named_by item.spelling) = subst IsSmallName at.2.0 at.2.1 in
     let same : e ≡ Forbids (named_by item.spelling) = at.1 ∙ ap Forbids at.2.0 in
-    subst (λ (e : Entry). Holds (es ++ e ∷ []) (record values { forbid = record { items = values.forbid.items ++ item ∷ [] } })) (sym same) (forbid_end es values item h room small given)
+    subst (λ (e : Statement). Holds (es ++ e ∷ []) (record values { forbid = record { items = values.forbid.items ++ item ∷ [] } })) (sym same) (forbid_end es values item h room small given)
 
-pub version_again : (es : List Entry) (values : Values) (s : Said) (e : Entry) → Holds es values → IsSaid s e → s ≡ said.Version → values.version ≡ true → IsWrong es e wrong.Again
+pub version_again : (es : List Statement) (values : Values) (s : Said) (e : Statement) → Holds es values → IsSaid s e → s ≡ said.Version → values.version ≡ true → IsWrong es e wrong.Again
 version_again es values s e h said is set =
     let at : e ≡ Version = subst (λ (s : Said). IsSaid s e) is said in
-    subst (λ (e : Entry). IsWrong es e wrong.Again) (sym at) (λ k. omega (arith, k), flag_again es 0 values.version h.version set)
+    subst (λ (e : Statement). IsWrong es e wrong.Again) (sym at) (λ k. omega (arith, k), flag_again es 0 values.version h.version set)
 
-pub rank_again : (es : List Entry) (values : Values) (s : Said) (e : Entry) (n : ℕ) → Holds es values → IsSaid s e → s ≡ said.Rank n → is_some values.rank ≡ true → IsWrong es e wrong.Again
+pub rank_again : (es : List Statement) (values : Values) (s : Said) (e : Statement) (n : ℕ) → Holds es values → IsSaid s e → s ≡ said.Rank n → is_some values.rank ≡ true → IsWrong es e wrong.Again
 rank_again es values s e n h said is set =
     let at : e ≡ RankIs n = subst (λ (s : Said). IsSaid s e) is said in
-    subst (λ (e : Entry). IsWrong es e wrong.Again) (sym at) (λ k. omega (arith, k), value_again values.rank _ _ (rank_count es) h.rank set)
+    subst (λ (e : Statement). IsWrong es e wrong.Again) (sym at) (λ k. omega (arith, k), value_again values.rank _ _ (rank_count es) h.rank set)
 
-pub field_again : (es : List Entry) (values : Values) (s : Said) (e : Entry) (fs : List ℕ) → Holds es values → IsSaid s e → s ≡ said.Field fs → is_some values.factors ≡ true → IsWrong es e wrong.Again
+pub field_again : (es : List Statement) (values : Values) (s : Said) (e : Statement) (fs : List ℕ) → Holds es values → IsSaid s e → s ≡ said.Field fs → is_some values.factors ≡ true → IsWrong es e wrong.Again
 field_again es values s e fs h said is set =
     let at : e ≡ FieldIs fs = subst (λ (s : Said). IsSaid s e) is said in
-    subst (λ (e : Entry). IsWrong es e wrong.Again) (sym at) (λ k. omega (arith, k), value_again values.factors _ _ (field_count es) h.field set)
+    subst (λ (e : Statement). IsWrong es e wrong.Again) (sym at) (λ k. omega (arith, k), value_again values.factors _ _ (field_count es) h.field set)
 
-pub size_again : (es : List Entry) (values : Values) (s : Said) (e : Entry) (n : ℕ) → Holds es values → IsSaid s e → s ≡ said.Size n → is_some values.size ≡ true → IsWrong es e wrong.Again
+pub size_again : (es : List Statement) (values : Values) (s : Said) (e : Statement) (n : ℕ) → Holds es values → IsSaid s e → s ≡ said.Size n → is_some values.size ≡ true → IsWrong es e wrong.Again
 size_again es values s e n h said is set =
     let at : e ≡ SizeIs n = subst (λ (s : Said). IsSaid s e) is said in
-    subst (λ (e : Entry). IsWrong es e wrong.Again) (sym at) (λ k. omega (arith, k), value_again values.size _ _ (size_count es) h.size set)
+    subst (λ (e : Statement). IsWrong es e wrong.Again) (sym at) (λ k. omega (arith, k), value_again values.size _ _ (size_count es) h.size set)
 
-pub print_again : (es : List Entry) (values : Values) (s : Said) (e : Entry) → Holds es values → IsSaid s e → s ≡ said.PrintsForms → values.print ≡ true → IsWrong es e wrong.Again
+pub print_again : (es : List Statement) (values : Values) (s : Said) (e : Statement) → Holds es values → IsSaid s e → s ≡ said.PrintsForms → values.print ≡ true → IsWrong es e wrong.Again
 print_again es values s e h said is set =
     let at : e ≡ Prints Forms = subst (λ (s : Said). IsSaid s e) is said in
-    subst (λ (e : Entry). IsWrong es e wrong.Again) (sym at) (λ k. omega (arith, k), flag_again es 10 values.print h.print set)
+    subst (λ (e : Statement). IsWrong es e wrong.Again) (sym at) (λ k. omega (arith, k), flag_again es 10 values.print h.print set)
 
 -- the ninth minor, and one that is too big
-pub ninth : (es : List Entry) (values : Values) (s : Said) (e : Entry) (named : NamedMinor) → Holds es values → IsSaid s e → s ≡ said.Forbid named → length values.forbid.items ≡ 8 → IsWrong es e wrong.NinthForbid
+pub ninth : (es : List Statement) (values : Values) (s : Said) (e : Statement) (named : NamedMinor) → Holds es values → IsSaid s e → s ≡ said.Forbid named → length values.forbid.items ≡ 8 → IsWrong es e wrong.NinthForbid
 ninth es values s e named h said is full =
     let at = subst (λ (s : Said). IsSaid s e) is said in
     (ap kind_number at.1, omega (arith, forbids_held es values h, full))
 
-pub too_big : (es : List Entry) (values : Values) (s : Said) (e : Entry) → Holds es values → IsSaid s e → s ≡ said.Forbid minor.TooBig → length values.forbid.items < 8 → IsWrong es e wrong.TooBig
+pub too_big : (es : List Statement) (values : Values) (s : Said) (e : Statement) → Holds es values → IsSaid s e → s ≡ said.Forbid minor.TooBig → length values.forbid.items < 8 → IsWrong es e wrong.TooBig
 too_big es values s e h said is room =
     let at = subst (λ (s : Said). IsSaid s e) is said in
     let fewer : count_of_kind 4 es < 8 = omega (arith, forbids_held es values h) in
-    subst (λ (e : Entry). IsWrong es e wrong.TooBig) (sym at.1) (fewer, at.2)
+    subst (λ (e : Statement). IsWrong es e wrong.TooBig) (sym at.1) (fewer, at.2)

@@ -3,7 +3,7 @@ use Rattle.std.proofs.Common.{◌≡◌, ◌∙◌, ℕ, ◌+◌, ◌<◌, ◌�
 use Rattle.std.specs.Prelude.{IsTrue}
 use Rattle.std.proofs.lemmas.List.{map-append}
 use Rattle.formats.specs.Lines.{lines_of, words_of, is_skipped, statements_of}
-use Rattle.formats.specs.Entry.{Entry, Says, IsEntry, spelling}
+use Rattle.formats.specs.Statement.{Statement, Says, IsStatement, spelling}
 use Rattle.formats.specs.Request.{SayInTurn}
 use Rattle.formats.specs.Refusal.{Fault, Again, NinthForbid, TooBig, HasFault, FirstFault, HasRefusal}
 use Rattle.formats.proofs.Unique.{statements_split}
@@ -19,7 +19,7 @@ use Rattle.request_reader.proofs.EntryCounts.{all_end}
 pub record HasRead (text : List ℕ) (values : Values) (number : ℕ) (rest : List ℕ) : Type 0 where
   pub short : length text ≤ 65536
   pub before : List (List ℕ)
-  pub entries : List Entry
+  pub entries : List Statement
   pub split : lines_of text ≡ before ++ lines_of rest
   pub says : SayInTurn forms_now before entries
   pub holds : Holds entries values
@@ -69,14 +69,14 @@ skip_line text values number rest line after h n skip = record {
   few = omega (arith, h.few, n.shorter);
 }
 
-pub say_line : (text : List ℕ) (values more : Values) (number : ℕ) (rest line after : List ℕ) (e : Entry) → HasRead text values number rest → IsNext rest line after → is_skipped (words_of line) ≡ false → Says forms_now (words_of line) e → ((entries : List Entry) → Holds entries values → Holds (entries ++ e ∷ []) more) → HasRead text more (number + 1) after
+pub say_line : (text : List ℕ) (values more : Values) (number : ℕ) (rest line after : List ℕ) (e : Statement) → HasRead text values number rest → IsNext rest line after → is_skipped (words_of line) ≡ false → Says forms_now (words_of line) e → ((entries : List Statement) → Holds entries values → Holds (entries ++ e ∷ []) more) → HasRead text more (number + 1) after
 say_line text values more number rest line after e h n counts says with_it = record {
   short = h.short;
   before = h.before ++ line ∷ [];
   entries = h.entries ++ e ∷ [];
   split = split_next text h.before rest line after h.split n.lines;
   says = record {
-    may = all_end IsEntry h.entries e h.says.may says.may;
+    may = all_end IsStatement h.entries e h.says.may says.may;
     are_read = all_end (λ e. IsTrue (forms_now e)) h.entries e h.says.are_read says.is_read;
     spelled = statements_split h.before line [] counts ∙ (λ i. h.says.spelled i ++ says.spelled i ∷ []) ∙ sym (map-append spelling h.entries (e ∷ []));
   };
@@ -102,7 +102,7 @@ fault_here text values number rest line after h n counts fault wrong = record {
 }
 
 -- the text is refused for the next line
-pub wrong_line : (text : List ℕ) (values : Values) (number : ℕ) (rest line after : List ℕ) (e : Entry) (w : Wrong) → HasRead text values number rest → IsNext rest line after → is_skipped (words_of line) ≡ false → Says forms_now (words_of line) e → ((entries : List Entry) → Holds entries values → IsWrong entries e w) → HasRefusal forms_now text (refusal_at w (number + 1))
+pub wrong_line : (text : List ℕ) (values : Values) (number : ℕ) (rest line after : List ℕ) (e : Statement) (w : Wrong) → HasRead text values number rest → IsNext rest line after → is_skipped (words_of line) ≡ false → Says forms_now (words_of line) e → ((entries : List Statement) → Holds entries values → IsWrong entries e w) → HasRefusal forms_now text (refusal_at w (number + 1))
 wrong_line text values number rest line after e w h n counts says is = by w (is h.entries h.holds)
   where
     by : (w : Wrong) → IsWrong h.entries e w → HasRefusal forms_now text (refusal_at w (number + 1))

@@ -5,8 +5,8 @@ use Rattle.std.specs.List.{AllByRecursion, list_any}
 use Rattle.formats.specs.declared.refusal.PrintMode.TheVariants.{Forms, Counts}
 use Rattle.formats.specs.declared.refusal.Refusal.{Refusal}
 use Rattle.formats.specs.declared.refusal.Refusal.TheVariants as refusal
-use Rattle.formats.specs.Entry.{Entry, Prints}
-use Rattle.formats.specs.Request.{Request, AskFor, StandsFor, IsWithinLimits, IsRank, IsSize, prints_counts}
+use Rattle.formats.specs.Statement.{Statement, Prints}
+use Rattle.formats.specs.Request.{Request, AskFor, StandsFor, IsWithinLimits, IsRankInRange, IsSizeInRange, prints_counts}
 use Rattle.formats.specs.Refusal.{AreValues, HasValues}
 use Rattle.request_reader.specs.declared.values.Values.{Values}
 use Rattle.request_reader.specs.Limits.{IsLate}
@@ -16,21 +16,21 @@ use Rattle.request_reader.specs.Values.{Holds, AreSaid}
 use Rattle.request_reader.proofs.EntryCounts.{flag_there}
 
 -- all of them are read
-abbrev AllRead : List Entry → Type 0
+abbrev AllRead : List Statement → Type 0
 AllRead entries = AllByRecursion (λ e. IsTrue (forms_now e)) entries
 
 -- what isn't read isn't there
-none_any : (test : Entry → Bool) → ((e : Entry) → IsTrue (forms_now e) → test e ≡ false) → (entries : List Entry) → AllRead entries → list_any test entries ≡ false
+none_any : (test : Statement → Bool) → ((e : Statement) → IsTrue (forms_now e) → test e ≡ false) → (entries : List Statement) → AllRead entries → list_any test entries ≡ false
 none_any test never [] all = refl
 none_any test never (e ∷ entries) all = let here = never e all.0 in let later = none_any test never entries all.1 in cc
 
-not_counts : (e : Entry) → IsTrue (forms_now e) → prints_counts e ≡ false
+not_counts : (e : Statement) → IsTrue (forms_now e) → prints_counts e ≡ false
 not_counts (Prints Forms) is_read = refl
 not_counts (Prints Counts) is_read = cc (is_read)
 not_counts _ is_read = refl
 
 -- the values that are there
-are_values : (entries : List Entry) (values : Values) (rank : ℕ) (factors : List ℕ) (size : ℕ) → Holds entries values → values.rank ≡ Some rank → values.factors ≡ Some factors → values.size ≡ Some size → AreValues entries rank factors size
+are_values : (entries : List Statement) (values : Values) (rank : ℕ) (factors : List ℕ) (size : ℕ) → Holds entries values → values.rank ≡ Some rank → values.factors ≡ Some factors → values.size ≡ Some size → AreValues entries rank factors size
 are_values entries values rank factors size h r f s = record {
   rank_said = h.rank ∙ ap option_to_list r;
   field_said = h.field ∙ ap option_to_list f;
@@ -41,7 +41,7 @@ has_values : (text : List ℕ) (values : Values) (rank : ℕ) (factors : List �
 has_values text values rank factors size said r f s = record { entries = said.entries; none = said.none; values = are_values said.entries values rank factors size said.holds r f s }
 
 -- Entries with these values ask for this request.
-asks : (entries : List Entry) (values : Values) (rank : ℕ) (factors : List ℕ) (size : ℕ) → Holds entries values → AreValues entries rank factors size → AskFor entries (request_with factors rank size (minors_of values.forbid.items) values.filters)
+asks : (entries : List Statement) (values : Values) (rank : ℕ) (factors : List ℕ) (size : ℕ) → Holds entries values → AreValues entries rank factors size → AskFor entries (request_with factors rank size (minors_of values.forbid.items) values.filters)
 asks entries values rank factors size h are = record {
   rank = are.rank_said;
   field = are.field_said;
@@ -68,8 +68,8 @@ stands text values rank factors size said are limits = record {
 
 -- what the limits say of the values is said of the text
 late : (text : List ℕ) (rank : ℕ) (factors : List ℕ) (size : ℕ) (why : Refusal) → HasValues forms_now text rank factors size → IsLate rank factors size why → IsRefused text why
-late text rank factors size (refusal.Rank v) h l = (factors, size, subst (λ (n : ℕ). HasValues forms_now text n factors size) (sym l.0) h, subst (λ (n : ℕ). IsRank n → ⊥) (sym l.0) l.1)
-late text rank factors size (refusal.Size v) h l = (rank, factors, subst (λ (n : ℕ). HasValues forms_now text rank factors n) (sym l.0) h, l.1, subst (λ (n : ℕ). IsSize rank n → ⊥) (sym l.0) l.2)
+late text rank factors size (refusal.Rank v) h l = (factors, size, subst (λ (n : ℕ). HasValues forms_now text n factors size) (sym l.0) h, subst (λ (n : ℕ). IsRankInRange n → ⊥) (sym l.0) l.1)
+late text rank factors size (refusal.Size v) h l = (rank, factors, subst (λ (n : ℕ). HasValues forms_now text rank factors n) (sym l.0) h, l.1, subst (λ (n : ℕ). IsSizeInRange rank n → ⊥) (sym l.0) l.2)
 late text rank factors size (refusal.TooWide c) h l = (rank, factors, size, h, l.1, l.2, l.0, l.3)
 late text rank factors size _ h l = absurd l
 

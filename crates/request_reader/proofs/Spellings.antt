@@ -2,7 +2,7 @@
 use Rattle.std.proofs.Common.{◌≡◌, ◌∙◌, ℕ, List, [], ◌∷◌, length, slice_index, slice_index_or, refl, sym, ap, arith}
 use Rattle.std.specs.Prelude.{codes, decimal, ◌++◌, IsTrue}
 use Rattle.formats.specs.declared.refusal.PrintMode.TheVariants.{Forms}
-use Rattle.formats.specs.Entry.{Minor, Uniform, Fano, FanoDual, NonFano, KFour, KFive, Matrix, minor_words, Entry, Version, RankIs, FieldIs, SizeIs, Forbids, ListsConnected, ListsThreeConnected, ListsCosimple, ListsDistinct, ListsWith, Prints, IsMinor, Says}
+use Rattle.formats.specs.Statement.{MinorName, Uniform, Fano, FanoDual, NonFano, KFour, KFive, ByMatrix, minor_words, Statement, Version, RankIs, FieldIs, SizeIs, Forbids, ListsConnected, ListsThreeConnected, ListsCosimple, ListsDistinct, ListsWith, Prints, IsMinorName, Says}
 use Rattle.request_reader.specs.Now.{is_name, forms_now}
 use Rattle.request_reader.specs.declared.keyword.Keyword.{Keyword}
 use Rattle.request_reader.specs.declared.keyword.Keyword.TheVariants as keyword
@@ -11,7 +11,7 @@ use Rattle.request_reader.specs.declared.filters.Flag.TheVariants as flag
 use Rattle.request_reader.specs.Spellings.{keyword_word, flag_word}
 
 -- the first word is a keyword
-pub keyword_said : (word : List ℕ) (words : List (List ℕ)) (entry : Entry) → Says forms_now (word ∷ words) entry → (k : Keyword) × (word ≡ keyword_word k)
+pub keyword_said : (word : List ℕ) (words : List (List ℕ)) (entry : Statement) → Says forms_now (word ∷ words) entry → (k : Keyword) × (word ≡ keyword_word k)
 keyword_said word words Version said = let e = said.spelled in (keyword.Version, cc (e))
 keyword_said word words (RankIs n) said = let e = said.spelled in (keyword.Rank, cc (e))
 keyword_said word words (FieldIs orders) said = let e = said.spelled in (keyword.Field, cc (e))
@@ -26,14 +26,14 @@ keyword_said word words (Prints Forms) said = let e = said.spelled in (keyword.P
 keyword_said word words _ said = let h = said.is_read in cc (h)
 
 -- a name is one word
-pub name_word : (minor : Minor) → IsTrue (is_name minor) → (word : List ℕ) × (minor_words minor ≡ word ∷ [])
+pub name_word : (minor : MinorName) → IsTrue (is_name minor) → (word : List ℕ) × (minor_words minor ≡ word ∷ [])
 name_word (Uniform rank size) is = (codes "U" ++ (decimal rank ++ (codes "," ++ decimal size)), refl)
 name_word Fano is = (codes "F7", refl)
 name_word FanoDual is = (codes "F7*", refl)
 name_word NonFano is = (codes "F7-", refl)
 name_word KFour is = (codes "K4", refl)
 name_word KFive is = (codes "K5", refl)
-name_word (Matrix order columns) is = cc (is)
+name_word (ByMatrix order columns) is = cc (is)
 
 -- the third letter of the first word
 abbrev third : List (List ℕ) → ℕ
@@ -42,9 +42,9 @@ third words = slice_index (slice_index_or words 0 []) 2
 -- What stands behind the word `filter`.
 pub data IsFilterLine (words : List (List ℕ)) : Type 0 where
   WithFlag : (f : Flag) → words ≡ flag_word f ∷ [] → IsFilterLine words
-  WithMinor : (minor : Minor) → IsMinor minor → IsTrue (is_name minor) → words ≡ codes "has" ∷ minor_words minor → IsFilterLine words
+  WithMinor : (minor : MinorName) → IsMinorName minor → IsTrue (is_name minor) → words ≡ codes "has" ∷ minor_words minor → IsFilterLine words
 
-pub filter_said : (words : List (List ℕ)) (entry : Entry) → Says forms_now (codes "filter" ∷ words) entry → IsFilterLine words
+pub filter_said : (words : List (List ℕ)) (entry : Statement) → Says forms_now (codes "filter" ∷ words) entry → IsFilterLine words
 filter_said words Version said = absurd (omega (arith, ap third said.spelled))
 filter_said words (RankIs n) said = absurd (omega (arith, ap third said.spelled))
 filter_said words (FieldIs factors) said = absurd (omega (arith, ap third said.spelled))
@@ -58,7 +58,7 @@ filter_said words (ListsWith minor) said = let e = said.spelled in WithMinor min
 filter_said words (Prints mode) said = absurd (omega (arith, ap third said.spelled))
 
 -- one word that is no flag
-pub no_flag : (words : List (List ℕ)) (word : List ℕ) (entry : Entry) → words ≡ word ∷ [] → ((f : Flag) → word ≡ flag_word f → ⊥) → Says forms_now (codes "filter" ∷ words) entry → ⊥
+pub no_flag : (words : List (List ℕ)) (word : List ℕ) (entry : Statement) → words ≡ word ∷ [] → ((f : Flag) → word ≡ flag_word f → ⊥) → Says forms_now (codes "filter" ∷ words) entry → ⊥
 no_flag words word entry one none said = by (filter_said words entry said)
   where
     by : IsFilterLine words → ⊥

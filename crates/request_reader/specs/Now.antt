@@ -2,17 +2,17 @@
 use Rattle.std.specs.Prelude.{ℕ, List, Bool, true, false}
 use Rattle.formats.specs.declared.refusal.PrintMode.TheVariants.{Forms, Counts}
 use Rattle.formats.specs.declared.refusal.Refusal.{Refusal}
-use Rattle.formats.specs.Entry.{Minor, Matrix, Entry, Version, RankIs, FieldIs, SizeIs, Forbids, ListsConnected, ListsThreeConnected, ListsCosimple, ListsDistinct, ListsWith, Prints}
+use Rattle.formats.specs.Statement.{MinorName, ByMatrix, Statement, Version, RankIs, FieldIs, SizeIs, Forbids, ListsConnected, ListsThreeConnected, ListsCosimple, ListsDistinct, ListsWith, Prints}
 use Rattle.formats.specs.Request.{Request, StandsFor}
 use Rattle.formats.specs.Refusal.{HasRefusal}
 
 -- the minor has a name
-abbrev pub is_name : Minor → Bool
-is_name (Matrix order columns) = false
+abbrev pub is_name : MinorName → Bool
+is_name (ByMatrix order columns) = false
 is_name _ = true
 
 -- the forms of a line that are read so far; every other line is a bad line
-abbrev pub forms_now : Entry → Bool
+abbrev pub forms_now : Statement → Bool
 forms_now Version = true
 forms_now (RankIs n) = true
 forms_now (FieldIs factors) = true

@@ -3,7 +3,7 @@ use Rattle.std.specs.Prelude.{ℕ, List, map}
 use Rattle.matroid_theory.specs.Field.{IsFactors}
 use Rattle.named_matroids.specs.Names.{NamedMatroid, named_by}
 use Rattle.formats.specs.declared.refusal.PrintMode.TheVariants.{Forms}
-use Rattle.formats.specs.Entry.{Minor}
+use Rattle.formats.specs.Statement.{MinorName}
 use Rattle.formats.specs.Minors.{given_as}
 use Rattle.formats.specs.Levels.{AreGivenBy}
 use Rattle.formats.specs.Request.{Request, IsWithinLimits}
@@ -11,7 +11,7 @@ use Rattle.request_reader.specs.declared.filters.Filters.{Filters}
 use Rattle.request_reader.specs.Filters.{wanted_of, IsWantedGiven}
 use Rattle.request_reader.specs.declared.request.Request.TheInside.{Inside}
 
-abbrev pub request_with : List ℕ → ℕ → ℕ → List Minor → Filters → Request
+abbrev pub request_with : List ℕ → ℕ → ℕ → List MinorName → Filters → Request
 request_with factors rank size forbid filters = record {
   factors = factors;
   rank = rank;
@@ -26,7 +26,7 @@ request_with factors rank size forbid filters = record {
 }
 
 -- the minors, as lines name them
-abbrev pub minors_of : List NamedMatroid → List Minor
+abbrev pub minors_of : List NamedMatroid → List MinorName
 minors_of items = map (λ item. named_by item.spelling) items
 
 -- each matroid is that of its name

@@ -1,7 +1,7 @@
 -- What is known of the entries that were said so far.
 use Rattle.std.specs.Prelude.{◌≡◌, ℕ, List, cond, filter_map, option_to_list, IsTrue}
 use Rattle.std.specs.List.{AllByRecursion}
-use Rattle.formats.specs.Entry.{Entry}
+use Rattle.formats.specs.Statement.{Statement}
 use Rattle.formats.specs.Request.{AreInOrder, count_of_kind, rank_in, field_in, size_in, forbidden_in}
 use Rattle.formats.specs.Refusal.{NoFault}
 use Rattle.request_reader.specs.declared.values.Values.{Values}
@@ -10,7 +10,7 @@ use Rattle.request_reader.specs.Now.{forms_now}
 use Rattle.request_reader.specs.Plain.{minors_of, AreGiven}
 
 -- The values are those of the entries, which are in order.
-pub record Holds (entries : List Entry) (values : Values) : Type 0 where
+pub record Holds (entries : List Statement) (values : Values) : Type 0 where
   pub are_read : AllByRecursion (λ entry. IsTrue (forms_now entry)) entries
   pub in_order : AreInOrder entries
   pub version : count_of_kind 0 entries ≡ cond values.version 1 0
@@ -24,6 +24,6 @@ pub record Holds (entries : List Entry) (values : Values) : Type 0 where
 
 -- The lines of the text say entries that are in order, and the values are theirs.
 pub record AreSaid (text : List ℕ) (values : Values) : Type 0 where
-  pub entries : List Entry
+  pub entries : List Statement
   pub none : NoFault forms_now text entries
   pub holds : Holds entries values

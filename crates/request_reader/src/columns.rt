@@ -1,5 +1,5 @@
 ghost use Rattle.std.specs.Prelude.{◌≡◌, ◌≤◌, ◌^◌, ◌-◌, map};
-ghost use Rattle.formats.specs.Request.{product};
+ghost use Rattle.formats.specs.Request.{product_of};
 ghost use Rattle.formats.specs.Request.{column_count as column_count_lem, subsets as subsets_lem};
 
 use product_rep::Factors;
@@ -21,7 +21,7 @@ fn subsets(n: u8, k: u8) -> u64
 
 // How many entries other than 0 the fields have together.
 fn entry_count(factors: &Factors) -> u64
-    ensures value { result ≡ product (map (λ q. q - 1) factors.now) }
+    ensures value { result ≡ product_of (map (λ q. q - 1) factors.now) }
     ensures few { result ≤ 512 }
 {
     let mut entries = 1;

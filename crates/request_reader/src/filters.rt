@@ -1,7 +1,7 @@
 ghost use Rattle.std.specs.Prelude.{◌≡◌, [], List, MatchOption, MatchResult};
 ghost use Rattle.matroid_theory.specs.Given.{IsGivenBy};
 ghost use Rattle.named_matroids.specs.Names.{NamedMatroid, named_by};
-ghost use Rattle.formats.specs.Entry.{Entry};
+ghost use Rattle.formats.specs.Statement.{Statement};
 ghost use Rattle.formats.specs.Minors.{given_as};
 ghost use Rattle.request_reader.specs.Spellings.{flag_word};
 ghost use Rattle.request_reader.specs.Said.{flag_entry, IsFilter, IsWrong};
@@ -75,8 +75,8 @@ impl Filters {
     /// The filters with one more, or what is wrong with it.
     pub fn with(self, filter: Filter) -> Result<Filters, Wrong>
         ensures { MatchResult result
-            (λ filters. (entries : List Entry) → (entry : Entry) → HoldsFilters entries self → IsFilter filter entry → IsNewFilter entries entry filters)
-            (λ wrong. (entries : List Entry) → (entry : Entry) → HoldsFilters entries self → IsFilter filter entry → IsWrong entries entry wrong) }
+            (λ filters. (entries : List Statement) → (entry : Statement) → HoldsFilters entries self → IsFilter filter entry → IsNewFilter entries entry filters)
+            (λ wrong. (entries : List Statement) → (entry : Statement) → HoldsFilters entries self → IsFilter filter entry → IsWrong entries entry wrong) }
     {
         match filter {
             Filter::Flag(flag) => self.with_flag(flag),
@@ -88,8 +88,8 @@ impl Filters {
     // The filters with this flag set, or what is wrong with it.
     fn with_flag(self, flag: Flag) -> Result<Filters, Wrong>
         ensures { MatchResult result
-            (λ filters. (entries : List Entry) → HoldsFilters entries self → IsNewFilter entries (flag_entry flag) filters)
-            (λ wrong. (entries : List Entry) → HoldsFilters entries self → IsWrong entries (flag_entry flag) wrong) }
+            (λ filters. (entries : List Statement) → HoldsFilters entries self → IsNewFilter entries (flag_entry flag) filters)
+            (λ wrong. (entries : List Statement) → HoldsFilters entries self → IsWrong entries (flag_entry flag) wrong) }
     {
         match flag {
             Flag::Connected if !self.connected => Ok(Filters {

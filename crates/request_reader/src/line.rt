@@ -1,6 +1,6 @@
 ghost use Rattle.std.specs.Prelude.{◌≡◌, ◌↔◌, ◌∷◌, [], IsTrue, ℕ, List, MatchOption, codes, decimal};
 ghost use Rattle.formats.specs.Lines.{words_of};
-ghost use Rattle.formats.specs.Entry.{Minor, IsMinor, minor_words, Entry, IsNumber, Says};
+ghost use Rattle.formats.specs.Statement.{MinorName, IsMinorName, minor_words, Statement, IsNumber, Says};
 ghost use Rattle.request_reader.specs.Now.{is_name, forms_now};
 ghost use Rattle.request_reader.specs.Said.{IsNamed, IsFilter, IsSaid};
 
@@ -65,8 +65,8 @@ fn only_number(rest: &[u8]) -> Option<u32>
 // The minor that a text of one word names.
 fn only_minor(rest: &[u8]) -> Option<NamedMinor>
     ensures { MatchOption result
-        ((minor : Minor) → IsMinor minor → IsTrue (is_name minor) → words_of rest.now ≡ minor_words minor → ⊥)
-        (λ named. (minor : Minor) × IsMinor minor × IsTrue (is_name minor) × (words_of rest.now ≡ minor_words minor) × IsNamed named minor) }
+        ((minor : MinorName) → IsMinorName minor → IsTrue (is_name minor) → words_of rest.now ≡ minor_words minor → ⊥)
+        (λ named. (minor : MinorName) × IsMinorName minor × IsTrue (is_name minor) × (words_of rest.now ≡ minor_words minor) × IsNamed named minor) }
 {
     match named(only_word(rest)?) {
         Ok(item) => Some(NamedMinor::Small(item)),
@@ -78,8 +78,8 @@ fn only_minor(rest: &[u8]) -> Option<NamedMinor>
 // The filter that a text spells behind the word `filter`.
 fn filter_of(rest: &[u8]) -> Option<Filter>
     ensures { MatchOption result
-        ((entry : Entry) → Says forms_now (codes "filter" ∷ words_of rest.now) entry → ⊥)
-        (λ filter. (entry : Entry) × Says forms_now (codes "filter" ∷ words_of rest.now) entry × IsFilter filter entry) }
+        ((entry : Statement) → Says forms_now (codes "filter" ∷ words_of rest.now) entry → ⊥)
+        (λ filter. (entry : Statement) × Says forms_now (codes "filter" ∷ words_of rest.now) entry × IsFilter filter entry) }
 {
     match next_word(rest)? {
         (b"has", after) => Some(Filter::Has(only_minor(after)?)),
@@ -90,8 +90,8 @@ fn filter_of(rest: &[u8]) -> Option<Filter>
 /// What a line says, where it has one of the forms that are read so far.
 pub fn said_by(line: &[u8]) -> Option<Said>
     ensures { MatchOption result
-        ((entry : Entry) → Says forms_now (words_of line.now) entry → ⊥)
-        (λ said. (entry : Entry) × Says forms_now (words_of line.now) entry × IsSaid said entry) }
+        ((entry : Statement) → Says forms_now (words_of line.now) entry → ⊥)
+        (λ said. (entry : Statement) × Says forms_now (words_of line.now) entry × IsSaid said entry) }
 {
     let (word, rest) = next_word(line)?;
     match keyword_of(word)? {

@@ -1,7 +1,7 @@
 ghost use Rattle.std.specs.Prelude.{◌≡◌, ◌<◌, [], ◌∷◌, ◌++◌, List, length, MatchResult};
 ghost use Rattle.matroid_theory.specs.Given.{IsGivenBy};
 ghost use Rattle.named_matroids.specs.Names.{named_by};
-ghost use Rattle.formats.specs.Entry.{Entry};
+ghost use Rattle.formats.specs.Statement.{Statement};
 ghost use Rattle.formats.specs.Minors.{given_as};
 ghost use Rattle.request_reader.specs.Said.{IsSaid, IsWrong, refusal_at};
 ghost use Rattle.request_reader.specs.Values.{Holds};
@@ -68,8 +68,8 @@ impl Values {
     /// What was said with one thing more, or what is wrong with it.
     pub fn with(self, said: Said) -> Result<Values, Wrong>
         ensures { MatchResult result
-            (λ values. (entries : List Entry) → (entry : Entry) → Holds entries self → IsSaid said entry → Holds (entries ++ entry ∷ []) values)
-            (λ wrong. (entries : List Entry) → (entry : Entry) → Holds entries self → IsSaid said entry → IsWrong entries entry wrong) }
+            (λ values. (entries : List Statement) → (entry : Statement) → Holds entries self → IsSaid said entry → Holds (entries ++ entry ∷ []) values)
+            (λ wrong. (entries : List Statement) → (entry : Statement) → Holds entries self → IsSaid said entry → IsWrong entries entry wrong) }
     {
         match said {
             Said::Version if !self.version => Ok(Values {

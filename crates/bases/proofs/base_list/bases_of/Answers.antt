@@ -1,6 +1,6 @@
 use Rattle.std.proofs.Common.{◌+◌, sym, ◌∙◌, ap, ℕ, subst, Vec}
 use Rattle.std.proofs.lemmas.Bool.{false≢true}
-use Rattle.matroid_theory.specs.Rep.{size, IsRep}
+use Rattle.matroid_theory.specs.Rep.{size, KeepsLimits}
 use Rattle.bases.proofs.Walk.{end}
 use Rattle.bases.proofs.Rising.{AreBasesBelow, more_bases, same_bases, all_bases}
 use Rattle.bases.proofs.base_list.bases_of.Goals as goal
@@ -15,6 +15,6 @@ loop-set-preserved c =
     ]
 
 pub returns : goal.returns
-returns c = let r : IsRep c.args.rep.now = c.size.ensures.is_rep in
+returns c = let r : KeepsLimits c.args.rep.now = c.size.ensures.is_rep in
     all_bases c.args.rep.now c.loop-set.set c.loop-set.bases.items c.loop-set.invariant
     (end c.size.result (size c.args.rep.now) c.loop-set.set c.size.ensures.value r.size_most c.loop-set.auto.set-end c.loop-set-test.false)

@@ -1,6 +1,6 @@
 use Rattle.std.proofs.Common.{sym, ◌∙◌, refl}
 use Rattle.std.proofs.lemmas.Bool.{false≢true}
-use Rattle.matroid_theory.specs.Rep.{size, IsRep}
+use Rattle.matroid_theory.specs.Rep.{size, KeepsLimits}
 use Rattle.matroid_theory.specs.Matroid.{members}
 use Rattle.matroid_theory.proofs.Agreement.{IsAlike, one_more, alike_of_other_size, alike_of_rank, alike_by_masks}
 use Rattle.bases.proofs.Walk.{seen}
@@ -17,7 +17,7 @@ loop-set-preserved c =
 
 pub returns : goal.returns
 returns c = (
-  (λ _ f l S. let r : IsRep c.args.rep.now = c.size.ensures.is_rep in
+  (λ _ f l S. let r : KeepsLimits c.args.rep.now = c.size.ensures.is_rep in
       alike_by_masks c.args.rep.now (λ X m. c.loop-set.invariant X (seen c.size.result (size c.args.rep.now) X c.loop-set.set c.size.ensures.value r.size_most c.loop-set-test.false m)) S f l),
   λ _. refl,
 )

@@ -1,6 +1,6 @@
 use Rattle.std.proofs.Common.{◌≡◌, ◌+◌, ℕ, inl, inr, sym, ◌∙◌, subst, arith, refl}
 use Rattle.std.proofs.lemmas.Bool.{false≢true}
-use Rattle.matroid_theory.specs.Rep.{size, order, matrix, IsRep}
+use Rattle.matroid_theory.specs.Rep.{size, order, matrix, KeepsLimits}
 use Rattle.matroid_theory.specs.Matroid.{members}
 use Rattle.matroid_theory.specs.Connection.{IsRank}
 use Rattle.matroid_theory.proofs.Bases.{rank_unique}
@@ -18,7 +18,7 @@ loop-k-init c = record {
 
 pub returns-then-rank : goal.returns-then-rank
 returns-then-rank c =
-    let r : IsRep c.args.rep.now = c.size-k-end.ensures.is_rep in
+    let r : KeepsLimits c.args.rep.now = c.size-k-end.ensures.is_rep in
     let rest : IsRest c.args.i c.args.j (c.loop-k.k + 1) (members c.with-rest.result.set) =
     rest_with c.args.i c.args.j c.loop-k.k (members c.loop-k.rest.set) (members c.with-rest.result.set) c.loop-k.invariant.rest c.if-k-i.true c.if-k-j.true c.with-rest.ensures.set in
     let full : IsRank c.args.rep.now (members c.with-rest.result.set) c.args.rep.now.rank =
@@ -27,7 +27,7 @@ returns-then-rank c =
 
 pub loop-k-preserved : goal.loop-k-preserved
 loop-k-preserved c =
-    let r : IsRep c.args.rep.now = c.size-k-end.ensures.is_rep in
+    let r : KeepsLimits c.args.rep.now = c.size-k-end.ensures.is_rep in
     elim c.if-k-i.branch [
       | then-k-i+then-k-j+else-rank w ↦ subst (λ (s : Side). AreLacking c.args.rep.now c.args.i c.args.j (c.loop-k.k + 1) s.set s.basis) (sym w.rest-is) (record {
         rest = rest_with c.args.i c.args.j c.loop-k.k (members c.loop-k.rest.set) (members w.with-rest.result.set) c.loop-k.invariant.rest w.if-k-i.true w.if-k-j.true w.with-rest.ensures.set;
@@ -45,6 +45,6 @@ loop-k-preserved c =
 
 pub returns : goal.returns
 returns c =
-    let r : IsRep c.args.rep.now = c.size-k-end.ensures.is_rep in
+    let r : KeepsLimits c.args.rep.now = c.size-k-end.ensures.is_rep in
     let e : c.loop-k.k ≡ size c.args.rep.now = omega arith in
     (λ f. absurd (false≢true f), λ full. absurd (c.loop-k.invariant.lacking (rest_rank c.args.rep.now c.args.i c.args.j (members c.loop-k.rest.set) (subst (λ (n : ℕ). IsRest c.args.i c.args.j n (members c.loop-k.rest.set)) e c.loop-k.invariant.rest) full)))

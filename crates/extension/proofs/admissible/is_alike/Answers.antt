@@ -3,7 +3,7 @@ use Rattle.std.proofs.lemmas.Bool.{false≢true}
 use Rattle.std.proofs.lemmas.Nat.{one_shl}
 use Rattle.std.specs.Int.RustNames.{count_ones}
 use Rattle.matroid_theory.specs.Matrix.{size_below}
-use Rattle.matroid_theory.specs.Rep.{size, count, IsRep}
+use Rattle.matroid_theory.specs.Rep.{size, count, KeepsLimits}
 use Rattle.matroid_theory.specs.Matroid.{members, IsIndependentIn}
 use Rattle.matroid_theory.specs.Level.{followed_by}
 use Rattle.matroid_theory.proofs.Agreement.{one_more}
@@ -23,7 +23,7 @@ within n s X e m l =
 
 pub returns-then-not-is_alike_with : goal.returns-then-not-is_alike_with
 returns-then-not-is_alike_with c =
-    let r : IsRep c.args.rep.now = c.size.ensures.is_rep in
+    let r : KeepsLimits c.args.rep.now = c.size.ensures.is_rep in
     let b : c.loop-set.set < 2 ^ size c.args.rep.now = within c.size.result (size c.args.rep.now) c.loop-set.set c.size.ensures.value r.size_most c.loop-set-test.true in
     let e : size_below (size c.args.rep.now) (members c.loop-set.set) ≡ count_ones c.loop-set.set = size-members (size c.args.rep.now) c.loop-set.set b in (
       λ t. absurd (false≢true t),
@@ -32,7 +32,7 @@ returns-then-not-is_alike_with c =
 
 pub loop-set-preserved : goal.loop-set-preserved
 loop-set-preserved c =
-    let r : IsRep c.args.rep.now = c.size.ensures.is_rep in
+    let r : KeepsLimits c.args.rep.now = c.size.ensures.is_rep in
     let b : c.loop-set.set < 2 ^ size c.args.rep.now = within c.size.result (size c.args.rep.now) c.loop-set.set c.size.ensures.value r.size_most c.loop-set-test.true in
     let e : size_below (size c.args.rep.now) (members c.loop-set.set) ≡ count_ones c.loop-set.set = size-members (size c.args.rep.now) c.loop-set.set b in
     one_more c.loop-set.set (λ X. size_below (size c.args.rep.now) (members X) + 1 ≡ c.args.rep.now.rank → (f : ℕ) → f < count c.args.rep.now → (IsIndependentIn (followed_by c.args.rep.now c.args.column.now.items) 0 (with_new c.args.rep.now (members X)) ↔ IsIndependentIn (followed_by c.args.rep.now c.args.column.now.items) f (with_new c.args.rep.now (members X)))) c.loop-set.invariant
@@ -43,7 +43,7 @@ loop-set-preserved c =
 
 pub returns : goal.returns
 returns c = (
-  (λ _ X f l e m. let r : IsRep c.args.rep.now = c.size.ensures.is_rep in
+  (λ _ X f l e m. let r : KeepsLimits c.args.rep.now = c.size.ensures.is_rep in
       c.loop-set.invariant X (seen c.size.result (size c.args.rep.now) X c.loop-set.set c.size.ensures.value r.size_most c.loop-set-test.false l) e f m),
   λ _. refl,
 )

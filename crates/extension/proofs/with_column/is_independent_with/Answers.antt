@@ -1,7 +1,7 @@
 use Rattle.std.proofs.Common.{◌≡◌, ◌↔◌, ◌≤◌, ◌∷◌, [], ◌++◌, ap, ◌∙◌, arith, ℕ, List, length, lit<, refl}
 use Rattle.std.specs.List.{slice_index}
 use Rattle.matroid_theory.specs.Matrix.{size_below}
-use Rattle.matroid_theory.specs.Rep.{order, size, IsRep}
+use Rattle.matroid_theory.specs.Rep.{order, size, KeepsLimits}
 use Rattle.matroid_theory.specs.Matroid.{members, IsIndependentIn}
 use Rattle.matroid_theory.specs.Level.{followed_by}
 use Rattle.matroid_theory.proofs.Bases.{size_most}
@@ -26,7 +26,7 @@ in_list c = c.as_slice.ensures.value ∙ c.push.ensures.items
 the_order : (c : After-as_slice) → c.field.result ≡ order c.args.rep.now c.args.factor
 the_order c = c.field.ensures ∙ ap (λ (fs : List ℕ). slice_index fs c.args.factor) c.factors.ensures
 
-the_rep : (c : After-as_slice) → IsRep (followed_by c.args.rep.now c.args.column.now.items)
+the_rep : (c : After-as_slice) → KeepsLimits (followed_by c.args.rep.now c.args.column.now.items)
 the_rep c = rep_followed c.args.rep.now c.args.column.now.items c.picked-columns.ensures.is_rep c.requires.room c.requires.column
 
 are_picked : (c : After-as_slice) → ArePicked (followed_by c.args.rep.now c.args.column.now.items) c.args.factor (size (followed_by c.args.rep.now c.args.column.now.items)) (with_new c.args.rep.now (members c.args.set)) (c.picked-columns.result.items ++ c.part.result ∷ [])

@@ -2,7 +2,7 @@ use Rattle.std.proofs.Common.{◌≡◌, ℕ, ◌+◌, ◌<◌, ◌≤◌, List,
 use Rattle.std.specs.List.{All, AllPairs, Contains}
 use Rattle.std.specs.declared.cmp.Ordering.TheVariants.{Less}
 use Rattle.std.proofs.lemmas.List.Elements.{Contains-get_or}
-use Rattle.matroid_theory.specs.Rep.{Rep, IsRep}
+use Rattle.matroid_theory.specs.Rep.{Rep, KeepsLimits}
 use Rattle.matroid_theory.specs.Order.{rep_cmp}
 use Rattle.matroid_theory.specs.Minor.{Matroid}
 use Rattle.formats.specs.Request.{Request}
@@ -43,8 +43,8 @@ to_list-requires c =
     let Ns : List Matroid = matroids_of c.forbid-forbidden.result.now in
     let parents : List Rep = c.args.parents.now in
     let done : length parents ≤ c.loop-parent.parent-index = subst (λ (xs : List Rep). length xs ≤ c.loop-parent.parent-index) c.as_slice-parent-items.ensures c.loop-parent-test.false in
-    subst (λ (factors : List ℕ). All (λ cs. IsRep (rep_of factors c.rank-rank.result cs)) c.loop-parent.found) (sym c.factors.ensures)
-    (subst (λ (rank : ℕ). All (λ cs. IsRep (rep_of q.factors rank cs)) c.loop-parent.found) (sym c.rank-rank.ensures.rank)
+    subst (λ (factors : List ℕ). All (λ cs. KeepsLimits (rep_of factors c.rank-rank.result cs)) c.loop-parent.found) (sym c.factors.ensures)
+    (subst (λ (rank : ℕ). All (λ cs. KeepsLimits (rep_of q.factors rank cs)) c.loop-parent.found) (sym c.rank-rank.ensures.rank)
     (each_rep q Ns c.forbid-forbidden.ensures.given c.rank-rank.ensures.factors c.rank-rank.ensures.limits c.requires.0 parents c.requires.1 c.loop-parent.tried c.loop-parent.found
     (grown_all Ns parents c.loop-parent.parent-index c.loop-parent.tried c.loop-parent.found done c.loop-parent.invariant.so_far)))
 

@@ -1,5 +1,5 @@
 use Rattle.std.proofs.Common.{◌≡◌, take}
-use Rattle.formats.specs.Entry.{column_word}
+use Rattle.formats.specs.Statement.{column_word}
 use Rattle.lister.proofs.form.column_word.Given as goal
 
 abbrev pub invariant-loop-code : goal.invariant-loop-code

@@ -2,7 +2,7 @@ use Rattle.std.proofs.Common.{◌<◌, ap, length, arith, lit<, sym, subst}
 use Rattle.std.proofs.lemmas.List.{map_push, length-map}
 use Rattle.std.proofs.lemmas.List.FromFn.{length-map-range_with_len, map-range_with_len_more}
 use Rattle.matroid_theory.specs.Rep.{column_of}
-use Rattle.formats.specs.Entry.{column_word}
+use Rattle.formats.specs.Statement.{column_word}
 use Rattle.lister.proofs.Forms.{HasDigits, column_digits}
 use Rattle.lister.proofs.form.factor_words.Goals as goal
 

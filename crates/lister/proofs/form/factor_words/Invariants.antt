@@ -1,7 +1,7 @@
 use Rattle.std.proofs.Common.{◌≡◌, map}
 use Rattle.std.specs.List.{range_with_len}
 use Rattle.matroid_theory.specs.Rep.{column_of}
-use Rattle.formats.specs.Entry.{column_word}
+use Rattle.formats.specs.Statement.{column_word}
 use Rattle.lister.proofs.form.factor_words.Given as goal
 
 abbrev pub invariant-loop-j : goal.invariant-loop-j

@@ -1,7 +1,7 @@
 use Rattle.std.proofs.Common.{◌≡◌, ◌∙◌, ℕ, List, [], ◌∷◌, ◌++◌, ap, sym, codes}
 use Rattle.named_matroids.specs.Names.{named_by}
 use Rattle.formats.specs.Lines.{line_of_words}
-use Rattle.formats.specs.Entry.{minor_words}
+use Rattle.formats.specs.Statement.{minor_words}
 use Rattle.lister.proofs.head.push_forbid_line.Goals as goal
 
 pub returns-clause-bytes : goal.returns-clause-bytes

@@ -1,8 +1,8 @@
 use Rattle.std.proofs.Common.{◌∙◌, ℕ, List, ◌++◌, map, take, ap, sym, arith, append_assoc}
 use Rattle.std.proofs.lemmas.List.{take_all}
 use Rattle.named_matroids.specs.Names.{NamedMatroid, named_by}
-use Rattle.formats.specs.Entry.{Forbids}
-use Rattle.formats.specs.Listing.{text_of_entries}
+use Rattle.formats.specs.Statement.{Forbids}
+use Rattle.formats.specs.Listing.{text_of_statements}
 use Rattle.request_reader.specs.Plain.{minors_of}
 use Rattle.lister.proofs.Heads.{entry_text, forbid_more}
 use Rattle.lister.proofs.head.push_forbid_lines.Goals as goal
@@ -10,7 +10,7 @@ use Rattle.lister.proofs.head.push_forbid_lines.Goals as goal
 pub loop-item-preserved : goal.loop-item-preserved
 loop-item-preserved c =
     let items = c.args.items.now in
-    let before = text_of_entries (map Forbids (minors_of (take c.loop-item.item-index items))) in
+    let before = text_of_statements (map Forbids (minors_of (take c.loop-item.item-index items))) in
     record {
       so_far =
           c.push_forbid_line.ensures.bytes
@@ -21,4 +21,4 @@ loop-item-preserved c =
     }
 
 pub returns-clause-bytes : goal.returns-clause-bytes
-returns-clause-bytes c = c.loop-item.invariant.so_far ∙ ap (λ (items : List NamedMatroid). c.args.head.now.items ++ text_of_entries (map Forbids (minors_of items))) (take_all c.loop-item.item-index c.args.items.now c.loop-item-test.false)
+returns-clause-bytes c = c.loop-item.invariant.so_far ∙ ap (λ (items : List NamedMatroid). c.args.head.now.items ++ text_of_statements (map Forbids (minors_of items))) (take_all c.loop-item.item-index c.args.items.now c.loop-item-test.false)

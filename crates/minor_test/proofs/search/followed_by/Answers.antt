@@ -1,6 +1,6 @@
 use Rattle.std.proofs.Common.{◌≡◌, ◌≤◌, ◌<◌, ◌+◌, ◌*◌, ◌%◌, ◌^◌, ◌++◌, ◌∷◌, [], ℕ, List, sym, ◌∙◌, ap, subst, arith, length, length-append, add-one, bit_or, slice_index, refl}
 use Rattle.std.proofs.lemmas.Nat.{one_shl}
-use Rattle.matroid_theory.specs.Rep.{size, IsRep}
+use Rattle.matroid_theory.specs.Rep.{size, KeepsLimits}
 use Rattle.minor_test.specs.Searches.{AgreeBelow, AreImagesOf}
 use Rattle.minor_test.proofs.NextImage.{images_next}
 use Rattle.minor_test.proofs.search.followed_by.Goals as goal
@@ -10,7 +10,7 @@ returns-clause-kept c = subst (λ (n : ℕ). AgreeBelow n c.args.sets.now c.add_
 
 pub returns-clause-images : goal.returns-clause-images
 returns-clause-images c =
-    let r : IsRep c.args.rep.now = c.size.ensures.is_rep in
+    let r : KeepsLimits c.args.rep.now = c.size.ensures.is_rep in
     let m : size c.args.rep.now ≤ 16 = r.size_most in
     let l : c.args.image < size c.args.rep.now = c.requires.image in
     let b : c.args.image < 16 = omega arith in

@@ -1,7 +1,7 @@
 use Rattle.std.proofs.Common.{◌≡◌, ◌<◌, ◌+◌, ◌||◌, ◌↔◌, ℕ, Bool, sym, ◌∙◌, ap, subst, arith, IsTrue, inl, inr}
 use Rattle.std.specs.Bool.{◌==◌}
 use Rattle.std.proofs.lemmas.Bool.{false≢true, eqb-true, or_cases, or_left, or_right, cases_lt}
-use Rattle.matroid_theory.specs.Rep.{Rep, size, IsRep}
+use Rattle.matroid_theory.specs.Rep.{Rep, size, KeepsLimits}
 use Rattle.matroid_theory.specs.Matroid.{members, IsBasis}
 use Rattle.matroid_theory.proofs.Sums.{same_number}
 use Rattle.bases.proofs.Walk.{seen}
@@ -48,7 +48,7 @@ loop-set-preserved c X =
     ]
 
 pub returns : goal.returns
-returns c = let r : IsRep c.args.rep.now = c.size.ensures.is_rep in
+returns c = let r : KeepsLimits c.args.rep.now = c.size.ensures.is_rep in
     record {
       exact = λ X l. (
         (λ t. ((c.loop-set.invariant X).0 t).1),

@@ -1,7 +1,7 @@
 use Rattle.std.proofs.Common.{◌≡◌, ◌↔◌, ℕ, List, [], ◌∷◌, Err, refl, sym, ◌∙◌, ap, arith}
 use Rattle.std.specs.Prelude.{IsErrOf}
 use Rattle.formats.specs.Entry as line
-use Rattle.formats.specs.Entry.{minor_words, elements_of}
+use Rattle.formats.specs.Statement.{minor_words, elements_of}
 use Rattle.formats.proofs.Unique.{minor_same}
 use Rattle.named_matroids.specs.declared.spelling.NameFault.{NameFault}
 use Rattle.named_matroids.specs.declared.spelling.NameFault.TheVariants.{TooBig, Unknown}

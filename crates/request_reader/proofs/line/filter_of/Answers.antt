@@ -2,7 +2,7 @@ use Rattle.std.proofs.Common.{◌≡◌, ◌∙◌, ℕ, List, ◌∷◌, refl, 
 use Rattle.std.specs.Prelude.{codes}
 use Rattle.std.proofs.lemmas.Slice.Eq.{text_from_reads}
 use Rattle.formats.specs.Lines.{words_of}
-use Rattle.formats.specs.Entry.{ListsWith, minor_words}
+use Rattle.formats.specs.Statement.{ListsWith, minor_words}
 use Rattle.request_reader.proofs.Spellings.{no_flag}
 use Rattle.request_reader.proofs.line.filter_of.Goals as goal
 

@@ -1,6 +1,6 @@
 use Rattle.std.proofs.Common.{◌∙◌, Err, refl, sym, ap}
 use Rattle.named_matroids.specs.Names.{NamesTooBig}
-use Rattle.formats.specs.Entry.{Uniform}
+use Rattle.formats.specs.Statement.{Uniform}
 use Rattle.request_reader.proofs.line.only_minor.Goals as goal
 
 pub returns-in-Err-TooBig : goal.returns-in-Err-TooBig

@@ -1,7 +1,7 @@
 use Rattle.std.proofs.Common.{◌≡◌, ◌∙◌, ℕ, List, ◌∷◌, refl, ap, subst}
 use Rattle.std.specs.Prelude.{codes}
 use Rattle.formats.specs.Lines.{words_of}
-use Rattle.formats.specs.Entry.{Forbids, Says}
+use Rattle.formats.specs.Statement.{Forbids, Says}
 use Rattle.request_reader.specs.Now.{forms_now}
 use Rattle.request_reader.specs.Spellings.{keyword_word}
 use Rattle.request_reader.proofs.Spellings.{keyword_said}

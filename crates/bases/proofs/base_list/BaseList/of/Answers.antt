@@ -1,12 +1,12 @@
 use Rattle.std.proofs.Common.{◌^◌, ◌<◌, ◌≤◌, ℕ, sym, subst, slice_index_or}
 use Rattle.std.proofs.lemmas.List.Elements.{Contains-get_or}
-use Rattle.matroid_theory.specs.Rep.{IsRep}
+use Rattle.matroid_theory.specs.Rep.{KeepsLimits}
 use Rattle.matroid_theory.specs.Minor.{AreBases}
 use Rattle.bases.proofs.base_list.BaseList.of.Goals as goal
 
 pub invariant_of-result : goal.invariant_of-result
 invariant_of-result c =
-    let r : IsRep c.args.rep.now = c.size-size.ensures.is_rep in
+    let r : KeepsLimits c.args.rep.now = c.size-size.ensures.is_rep in
     let b : AreBases c.args.rep.now c.in_ok-bases_of.field-0.items = c.in_ok-bases_of.ensures in
     record {
       rank_positive = subst (λ (n : ℕ). 0 < n) (sym c.rank.ensures) r.rank_positive;

@@ -5,7 +5,7 @@ use Rattle.std.specs.declared.cmp.Ordering.TheVariants.{Less}
 use Rattle.std.proofs.lemmas.Map.Iter.{iter_end}
 use Rattle.std.proofs.lemmas.Map.Views.{All-turn}
 use Rattle.arrayvec.specs.ArrayVec.{ArrayVec}
-use Rattle.matroid_theory.specs.Rep.{Rep, IsRep}
+use Rattle.matroid_theory.specs.Rep.{Rep, KeepsLimits}
 use Rattle.matroid_theory.specs.Order.{rep_cmp}
 use Rattle.level_driver.specs.Keys.{columns_of_key}
 use Rattle.level_driver.specs.Children.{rep_of}
@@ -14,12 +14,12 @@ use Rattle.level_driver.proofs.found.Found.to_list.Goals as goal
 
 pub rep_with-requires : goal.rep_with-requires
 rep_with-requires c =
-    let P : ArrayVec (ArrayVec ℕ) → Type 0 = λ key. IsRep (rep_of c.args.factors.now c.args.rank (columns_of_key key)) in
+    let P : ArrayVec (ArrayVec ℕ) → Type 0 = λ key. KeepsLimits (rep_of c.args.factors.now c.args.rank (columns_of_key key)) in
     let keys : List (ArrayVec (ArrayVec ℕ)) = c.self.inside.forms.keys in
     let e : map columns_of_key keys ≡ c.args.self.now = c.self.view_is in
-    let all : All P keys = All-from_map (λ columns. IsRep (rep_of c.args.factors.now c.args.rank columns)) columns_of_key keys (subst (λ (all : List (List (List ℕ))). All (λ columns. IsRep (rep_of c.args.factors.now c.args.rank columns)) all) (sym e) c.requires) in
+    let all : All P keys = All-from_map (λ columns. KeepsLimits (rep_of c.args.factors.now c.args.rank columns)) columns_of_key keys (subst (λ (all : List (List (List ℕ))). All (λ columns. KeepsLimits (rep_of c.args.factors.now c.args.rank columns)) all) (sym e) c.requires) in
     let this : P c.in-Some.columns.now = All-turn deref P keys _ _ _ _ _ _ all (c.into_iter-columns-iterator.ensures.into_iter_gives.0) c.loop-columns.yielded_by c.in-Some.is c.next.ensures.steps in
-    subst (λ (factors : List ℕ). IsRep (rep_of factors c.args.rank (columns_of_key c.in-Some.columns.now))) (sym c.copy.ensures) this
+    subst (λ (factors : List ℕ). KeepsLimits (rep_of factors c.args.rank (columns_of_key c.in-Some.columns.now))) (sym c.copy.ensures) this
 
 pub returns-clause-forms : goal.returns-clause-forms
 returns-clause-forms c =

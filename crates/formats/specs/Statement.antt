@@ -7,14 +7,14 @@ use Rattle.formats.specs.declared.refusal.PrintMode.TheVariants.{Forms, Counts}
 use Rattle.formats.specs.Lines.{parted}
 
 -- a matroid as a line names it
-pub data Minor : Type 0 where
-  Uniform : ℕ → ℕ → Minor
-  Fano : Minor
-  FanoDual : Minor
-  NonFano : Minor
-  KFour : Minor
-  KFive : Minor
-  Matrix : ℕ → List (List ℕ) → Minor
+pub data MinorName : Type 0 where
+  Uniform : ℕ → ℕ → MinorName
+  Fano : MinorName
+  FanoDual : MinorName
+  NonFano : MinorName
+  KFour : MinorName
+  KFive : MinorName
+  ByMatrix : ℕ → List (List ℕ) → MinorName
 
 -- the letter of an entry of a column
 abbrev pub entry_letter : ℕ → ℕ
@@ -23,14 +23,14 @@ entry_letter code = if nat_lt code 10 then 48 + code else 87 + code
 abbrev pub column_word : List ℕ → List ℕ
 column_word column = map entry_letter column
 
-abbrev pub minor_words : Minor → List (List ℕ)
+abbrev pub minor_words : MinorName → List (List ℕ)
 minor_words (Uniform rank size) = (codes "U" ++ (decimal rank ++ (codes "," ++ decimal size))) ∷ []
 minor_words Fano = codes "F7" ∷ []
 minor_words FanoDual = codes "F7*" ∷ []
 minor_words NonFano = codes "F7-" ∷ []
 minor_words KFour = codes "K4" ∷ []
 minor_words KFive = codes "K5" ∷ []
-minor_words (Matrix order columns) = codes "matrix" ∷ decimal order ∷ map column_word columns
+minor_words (ByMatrix order columns) = codes "matrix" ∷ decimal order ∷ map column_word columns
 
 -- a number of at most nine digits
 abbrev pub IsNumber : ℕ → Type 0
@@ -48,38 +48,38 @@ pub record IsMatrix (order : ℕ) (columns : List (List ℕ)) : Type 0 where
   pub height : (rows : ℕ) × (1 ≤ rows) × (rows ≤ 6) × AllByRecursion (λ column. length column ≡ rows) columns
   pub entries : AllByRecursion (λ column. AllByRecursion (λ code. code < order) column) columns
 
-abbrev pub IsMinor : Minor → Type 0
-IsMinor (Uniform rank size) = IsUniform rank size
-IsMinor (Matrix order columns) = IsMatrix order columns
-IsMinor _ = Unit {0}
+abbrev pub IsMinorName : MinorName → Type 0
+IsMinorName (Uniform rank size) = IsUniform rank size
+IsMinorName (ByMatrix order columns) = IsMatrix order columns
+IsMinorName _ = Unit {0}
 
-abbrev pub elements_of : Minor → ℕ
+abbrev pub elements_of : MinorName → ℕ
 elements_of (Uniform rank size) = size
-elements_of (Matrix order columns) = length columns
+elements_of (ByMatrix order columns) = length columns
 elements_of KFour = 6
 elements_of KFive = 10
 elements_of _ = 7
 
 -- what a line says
-pub data Entry : Type 0 where
-  Version : Entry
-  RankIs : ℕ → Entry
-  FieldIs : List ℕ → Entry
-  SizeIs : ℕ → Entry
-  Forbids : Minor → Entry
-  ListsConnected : Entry
-  ListsThreeConnected : Entry
-  ListsCosimple : Entry
-  ListsDistinct : Entry
-  ListsWith : Minor → Entry
-  Prints : PrintMode → Entry
+pub data Statement : Type 0 where
+  Version : Statement
+  RankIs : ℕ → Statement
+  FieldIs : List ℕ → Statement
+  SizeIs : ℕ → Statement
+  Forbids : MinorName → Statement
+  ListsConnected : Statement
+  ListsThreeConnected : Statement
+  ListsCosimple : Statement
+  ListsDistinct : Statement
+  ListsWith : MinorName → Statement
+  Prints : PrintMode → Statement
 
 abbrev pub mode_word : PrintMode → List ℕ
 mode_word Forms = codes "forms"
 mode_word Counts = codes "counts"
 
 -- the words of the line that says it
-abbrev pub spelling : Entry → List (List ℕ)
+abbrev pub spelling : Statement → List (List ℕ)
 spelling Version = codes "version" ∷ codes "1" ∷ []
 spelling (RankIs n) = codes "rank" ∷ decimal n ∷ []
 spelling (FieldIs factors) = codes "field" ∷ parted (codes "x") (map (λ order. decimal order ∷ []) factors)
@@ -93,26 +93,26 @@ spelling (ListsWith minor) = codes "filter" ∷ codes "has" ∷ minor_words mino
 spelling (Prints mode) = codes "print" ∷ mode_word mode ∷ []
 
 -- what a line may say; a value that is out of its limits is refused later
-abbrev pub IsEntry : Entry → Type 0
-IsEntry (RankIs n) = IsNumber n
-IsEntry (SizeIs n) = IsNumber n
-IsEntry (FieldIs factors) = IsFactors factors
-IsEntry (Forbids minor) = IsMinor minor
-IsEntry (ListsWith minor) = IsMinor minor
-IsEntry _ = Unit {0}
+abbrev pub IsStatement : Statement → Type 0
+IsStatement (RankIs n) = IsNumber n
+IsStatement (SizeIs n) = IsNumber n
+IsStatement (FieldIs factors) = IsFactors factors
+IsStatement (Forbids minor) = IsMinorName minor
+IsStatement (ListsWith minor) = IsMinorName minor
+IsStatement _ = Unit {0}
 
 -- all forms of a line are read
-abbrev pub all_forms : Entry → Bool
+abbrev pub all_forms : Statement → Bool
 all_forms entry = true
 
 -- the words say it, in a form that is read
-pub record Says (forms : Entry → Bool) (words : List (List ℕ)) (entry : Entry) : Type 0 where
-  pub may : IsEntry entry
+pub record Says (forms : Statement → Bool) (words : List (List ℕ)) (entry : Statement) : Type 0 where
+  pub may : IsStatement entry
   pub is_read : IsTrue (forms entry)
   pub spelled : words ≡ spelling entry
 
 -- its kind, as its place in the table of the forms
-abbrev pub kind_number : Entry → ℕ
+abbrev pub kind_number : Statement → ℕ
 kind_number Version = 0
 kind_number (RankIs n) = 1
 kind_number (FieldIs factors) = 2
@@ -133,7 +133,7 @@ abbrev pub most_of_kind : ℕ → ℕ
 most_of_kind kind = if kind == forbid_kind then 8 else 1
 
 -- the elements of the matroid that it names, if it names one
-abbrev pub named_elements : Entry → ℕ
+abbrev pub named_elements : Statement → ℕ
 named_elements (Forbids minor) = elements_of minor
 named_elements (ListsWith minor) = elements_of minor
 named_elements _ = 0
