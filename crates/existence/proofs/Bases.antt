@@ -6,13 +6,14 @@ use Rattle.std.specs.List.{All, Contains, range_with_len}
 use Rattle.matroid_theory.specs.Field.{IsField}
 use Rattle.matroid_theory.specs.Matrix.{Matrix, size_below, IsIndependent}
 use Rattle.matroid_theory.specs.Rep.{Rep, count, size, order, matrix, IsShaped}
-use Rattle.matroid_theory.specs.Matroid.{members, IsBasis, IsIndependentIn, Agrees, IsSimple}
+use Rattle.matroid_theory.specs.Matroid.{members, IsBasis, IsIndependentIn, Agrees, IsRepresentation, IsSimple}
 use Rattle.matroid_theory.specs.Minor.{Matroid, any_below, image, IsInjection, IsMinorBy, IsMinor}
 use Rattle.matroid_theory.proofs.FieldLaws.{field_laws}
 use Rattle.matroid_theory.proofs.Masks.{size-same, IsBasis-same}
 use Rattle.matroid_theory.proofs.Ranks.{decided, related_dependent}
 use Rattle.existence.specs.Decided.{IsDecided}
 use Rattle.existence.proofs.Deciding.{along, both, implied, negated, iff, less, equal, equal_bools, each_below, each_two, each_three, some_set, each_set, contained, each_in, at_place, place_of}
+use Rattle.existence.proofs.Shaped.{shaped_decided}
 use Rattle.existence.proofs.Covers.{some_covered, number_cover, truth_cover, function_cover, functions, pair_cover, pairs}
 
 pub independent_decided : (q : ℕ) → IsField q → (r n : ℕ) (A : Matrix) → ((i j : ℕ) → i < r → j < n → A i j < q) → (S : ℕ → Bool) → IsDecided (IsIndependent q r n A S)
@@ -41,6 +42,11 @@ module _ (M : Rep) (s : IsShaped M) where
 
   pub simple_decided : IsDecided (IsSimple M)
   simple_decided = each_three (count M) (size M) (size M) (λ f i j. IsIndependentIn M f (λ k. (k == i) || (k == j))) (λ f i j l _ _. independent_in_decided f l _)
+
+pub representation_decided : (M : Rep) → IsDecided (IsRepresentation M)
+representation_decided M =
+    along (both (less 0 (count M)) (λ _. both (shaped_decided M) (agrees_decided M)))
+    (λ w. record { some = w.0; shaped = w.1.0; agrees = w.1.1 }) (λ r. (r.some, (r.shaped, r.agrees)))
 
 -- ---- minors
 

@@ -4,6 +4,8 @@ pub mod AllReps
 pub mod RisingLists
 pub mod Shaped
 pub mod Moves
-pub mod Forms
 pub mod Bases
+pub mod Forms
 pub mod Levels
+pub mod Filters
+pub mod Tries

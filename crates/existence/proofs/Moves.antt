@@ -4,7 +4,7 @@ use Rattle.std.specs.List.{range_with_len}
 use Rattle.matroid_theory.specs.declared.Mode.{Mode}
 use Rattle.matroid_theory.specs.declared.Mode.TheVariants.{Linear, Semilinear}
 use Rattle.matroid_theory.specs.Field.{IsOrder, IsField, times, degree, raised}
-use Rattle.matroid_theory.specs.Matrix.{Matrix, product, unit, combination, AreInverse}
+use Rattle.matroid_theory.specs.Matrix.{Matrix, matrix_product, unit, combination, AreInverse}
 use Rattle.matroid_theory.specs.Rep.{Rep, Shape, shape, count, size, order, matrix, IsShaped}
 use Rattle.matroid_theory.specs.Move.{Move, ArePermutation, AllowsPower, IsMove, moved, TakesTo, AreEquivalent}
 use Rattle.matroid_theory.proofs.FieldLaws.{by_order, field_laws}
@@ -39,7 +39,7 @@ power_decided Semilinear t = inl tt
 inverse_decided : (q r : ℕ) (G H : Matrix) → IsDecided (AreInverse q r G H)
 inverse_decided q r G H =
     along
-    (both (each_two r r (λ i j. product q r G H i j ≡ unit i j) (λ i j _ _. equal _ _)) (λ _. each_two r r (λ i j. product q r H G i j ≡ unit i j) (λ i j _ _. equal _ _)))
+    (both (each_two r r (λ i j. matrix_product q r G H i j ≡ unit i j) (λ i j _ _. equal _ _)) (λ _. each_two r r (λ i j. matrix_product q r H G i j ≡ unit i j) (λ i j _ _. equal _ _)))
     (λ w. record { right = w.0; left = w.1 }) (λ w. (w.right, w.left))
 
 inverse_near : (q : ℕ) → IsField q → (r : ℕ) (G H G' H' : Matrix) → ((i j : ℕ) → i < r → j < r → G i j ≡ G' i j) → ((i j : ℕ) → i < r → j < r → H i j ≡ H' i j) → AreInverse q r G H → AreInverse q r G' H'
@@ -48,7 +48,7 @@ inverse_near q F r G H G' H' a b w = record {
   left = λ i j l m. sym (near H G H' G' b a i j l m) ∙ w.left i j l m;
 }
   where
-    near : (G H G' H' : Matrix) → ((i j : ℕ) → i < r → j < r → G i j ≡ G' i j) → ((i j : ℕ) → i < r → j < r → H i j ≡ H' i j) → (i j : ℕ) → i < r → j < r → product q r G H i j ≡ product q r G' H' i j
+    near : (G H G' H' : Matrix) → ((i j : ℕ) → i < r → j < r → G i j ≡ G' i j) → ((i j : ℕ) → i < r → j < r → H i j ≡ H' i j) → (i j : ℕ) → i < r → j < r → matrix_product q r G H i j ≡ matrix_product q r G' H' i j
     near G H G' H' a b i j l m = sum_same q F r (λ k. times q (G i k) (H k j)) (λ k. times q (G' i k) (H' k j)) (λ k n t. times q (a i k l n t) (b k j n m t))
 
 pub move_decided : (mode : Mode) (S : Shape) (m : Move) → IsDecided (IsMove mode S m)
