@@ -9,3 +9,6 @@ pub mod Forms
 pub mod Levels
 pub mod Filters
 pub mod Tries
+pub mod Givens
+pub mod Classes
+pub mod Listings
