@@ -115,6 +115,12 @@ module _ (mode : Mode) (M N : Rep) (some : 0 < count M) (e : AreEquivalent mode 
         ((λ c. move.1 (IsBasis-same N 0 _ _ (λ j m. sym (carried X j m)) (old.0 c))), (λ b. old.1 (IsBasis-same N 0 _ _ (carried X) (move.0 b)))));
   })
 
+pub minors_carried : (mode : Mode) (M N : Rep) (K : Matroid) → IsRepresentation M → AreEquivalent mode M N → IsMinor K M ↔ IsMinor K N
+minors_carried mode M N K r e = (
+  (λ w. minor_before mode N M (subst (λ S. 0 < length S.factors) (sym e.takes.same_shape) r.some) (equivalent-symmetric mode M N e) K w.0 w.1 w.2),
+  (λ w. minor_before mode M N r.some e K w.0 w.1 w.2),
+)
+
 pub member_carried : (q : Family) (mode : Mode) (n : ℕ) (M N : Rep) → AreEquivalent mode M N → IsMember q n M → IsMember q n N
 member_carried q mode n M N e m =
     let r = m.representation in
@@ -134,10 +140,14 @@ member_carried q mode n M N e m =
 
 -- ---- tries
 
-pub try_has_form : (q : Family) (n : ℕ) (try : Rep × List ℕ) → IsTry q n try → (N : Rep) × IsTryFor q n N try × IsLevelForm q n N
+pub try_has_form : (q : Family) (n : ℕ) (try : Rep × List ℕ) → IsTry q n try → (N : Rep) × IsTryFor q n N try
 try_has_form q n try t =
     let w = form_exists q.mode (followed_by try.0 try.1) (let m = t.member in m.representation) in
-    (w.0, record { is_try = t; form = w.1; equivalent = w.2 }, record { form = w.1; member = member_carried q q.mode n (followed_by try.0 try.1) w.0 w.2 t.member })
+    (w.0, record { is_try = t; form = w.1; equivalent = w.2 })
+
+-- and it is a form of the level
+pub form_of_try : (q : Family) (n : ℕ) (N : Rep) (try : Rep × List ℕ) → IsTryFor q n N try → IsLevelForm q n N
+form_of_try q n N try w = record { form = w.form; member = member_carried q q.mode n (followed_by try.0 try.1) N w.equivalent (let t = w.is_try in t.member) }
 
 -- a list that isn't empty is a front and its last element
 last_of : {X : Type 0} (x : X) (xs : List X) → (front : List X) × (last : X) × (x ∷ xs ≡ front ++ last ∷ [])

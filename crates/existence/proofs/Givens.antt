@@ -1,20 +1,17 @@
--- Each minor that a line can name has its matroid.
-use Rattle.std.proofs.Common.{◌≡◌, ℕ, zero, suc, ◌+◌, ◌-◌, ◌^◌, ◌<◌, ◌≤◌, refl, sym, ◌∙◌, ap, subst, arith, Bool, true, false, cond, not, List, [], ◌∷◌, map, length, inl, inr, slice_index}
+-- What is given by all sets of one size, by columns or as their dual is a matroid.
+use Rattle.std.proofs.Common.{◌≡◌, ℕ, zero, suc, ◌+◌, ◌-◌, ◌^◌, ◌<◌, ◌≤◌, refl, sym, ◌∙◌, ap, subst, arith, Bool, true, false, cond, not, List, [], ◌∷◌, length, inl, inr, slice_index}
 use Rattle.std.specs.Bool.{nat_lt}
-use Rattle.std.specs.List.{AllByRecursion, Contains, slice_index_or, list_all}
+use Rattle.std.specs.List.{Contains, slice_index_or}
 use Rattle.std.specs.List.Sorted.{IsStrictlyIncreasing}
-use Rattle.std.proofs.lemmas.Bool.{ltb-true}
 use Rattle.matroid_theory.specs.Field.{IsOrder, IsField}
 use Rattle.matroid_theory.specs.Matrix.{size_below, IsIndependent, IsIndependentPart, IsRankOf}
 use Rattle.matroid_theory.specs.Matroid.{members}
 use Rattle.matroid_theory.specs.Minor.{Matroid}
 use Rattle.matroid_theory.specs.Given.{Given, AllSets, ColumnsOver, DualOfColumns, elements, column_length, matrix_of_lists, IsColumnBasis, IsGivenBasis, IsGivenBy}
-use Rattle.matroid_theory.proofs.FieldLaws.{field_laws, both_left, both_right}
+use Rattle.matroid_theory.proofs.FieldLaws.{field_laws}
 use Rattle.matroid_theory.proofs.Masks.{mask, mask-below, members-mask, size-same, IsIndependent-same}
 use Rattle.matroid_theory.proofs.Bases.{rank_exists, rank_unique}
 use Rattle.matroid_theory.proofs.Rest.{size_front}
-use Rattle.formats.specs.Statement.{MinorName, Uniform, Fano, FanoDual, NonFano, KFour, KFive, ByMatrix, IsMinorName}
-use Rattle.formats.specs.Minors.{given_as, fano_columns, k4_columns, k5_columns}
 use Rattle.existence.specs.Decided.{IsDecided}
 use Rattle.existence.proofs.Deciding.{IsIn, to_contains, from_contains, along, both, equal}
 use Rattle.existence.proofs.Bases.{independent_decided}
@@ -70,7 +67,7 @@ module _ (given : Given) (rank : ℕ) (same : (S T : ℕ → Bool) → ((j : ℕ
 
 -- ---- all sets of one size
 
-uniform_given : (rank size : ℕ) → rank ≤ size → (N : Matroid) × IsGivenBy (AllSets rank size) N
+pub uniform_given : (rank size : ℕ) → rank ≤ size → (N : Matroid) × IsGivenBy (AllSets rank size) N
 uniform_given rank size l =
     matroid_of (AllSets rank size) rank (λ S T h e. sym (size-same size S T h) ∙ e) (λ S. equal (size_below size S) rank) (λ j. nat_lt j rank) (size_front rank size l) (λ S e. e)
 
@@ -109,10 +106,10 @@ module _ (q : ℕ) (o : IsOrder q) (columns : List (List ℕ)) (codes : (i j : �
   first_basis : (S : ℕ → Bool) × IsColumnBasis q columns S
   first_basis = (let h = column_rank.1 in let p = h.reached in (p.0, record { independent = p.1.independent; greatest = subst HasRank (sym p.1.elements) column_rank.1 }))
 
-  columns_given : (N : Matroid) × IsGivenBy (ColumnsOver q columns) N
+  pub columns_given : (N : Matroid) × IsGivenBy (ColumnsOver q columns) N
   columns_given = matroid_of (ColumnsOver q columns) column_rank.0 basis_same column_basis_decided first_basis.0 first_basis.1 basis_rank
 
-  dual_given : (N : Matroid) × IsGivenBy (DualOfColumns q columns) N
+  pub dual_given : (N : Matroid) × IsGivenBy (DualOfColumns q columns) N
   dual_given =
       matroid_of (DualOfColumns q columns) (n - column_rank.0) (λ S T h b. basis_same (λ j. not (S j)) (λ j. not (T j)) (λ j l. ap not (h j l)) b) (λ S. column_basis_decided (λ j. not (S j)))
       (λ j. not (first_basis.0 j)) (basis_same first_basis.0 (λ j. not (not (first_basis.0 j))) (λ j l. twice (first_basis.0 j)) first_basis.1)
@@ -121,44 +118,3 @@ module _ (q : ℕ) (o : IsOrder q) (columns : List (List ℕ)) (codes : (i j : �
       twice : (b : Bool) → b ≡ not (not b)
       twice true = refl
       twice false = refl
-
--- ---- the names
-
-column_code : (q : ℕ) → 0 < q → (column : List ℕ) → AllByRecursion (λ code. code < q) column → (i : ℕ) → slice_index column i < q
-column_code q pos [] all i = pos
-column_code q pos (x ∷ xs) all zero = all.0
-column_code q pos (x ∷ xs) all (suc i) = column_code q pos xs all.1 i
-
-columns_codes : (q : ℕ) → 0 < q → (columns : List (List ℕ)) → AllByRecursion (λ column. AllByRecursion (λ code. code < q) column) columns → (i j : ℕ) → matrix_of_lists columns i j < q
-columns_codes q pos [] all i j = pos
-columns_codes q pos (c ∷ cs) all i zero = column_code q pos c all.0 i
-columns_codes q pos (c ∷ cs) all i (suc j) = columns_codes q pos cs all.1 i j
-
-codes_tested : (q : ℕ) (column : List ℕ) → list_all (λ code. nat_lt code q) column ≡ true → AllByRecursion (λ code. code < q) column
-codes_tested q [] t = tt
-codes_tested q (x ∷ xs) t = (ltb-true x q (both_left _ _ t), codes_tested q xs (both_right (nat_lt x q) _ t))
-
-columns_tested : (q : ℕ) (columns : List (List ℕ)) → list_all (λ column. list_all (λ code. nat_lt code q) column) columns ≡ true → AllByRecursion (λ column. AllByRecursion (λ code. code < q) column) columns
-columns_tested q [] t = tt
-columns_tested q (c ∷ cs) t = (codes_tested q c (both_left _ _ t), columns_tested q cs (both_right (list_all (λ code. nat_lt code q) c) _ t))
-
-two : IsOrder 2
-two = record { listed = (0, omega arith, refl) }
-
-three : IsOrder 3
-three = record { listed = (1, omega arith, refl) }
-
-positive : (q : ℕ) → IsOrder q → 0 < q
-positive q o = let F = field_laws q o in let t = F.two in omega arith
-
-over_order : (q : ℕ) (o : IsOrder q) (columns : List (List ℕ)) → AllByRecursion (λ column. AllByRecursion (λ code. code < q) column) columns → (i j : ℕ) → i < column_length columns → j < length columns → matrix_of_lists columns i j < q
-over_order q o columns all i j _ _ = columns_codes q (positive q o) columns all i j
-
-pub minor_exists : (minor : MinorName) → IsMinorName minor → (N : Matroid) × IsGivenBy (given_as minor) N
-minor_exists (Uniform rank size) w = uniform_given rank size w.low
-minor_exists Fano w = columns_given 2 two fano_columns (over_order 2 two fano_columns (columns_tested 2 fano_columns refl))
-minor_exists FanoDual w = dual_given 2 two fano_columns (over_order 2 two fano_columns (columns_tested 2 fano_columns refl))
-minor_exists NonFano w = columns_given 3 three fano_columns (over_order 3 three fano_columns (columns_tested 3 fano_columns refl))
-minor_exists KFour w = columns_given 2 two k4_columns (over_order 2 two k4_columns (columns_tested 2 k4_columns refl))
-minor_exists KFive w = columns_given 2 two k5_columns (over_order 2 two k5_columns (columns_tested 2 k5_columns refl))
-minor_exists (ByMatrix order columns) w = columns_given order w.is_order columns (over_order order w.is_order columns w.entries)

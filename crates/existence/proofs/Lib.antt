@@ -11,4 +11,3 @@ pub mod Filters
 pub mod Tries
 pub mod Givens
 pub mod Classes
-pub mod Listings

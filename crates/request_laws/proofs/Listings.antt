@@ -15,7 +15,7 @@ use Rattle.formats.specs.Levels.{AreGivenBy, Grows, Keeps, HasTries, IsLevelEntr
 use Rattle.existence.proofs.Levels.{level_exists}
 use Rattle.existence.proofs.Filters.{listed_exists}
 use Rattle.existence.proofs.Tries.{tries_exist}
-use Rattle.existence.proofs.Givens.{minor_exists}
+use Rattle.request_laws.proofs.Minors.{minor_exists}
 
 -- ---- the minors of a request
 

@@ -1,0 +1,5 @@
+pub mod Minors
+pub mod Listings
+pub mod Said
+pub mod Walks
+pub mod Texts
