@@ -1,6 +1,6 @@
 -- The lines of a text are in order, or one of them is the first at fault.
 use Rattle.std.proofs.Common.{◌≡◌, ℕ, suc, ◌+◌, ◌<◌, ◌≤◌, ◌==◌, refl, sym, ◌∙◌, ap, subst, arith, Bool, true, false, cond, List, [], ◌∷◌, ◌++◌, map, length, inl, inr, ◌⊎◌, not, append_assoc}
-use Rattle.std.specs.Prelude.{IsTrue}
+use Rattle.std.specs.Prelude.{IsTrue, filter}
 use Rattle.std.specs.List.{AllByRecursion}
 use Rattle.std.proofs.lemmas.Bool.{cases_lt, cases_eq, cases_Bool}
 use Rattle.std.proofs.lemmas.Bool.Decides.{nat_tests}
@@ -54,7 +54,7 @@ order_end es e order small fewer = record {
 -- ---- one more line
 
 statements_append : (xs ys : List (List ℕ)) → statements_of (xs ++ ys) ≡ statements_of xs ++ statements_of ys
-statements_append xs ys = ap (λ (l : List (List (List ℕ))). _) (map-append words_of xs ys) ∙ filter-append (λ words. not (is_skipped words)) (map words_of xs) (map words_of ys)
+statements_append xs ys = ap (filter (λ words. not (is_skipped words))) (map-append words_of xs ys) ∙ filter-append (λ words. not (is_skipped words)) (map words_of xs) (map words_of ys)
 
 skipped_line : (line : List ℕ) → is_skipped (words_of line) ≡ true → statements_of (line ∷ []) ≡ []
 skipped_line line s = ap (λ (b : Bool). cond (not b) (words_of line ∷ []) []) s
