@@ -1,4 +1,5 @@
 pub mod Minors
+pub mod Families
 pub mod Listings
 pub mod Said
 pub mod Walks

@@ -11,10 +11,12 @@ use Rattle.formats.specs.Statement.{MinorName, Statement, Version, RankIs, Field
 use Rattle.formats.specs.Request.{Request, StandsFor, forbidden_in, wanted_in}
 use Rattle.formats.specs.Minors.{given_as}
 use Rattle.formats.specs.Listing.{LevelEntry, level_count, listing_blocks, text_of_blocks}
-use Rattle.formats.specs.Levels.{AreGivenBy, Grows, Keeps, HasTries, IsLevelEntry, AreFirstLevels, AreLevels, IsListing, columns_of}
+use Rattle.formats.specs.Levels.{AreGivenBy, Grows, Keeps, HasTries, IsLevelEntry, AreFirstLevels, AreLevels, IsListing, IsListingUpTo, IsListingCutOff, columns_of}
+use Rattle.formats.proofs.Fronts.{cut_is_front, up_to_is_front}
 use Rattle.existence.proofs.Levels.{level_exists}
 use Rattle.existence.proofs.Filters.{listed_exists}
 use Rattle.existence.proofs.Tries.{tries_exist}
+use Rattle.request_laws.specs.Answered.{NamesMinors, IsFrontOfListing}
 use Rattle.request_laws.proofs.Minors.{minor_exists}
 
 -- ---- the minors of a request
@@ -29,12 +31,7 @@ wanted_may [] all = tt
 wanted_may (ListsWith m ∷ es) all = (all.0, wanted_may es all.1)
 wanted_may (_ ∷ es) all = wanted_may es all.1
 
--- the minors that a request names are names of matroids
-pub record NamesMatroids (q : Request) : Type 0 where
-  pub forbid : AllByRecursion IsMinorName q.forbid
-  pub has : AllByRecursion IsMinorName (option_to_list q.has)
-
-pub stands_names : (forms : Statement → Bool) (text : List ℕ) (q : Request) → StandsFor forms text q → NamesMatroids q
+pub stands_names : (forms : Statement → Bool) (text : List ℕ) (q : Request) → StandsFor forms text q → NamesMinors q
 stands_names forms text q s = record {
   forbid = subst (AllByRecursion IsMinorName) s.asked.forbid (forbidden_may s.entries s.said.may);
   has = subst (AllByRecursion IsMinorName) s.asked.has (wanted_may s.entries s.said.may);
@@ -48,12 +45,12 @@ wanted_exists : (o : Option MinorName) → AllByRecursion IsMinorName (option_to
 wanted_exists None all = (None, tt)
 wanted_exists (Some m) all = let N = minor_exists m all.0 in (Some N.0, (N.1, tt))
 
-pub family_exists : (q : Request) → NamesMatroids q → (family : Family) × Grows q family
+pub family_exists : (q : Request) → NamesMinors q → (family : Family) × Grows q family
 family_exists q names =
     let Ns = matroids_exist q.forbid names.forbid in
     (record { factors = q.factors; rank = q.rank; mode = Linear; forbidden = Ns.0 }, record { factors_are = refl; rank_is = refl; linear = refl; forbids = Ns.1 })
 
-pub filters_exist : (q : Request) → NamesMatroids q → (filters : Filters) × Keeps q filters
+pub filters_exist : (q : Request) → NamesMinors q → (filters : Filters) × Keeps q filters
 filters_exist q names =
     let N = wanted_exists q.has names.has in
     (record { connected = q.connected; three = q.three_connected; cosimple = q.cosimple; distinct = q.distinct; has = N.0 },
@@ -67,7 +64,7 @@ has_tries family n = elim (cases_lt family.rank n) [
   | inr g ↦ (0, record { first = λ _. refl; later = λ l. absurd (omega arith) })
 ]
 
-module _ (q : Request) (names : NamesMatroids q) where
+module _ (q : Request) (names : NamesMinors q) where
   pub entry_exists : (n : ℕ) → (entry : LevelEntry) × (entry.size ≡ n) × IsLevelEntry q entry
   entry_exists n =
       let family = family_exists q names in
@@ -113,3 +110,9 @@ pub listing_exists : (forms : Statement → Bool) (text : List ℕ) (q : Request
 listing_exists forms text q s =
     let w = levels_exist q (stands_names forms text q s) in
     (text_of_blocks (listing_blocks q w.0), record { levels = w.0; are = w.1; is = refl })
+
+pub cut_is_front_of_listing : (forms : Statement → Bool) (text : List ℕ) (q : Request) (whole : ℕ) (written : List ℕ) → StandsFor forms text q → IsListingCutOff q whole written → IsFrontOfListing q written
+cut_is_front_of_listing forms text q whole written s c = let w = listing_exists forms text q s in (w.0, w.1, cut_is_front q w.0 written whole w.1 c)
+
+pub up_to_is_front_of_listing : (forms : Statement → Bool) (text : List ℕ) (q : Request) (whole : ℕ) (written : List ℕ) → StandsFor forms text q → IsListingUpTo q whole written → IsFrontOfListing q written
+up_to_is_front_of_listing forms text q whole written s c = let w = listing_exists forms text q s in (w.0, w.1, up_to_is_front q w.0 written whole w.1 c)
