@@ -11,3 +11,4 @@ pub mod Filters
 pub mod Tries
 pub mod Givens
 pub mod Classes
+pub mod Examples

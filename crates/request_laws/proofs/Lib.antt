@@ -4,3 +4,4 @@ pub mod Listings
 pub mod Said
 pub mod Walks
 pub mod Texts
+pub mod Examples
