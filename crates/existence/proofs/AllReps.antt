@@ -1,10 +1,10 @@
 -- All representations of a shape, as a list.
-use Rattle.std.proofs.Common.{◌≡◌, ℕ, ◌+◌, ◌*◌, ◌/◌, ◌%◌, ◌<◌, ◌≤◌, refl, sym, ◌∙◌, ap, subst, arith, List, [], ◌∷◌, map, length, inl, inr, slice_index, lit<}
-use Rattle.std.specs.List.{slice_index_or, range_with_len}
+use Rattle.std.proofs.Common.{◌≡◌, ℕ, ◌+◌, ◌*◌, ◌/◌, ◌%◌, ◌<◌, refl, ◌∙◌, ap, subst, arith, List, [], map, length, inl, inr, slice_index, lit<}
+use Rattle.std.specs.List.{range_with_len}
 use Rattle.std.proofs.Math.Nat.{mod-lt}
 use Rattle.std.proofs.lemmas.Bool.{cases_lt}
 use Rattle.matroid_theory.specs.Field.{IsOrder}
-use Rattle.matroid_theory.specs.Rep.{Rep, Shape, shape, count, size, order, matrix, IsShaped, IsProductColumn}
+use Rattle.matroid_theory.specs.Rep.{Rep, Shape, shape, size, IsShaped, IsProductColumn}
 use Rattle.matroid_theory.proofs.FieldLaws.{by_order}
 use Rattle.matroid_theory.proofs.First.{row_below, whole}
 use Rattle.existence.proofs.Deciding.{IsIn, place_of}
@@ -47,9 +47,9 @@ unfolding all_reps
 in_all M s =
     in_map (rep_of M.factors M.rank) M.columns (words (all_columns M.factors M.rank) (size M))
     (in_words (all_columns M.factors M.rank) (size M) M.columns refl (λ column i.
-        let at = place_of column [] M.columns i in
-        in_columns M.factors M.rank column s.orders
-        (subst (IsProductColumn M.factors M.rank) at.2 (record { rows = s.lengths at.0 at.1; codes = λ j f k l. s.codes f j at.0 l k at.1 }))))
+    let at = place_of column [] M.columns i in
+    in_columns M.factors M.rank column s.orders
+    (subst (IsProductColumn M.factors M.rank) at.2 (record { rows = s.lengths at.0 at.1; codes = λ j f k l. s.codes f j at.0 l k at.1 }))))
 
 -- a shaped representation is among those of its shape
 pub in_all_of : (M : Rep) (S : Shape) → IsShaped M → shape M ≡ S → IsIn M (all_reps S.factors S.rank S.size)

@@ -1,8 +1,8 @@
 -- Whether a set is a basis, whether all factors agree, whether a representation is simple, and whether it has a minor.
-use Rattle.std.proofs.Common.{◌≡◌, ℕ, zero, suc, ◌+◌, ◌^◌, ◌<◌, refl, sym, ◌∙◌, ap, subst, arith, Bool, true, false, cond, List, length, inl, inr, ◌&&◌, ◌||◌}
+use Rattle.std.proofs.Common.{◌≡◌, ℕ, zero, suc, ◌+◌, ◌^◌, ◌<◌, refl, sym, ◌∙◌, ap, subst, arith, Bool, false, List, inl, inr, ◌&&◌, ◌||◌}
 use Rattle.std.specs.Bool.{◌==◌}
 use Rattle.std.specs.Prelude.{◌↔◌}
-use Rattle.std.specs.List.{All, Contains, range_with_len}
+use Rattle.std.specs.List.{All, Contains}
 use Rattle.matroid_theory.specs.Field.{IsField}
 use Rattle.matroid_theory.specs.Matrix.{Matrix, size_below, IsIndependent}
 use Rattle.matroid_theory.specs.Rep.{Rep, count, size, order, matrix, IsShaped}
@@ -12,9 +12,9 @@ use Rattle.matroid_theory.proofs.FieldLaws.{field_laws}
 use Rattle.matroid_theory.proofs.Masks.{size-same, IsBasis-same}
 use Rattle.matroid_theory.proofs.Ranks.{decided, related_dependent}
 use Rattle.existence.specs.Decided.{IsDecided}
-use Rattle.existence.proofs.Deciding.{along, both, implied, negated, iff, less, equal, equal_bools, each_below, each_two, each_three, some_set, each_set, contained, each_in, at_place, place_of}
+use Rattle.existence.proofs.Deciding.{along, both, implied, iff, less, equal, equal_bools, each_below, each_two, each_three, some_set, each_set, contained, each_in, at_place, place_of}
 use Rattle.existence.proofs.Shaped.{shaped_decided}
-use Rattle.existence.proofs.Covers.{some_covered, number_cover, truth_cover, function_cover, functions, pair_cover, pairs}
+use Rattle.existence.proofs.Covers.{some_covered, number_cover, truth_cover, function_cover, pair_cover}
 
 pub independent_decided : (q : ℕ) → IsField q → (r n : ℕ) (A : Matrix) → ((i j : ℕ) → i < r → j < n → A i j < q) → (S : ℕ → Bool) → IsDecided (IsIndependent q r n A S)
 independent_decided q F r n A codes S = elim (decided q F r n A codes S) [ inl h ↦ inl h | inr w ↦ inr (related_dependent q F r n A S w) ]

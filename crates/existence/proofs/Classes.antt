@@ -1,16 +1,16 @@
 -- Each class of representations has a form; members are carried by equivalence; and what follows for tries.
-use Rattle.std.proofs.Common.{◌≡◌, ◌≢◌, ℕ, zero, suc, ◌+◌, ◌^◌, ◌<◌, ◌≤◌, refl, sym, ◌∙◌, ap, subst, arith, Bool, List, [], ◌∷◌, ◌++◌, length, inl, inr, ◌&&◌, ◌||◌}
+use Rattle.std.proofs.Common.{◌≡◌, ◌≢◌, ℕ, zero, suc, ◌+◌, ◌<◌, refl, sym, ◌∙◌, ap, subst, arith, Bool, List, [], ◌∷◌, ◌++◌, length, inl, inr, ◌&&◌, ◌||◌}
 use Rattle.std.specs.Bool.{◌==◌}
 use Rattle.std.specs.Prelude.{◌↔◌}
-use Rattle.std.specs.List.{All, AllPairs, Contains, slice_index_or}
+use Rattle.std.specs.List.{Contains, slice_index_or}
 use Rattle.std.specs.Ordering.{ordering_reverse}
 use Rattle.std.specs.declared.cmp.Ordering.{Ordering}
 use Rattle.std.specs.declared.cmp.Ordering.TheVariants.{Less, Equal, Greater}
 use Rattle.std.proofs.lemmas.Bool.{cases_eq}
 use Rattle.matroid_theory.specs.declared.Mode.{Mode}
 use Rattle.matroid_theory.specs.Matrix.{size_below}
-use Rattle.matroid_theory.specs.Rep.{Rep, shape, count, size, IsShaped, IsStandard}
-use Rattle.matroid_theory.specs.Matroid.{members, IsBasis, IsRepresentation}
+use Rattle.matroid_theory.specs.Rep.{Rep, shape, count, size, IsStandard}
+use Rattle.matroid_theory.specs.Matroid.{members, IsRepresentation}
 use Rattle.matroid_theory.specs.Move.{ArePermutation, AreEquivalent}
 use Rattle.matroid_theory.specs.Order.{rep_cmp, IsForm}
 use Rattle.matroid_theory.specs.Minor.{Matroid, image, IsMinorBy, IsMinor}
@@ -56,16 +56,19 @@ pub form_exists : (mode : Mode) (M : Rep) → IsRepresentation M → (N : Rep) �
 form_exists mode M r =
     let all = rising_list (shape M) (λ N. IsStandard N × AreEquivalent mode M N) (λ N w. (w.1.takes.shaped, w.1.takes.same_shape)) (λ N. both (standard_decided N) (λ _. equivalent_decided mode M N)) in
     let least = first_least (λ N. IsStandard N × AreEquivalent mode M N) all.0 all.1 (let w = standard_exists mode M r.shaped r.some r.agrees in (w.0, (w.1, w.2))) in
-    let e = least.1.1 in
-    (least.0, record {
-      representation = record {
-        some = subst (λ S. 0 < length S.factors) (sym e.takes.same_shape) r.some;
-        shaped = e.takes.shaped;
-        agrees = (let c = agrees_carried mode M least.0 e in c.0 r.agrees);
-      };
-      standard = least.1.0;
-      least = λ L s d. least.2 L (s, equivalent-transitive mode M least.0 L e d);
-    }, e)
+    let e = least.1.1 in (
+      least.0,
+      record {
+        representation = record {
+          some = subst (λ S. 0 < length S.factors) (sym e.takes.same_shape) r.some;
+          shaped = e.takes.shaped;
+          agrees = (let c = agrees_carried mode M least.0 e in c.0 r.agrees);
+        };
+        standard = least.1.0;
+        least = λ L s d. least.2 L (s, equivalent-transitive mode M least.0 L e d);
+      },
+      e,
+    )
 
 -- ---- members
 
@@ -101,19 +104,23 @@ module _ (mode : Mode) (M N : Rep) (some : 0 < count M) (e : AreEquivalent mode 
       || C (e.valid.labels.there j l' i)
 
   minor_before : IsMinor K M
-  minor_before = ((λ x. p (f x)), (λ k. C (u k)), record {
-    injection = record {
-      below = λ x l. e.valid.labels.below (f x) (in_M x l);
-      apart = λ x y l m h. w.injection.apart x y l m (sym (e.valid.labels.there (f x) (in_M x l)) ∙ ap u h ∙ e.valid.labels.there (f y) (in_M y m));
-    };
-    outside = λ x l. ap C (e.valid.labels.there (f x) (in_M x l)) ∙ w.outside x l;
-    contracted =
-        ap (λ n. K.rank + n) (size_relabelled (size M) u p (record { below = e.valid.labels.inverse_below; inverse_below = e.valid.labels.below; there = e.valid.labels.back; back = e.valid.labels.there }) C
-        ∙ ap (λ n. size_below n C) (sym sizes)) ∙ w.contracted ∙ ap (λ S. S.rank) e.takes.same_shape;
-    bases = λ X l. (let old = w.bases X l in
-        let move = basis_carried mode M N e.move e.shaped e.valid e.takes 0 some (before X) in
-        ((λ c. move.1 (IsBasis-same N 0 _ _ (λ j m. sym (carried X j m)) (old.0 c))), (λ b. old.1 (IsBasis-same N 0 _ _ (carried X) (move.0 b)))));
-  })
+  minor_before = (
+    (λ x. p (f x)),
+    (λ k. C (u k)),
+    record {
+      injection = record {
+        below = λ x l. e.valid.labels.below (f x) (in_M x l);
+        apart = λ x y l m h. w.injection.apart x y l m (sym (e.valid.labels.there (f x) (in_M x l)) ∙ ap u h ∙ e.valid.labels.there (f y) (in_M y m));
+      };
+      outside = λ x l. ap C (e.valid.labels.there (f x) (in_M x l)) ∙ w.outside x l;
+      contracted =
+          ap (λ n. K.rank + n) (size_relabelled (size M) u p (record { below = e.valid.labels.inverse_below; inverse_below = e.valid.labels.below; there = e.valid.labels.back; back = e.valid.labels.there }) C
+          ∙ ap (λ n. size_below n C) (sym sizes)) ∙ w.contracted ∙ ap (λ S. S.rank) e.takes.same_shape;
+      bases = λ X l. (let old = w.bases X l in
+          let move = basis_carried mode M N e.move e.shaped e.valid e.takes 0 some (before X) in
+          ((λ c. move.1 (IsBasis-same N 0 _ _ (λ j m. sym (carried X j m)) (old.0 c))), (λ b. old.1 (IsBasis-same N 0 _ _ (carried X) (move.0 b)))));
+    },
+  )
 
 pub minors_carried : (mode : Mode) (M N : Rep) (K : Matroid) → IsRepresentation M → AreEquivalent mode M N → IsMinor K M ↔ IsMinor K N
 minors_carried mode M N K r e = (
@@ -165,9 +172,13 @@ split_last N l = at N.columns l refl
 pub form_has_try : (q : Family) (n : ℕ) (N : Rep) → q.rank < n → IsLevelForm q n N → (P : Rep) × (v : List ℕ) × (N ≡ followed_by P v) × IsTryFor q n N (P, v)
 form_has_try q n N room h =
     let s : size N ≡ n = (let m = h.member in m.sizes) in
-    let w = split_last N (omega arith) in
-    (w.0, w.1, w.2, record {
-      is_try = last_try q n w.0 w.1 room (subst (IsLevelForm q n) w.2 h);
-      form = h.form;
-      equivalent = subst (λ M. AreEquivalent q.mode M N) w.2 (equivalent-reflexive q.mode N (let r = h.form.representation in r.shaped));
-    })
+    let w = split_last N (omega arith) in (
+      w.0,
+      w.1,
+      w.2,
+      record {
+        is_try = last_try q n w.0 w.1 room (subst (IsLevelForm q n) w.2 h);
+        form = h.form;
+        equivalent = subst (λ M. AreEquivalent q.mode M N) w.2 (equivalent-reflexive q.mode N (let r = h.form.representation in r.shaped));
+      },
+    )

@@ -1,5 +1,5 @@
 -- Lists that come near each value of a kind, so that a search through them decides whether there is one with a property.
-use Rattle.std.proofs.Common.{◌≡◌, ℕ, zero, suc, ◌+◌, ◌<◌, ◌≤◌, refl, sym, ap, subst, arith, Bool, true, false, List, [], ◌∷◌, ◌++◌, map, length, inl, inr, ◌⊎◌}
+use Rattle.std.proofs.Common.{◌≡◌, ℕ, zero, suc, ◌+◌, ◌<◌, ◌≤◌, refl, sym, ap, subst, arith, Bool, true, false, List, [], ◌∷◌, ◌++◌, map, length, inl, inr}
 use Rattle.std.specs.Prelude.{flat_map}
 use Rattle.std.specs.List.{range_with_len}
 use Rattle.std.proofs.lemmas.Bool.{cases_lt}
@@ -69,15 +69,18 @@ module _ {X : Type 0} (V : X → Type 0) (R : X → X → Type 0) (xs : List X) 
   pub function_cover : (n : ℕ) → IsCover (λ (f : ℕ → X). (j : ℕ) → j < n → V (f j)) (λ f g. (j : ℕ) → j < n → R (f j) (g j)) (functions d xs n)
   unfolding functions
   function_cover zero = record { near = λ f _. ((λ _. d), inl refl, λ j l. absurd (omega arith)) }
-  function_cover (suc n) = record { near = λ f v.
-      let rest = (let r = function_cover n in r.near f (λ j l. v j (omega arith))) in
-      let last = c.near (f n) (v n (omega arith)) in
-      (at_last n last.0 rest.0,
-      in_flat (λ x. map (at_last n x) (functions d xs n)) last.0 (at_last n last.0 rest.0) xs last.1 (in_map (at_last n last.0) rest.0 (functions d xs n) rest.1),
-      λ j l. elim (cases_lt j n) [
-        | inl b ↦ subst (R (f j)) (sym (at_last-before n last.0 rest.0 j b)) (rest.2 j b)
-        | inr g ↦ (let e : n ≡ j = omega arith in subst (λ k. R (f k) (at_last n last.0 rest.0 k)) e (subst (R (f n)) (sym (at_last-own n last.0 rest.0)) last.2))
-      ]) }
+  function_cover (suc n) = record {
+    near = λ f v.
+        let rest = (let r = function_cover n in r.near f (λ j l. v j (omega arith))) in
+        let last = c.near (f n) (v n (omega arith)) in (
+          at_last n last.0 rest.0,
+          in_flat (λ x. map (at_last n x) (functions d xs n)) last.0 (at_last n last.0 rest.0) xs last.1 (in_map (at_last n last.0) rest.0 (functions d xs n) rest.1),
+          λ j l. elim (cases_lt j n) [
+            | inl b ↦ subst (R (f j)) (sym (at_last-before n last.0 rest.0 j b)) (rest.2 j b)
+            | inr g ↦ (let e : n ≡ j = omega arith in subst (λ k. R (f k) (at_last n last.0 rest.0 k)) e (subst (R (f n)) (sym (at_last-own n last.0 rest.0)) last.2))
+          ],
+        );
+  }
 
 pub pairs : {X Y : Type 0} → List X → List Y → List (X × Y)
 pairs xs ys = flat_map (λ x. map (λ y. (x, y)) ys) xs
@@ -88,7 +91,9 @@ in_pairs xs ys x y i j = in_flat (λ x. map (λ y. (x, y)) ys) x (x, y) xs i (in
 
 pub pair_cover : {X Y : Type 0} (V : X → Type 0) (R : X → X → Type 0) (xs : List X) (W : Y → Type 0) (S : Y → Y → Type 0) (ys : List Y) → IsCover V R xs → IsCover W S ys
     → IsCover (λ (p : X × Y). V p.0 × W p.1) (λ p q. R p.0 q.0 × S p.1 q.1) (pairs xs ys)
-pair_cover V R xs W S ys c d = record { near = λ p v.
-    let a = c.near p.0 v.0 in
-    let b = d.near p.1 v.1 in
-    ((a.0, b.0), in_pairs xs ys a.0 b.0 a.1 b.1, (a.2, b.2)) }
+pair_cover V R xs W S ys c d = record {
+  near = λ p v.
+      let a = c.near p.0 v.0 in
+      let b = d.near p.1 v.1 in
+      ((a.0, b.0), in_pairs xs ys a.0 b.0 a.1 b.1, (a.2, b.2));
+}

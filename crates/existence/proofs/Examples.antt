@@ -1,10 +1,10 @@
 -- Worked examples: the laws at rank 3 over GF(2).
-use Rattle.std.proofs.Common.{◌≡◌, ℕ, zero, suc, ◌<◌, ◌≤◌, refl, sym, arith, List, [], ◌∷◌, length, lit<, lit≤}
+use Rattle.std.proofs.Common.{◌≡◌, ℕ, zero, suc, ◌<◌, refl, arith, [], ◌∷◌, length, lit<, lit≤}
 use Rattle.std.specs.List.{slice_index_or}
 use Rattle.matroid_theory.specs.declared.Mode.TheVariants.{Linear}
 use Rattle.matroid_theory.specs.Field.{IsOrder}
 use Rattle.matroid_theory.specs.Matrix.{unit}
-use Rattle.matroid_theory.specs.Rep.{Rep, count, size, order, matrix, IsShaped, IsStandard}
+use Rattle.matroid_theory.specs.Rep.{Rep, order, matrix, IsShaped, IsStandard}
 use Rattle.matroid_theory.specs.Level.{Family, IsLevelForm, IsLevel}
 use Rattle.matroid_theory.proofs.First.{first_level}
 use Rattle.matroid_theory.proofs.Levels.{rising_list_unique}

@@ -1,12 +1,10 @@
 -- Whether a form passes the filters; so there is a list of what is listed of a level.
-use Rattle.std.proofs.Common.{◌≡◌, ℕ, suc, ◌+◌, ◌<◌, ◌≤◌, refl, sym, ◌∙◌, ap, subst, arith, Bool, true, List, length, inl, inr, not, ◌||◌, Option, None, Some}
+use Rattle.std.proofs.Common.{◌≡◌, ℕ, ◌+◌, ◌<◌, ◌≤◌, sym, ◌∙◌, ap, subst, arith, Bool, List, inl, not, ◌||◌, Option, None, Some}
 use Rattle.std.specs.Bool.{◌==◌}
-use Rattle.std.specs.Prelude.{◌↔◌, IsTrue, IfSome}
-use Rattle.std.specs.List.{range_with_len}
+use Rattle.std.specs.Prelude.{◌↔◌, IfSome}
 use Rattle.std.specs.declared.cmp.Ordering.TheVariants.{Less}
-use Rattle.matroid_theory.specs.Field.{IsField}
 use Rattle.matroid_theory.specs.Matrix.{Matrix, size_below, IsIndependentPart, IsRankOf}
-use Rattle.matroid_theory.specs.Rep.{Rep, shape, count, size, order, matrix, IsShaped}
+use Rattle.matroid_theory.specs.Rep.{Rep, size, order, matrix}
 use Rattle.matroid_theory.specs.Matroid.{IsBasis, IsRepresentation}
 use Rattle.matroid_theory.specs.Move.{ArePermutation}
 use Rattle.matroid_theory.specs.Order.{rep_cmp}
@@ -65,8 +63,13 @@ module _ (M : Rep) (r : IsRepresentation M) where
       along
       (both (at_most k (size_below (size M) X)) (λ _. both (at_most k (size_below (size M) (λ j. not (X j)))) (λ _. less (a.0 + b.0) (M.rank + k))))
       (λ w. record { large = w.0; other_large = w.1.0; rank = a.0; other_rank = b.0; is_rank = a.1; is_other_rank = b.1; small = w.1.1 })
-      (λ w. (w.large, (w.other_large,
-      (let e : a.0 ≡ w.rank = one_rank X a.0 w.rank a.1 w.is_rank in let d : b.0 ≡ w.other_rank = one_rank (λ j. not (X j)) b.0 w.other_rank b.1 w.is_other_rank in let s = w.small in omega arith))))
+      (λ w. (
+        w.large,
+        (
+          w.other_large,
+          (let e : a.0 ≡ w.rank = one_rank X a.0 w.rank a.1 w.is_rank in let d : b.0 ≡ w.other_rank = one_rank (λ j. not (X j)) b.0 w.other_rank b.1 w.is_other_rank in let s = w.small in omega arith),
+        ),
+      ))
 
   pub connected_decided : IsDecided (IsConnected M)
   connected_decided =
@@ -92,12 +95,16 @@ module _ (M N : Rep) (r : IsRepresentation M) (s : IsRepresentation N) where
   some_carry sizes =
       let labels = function_cover _ _ _ (number_cover (size M)) 0 (size M) in
       some_covered _ _ _ (pair_cover _ _ _ _ _ _ labels labels) Carry (λ p w. (w.0.below, w.0.inverse_below))
-      (λ p o e w. (permutation_near (size M) p.0 p.1 o.0 o.1 e.0 e.1 w.0,
-      λ S. (let old = w.1 S in
-          ((λ b. old.0 (IsBasis-same M 0 _ _ (λ j l. ap S (sym (e.0 j l))) b)), (λ b. IsBasis-same M 0 _ _ (λ j l. ap S (e.0 j l)) (old.1 b))))))
+      (λ p o e w. (
+        permutation_near (size M) p.0 p.1 o.0 o.1 e.0 e.1 w.0,
+        λ S. (let old = w.1 S in
+            ((λ b. old.0 (IsBasis-same M 0 _ _ (λ j l. ap S (sym (e.0 j l))) b)), (λ b. IsBasis-same M 0 _ _ (λ j l. ap S (e.0 j l)) (old.1 b)))),
+      ))
       (λ p. both (permutation_decided (size M) p.0 p.1) (λ w. each_set (size M) (λ S. IsBasis M 0 (λ j. S (p.0 j)) ↔ IsBasis N 0 S)
-      (λ S T h old. ((λ b. IsBasis-same N 0 S T (λ j l. h j (subst (λ (n : ℕ). j < n) sizes l)) (old.0 (IsBasis-same M 0 _ _ (λ j l. sym (h (p.0 j) (w.below j l))) b))),
-      (λ b. IsBasis-same M 0 _ _ (λ j l. h (p.0 j) (w.below j l)) (old.1 (IsBasis-same N 0 T S (λ j l. sym (h j (subst (λ (n : ℕ). j < n) sizes l))) b)))))
+      (λ S T h old. (
+        (λ b. IsBasis-same N 0 S T (λ j l. h j (subst (λ (n : ℕ). j < n) sizes l)) (old.0 (IsBasis-same M 0 _ _ (λ j l. sym (h (p.0 j) (w.below j l))) b))),
+        (λ b. IsBasis-same M 0 _ _ (λ j l. h (p.0 j) (w.below j l)) (old.1 (IsBasis-same N 0 T S (λ j l. sym (h j (subst (λ (n : ℕ). j < n) sizes l))) b))),
+      ))
       (λ S. iff (basis_decided M r.shaped 0 r.some (λ j. S (p.0 j))) (basis_decided N s.shaped 0 s.some S))))
 
   pub same_matroid_decided : IsDecided (HaveSameMatroid M N)
@@ -122,8 +129,13 @@ passes_decided q n filters M r =
     (λ _. both (has_decided M r filters.has)
     (λ _. implied (is_set filters.distinct) (λ _. each_in (all_reps q.factors q.rank n) (λ N. IsLevelForm q n N → rep_cmp N M ≡ Less → ¬ (HaveSameMatroid N M))
     (λ N. implied (level_form_decided q n N) (λ f. implied (is_less (rep_cmp N M)) (λ _. negated (same_matroid_decided N M f.form.representation r))))))))))
-    (λ w. record { connected = w.0; three = w.1.0; cosimple = w.1.1.0; has = w.1.1.1.0;
-    distinct = λ t N f. w.1.1.1.1 t N (let k = f.form.representation in in_all_of N (shape_of q n) k.shaped (member_shape q n N f.member)) f })
+    (λ w. record {
+      connected = w.0;
+      three = w.1.0;
+      cosimple = w.1.1.0;
+      has = w.1.1.1.0;
+      distinct = λ t N f. w.1.1.1.1 t N (let k = f.form.representation in in_all_of N (shape_of q n) k.shaped (member_shape q n N f.member)) f;
+    })
     (λ p. (p.connected, (p.three, (p.cosimple, (p.has, λ t N i. p.distinct t N)))))
 
 pub listed_exists : (q : Family) (n : ℕ) (filters : Filters) → (forms : List Rep) × IsListed q n filters forms

@@ -1,5 +1,5 @@
 -- Whether a representation is a form.
-use Rattle.std.proofs.Common.{◌≡◌, ◌≢◌, ℕ, ◌<◌, sym, subst}
+use Rattle.std.proofs.Common.{◌≢◌}
 use Rattle.std.specs.declared.cmp.Ordering.TheVariants.{Greater}
 use Rattle.matroid_theory.specs.declared.Mode.{Mode}
 use Rattle.matroid_theory.specs.Rep.{Rep, shape, size, IsStandard}

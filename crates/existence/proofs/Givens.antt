@@ -1,10 +1,9 @@
 -- What is given by all sets of one size, by columns or as their dual is a matroid.
 use Rattle.std.proofs.Common.{◌≡◌, ℕ, zero, suc, ◌+◌, ◌-◌, ◌^◌, ◌<◌, ◌≤◌, refl, sym, ◌∙◌, ap, subst, arith, Bool, true, false, cond, not, List, [], ◌∷◌, length, inl, inr, slice_index}
 use Rattle.std.specs.Bool.{nat_lt}
-use Rattle.std.specs.List.{Contains, slice_index_or}
 use Rattle.std.specs.List.Sorted.{IsStrictlyIncreasing}
-use Rattle.matroid_theory.specs.Field.{IsOrder, IsField}
-use Rattle.matroid_theory.specs.Matrix.{size_below, IsIndependent, IsIndependentPart, IsRankOf}
+use Rattle.matroid_theory.specs.Field.{IsOrder}
+use Rattle.matroid_theory.specs.Matrix.{size_below, IsRankOf}
 use Rattle.matroid_theory.specs.Matroid.{members}
 use Rattle.matroid_theory.specs.Minor.{Matroid}
 use Rattle.matroid_theory.specs.Given.{Given, AllSets, ColumnsOver, DualOfColumns, elements, column_length, matrix_of_lists, IsColumnBasis, IsGivenBasis, IsGivenBy}
@@ -31,19 +30,25 @@ rises_cons x (y ∷ ys) above r (suc k) l = (let e : suc (k + 1) ≡ suc k + 1 =
 numbers : (P : ℕ → Type 0) → ((x : ℕ) → IsDecided (P x)) → (n a : ℕ) → (xs : List ℕ) × Numbers P a n xs
 numbers P d zero a = ([], record { rising = λ k l. absurd (omega arith); sound = λ x i. absurd i; complete = λ x l m p. absurd (omega arith) })
 numbers P d (suc n) a = (let r = numbers P d n (a + 1) in elim (d a) [
-  | inl p ↦ (a ∷ r.0, record {
-    rising = rises_cons a r.0 (λ y i. (let s = r.1.sound y i in let l = s.0 in omega arith)) r.1.rising;
-    sound = λ x i. elim i [
-      | inl e ↦ ((omega arith), (omega arith), subst P e p)
-      | inr j ↦ (let s = r.1.sound x j in ((let l = s.0 in omega arith), (let l = s.1 in omega arith), s.2))
-    ];
-    complete = λ x l m q. elim (equal a x) [ inl e ↦ inl e | inr other ↦ inr (r.1.complete x (omega arith) (omega arith) q) ];
-  })
-  | inr never ↦ (r.0, record {
-    rising = r.1.rising;
-    sound = λ x i. (let s = r.1.sound x i in ((let l = s.0 in omega arith), (let l = s.1 in omega arith), s.2));
-    complete = λ x l m q. elim (equal a x) [ inl e ↦ absurd (never (subst P (sym e) q)) | inr other ↦ r.1.complete x (omega arith) (omega arith) q ];
-  })
+  | inl p ↦ (
+    a ∷ r.0,
+    record {
+      rising = rises_cons a r.0 (λ y i. (let s = r.1.sound y i in let l = s.0 in omega arith)) r.1.rising;
+      sound = λ x i. elim i [
+        | inl e ↦ ((omega arith), (omega arith), subst P e p)
+        | inr j ↦ (let s = r.1.sound x j in ((let l = s.0 in omega arith), (let l = s.1 in omega arith), s.2))
+      ];
+      complete = λ x l m q. elim (equal a x) [ inl e ↦ inl e | inr other ↦ inr (r.1.complete x (omega arith) (omega arith) q) ];
+    },
+  )
+  | inr never ↦ (
+    r.0,
+    record {
+      rising = r.1.rising;
+      sound = λ x i. (let s = r.1.sound x i in ((let l = s.0 in omega arith), (let l = s.1 in omega arith), s.2));
+      complete = λ x l m q. elim (equal a x) [ inl e ↦ absurd (never (subst P (sym e) q)) | inr other ↦ r.1.complete x (omega arith) (omega arith) q ];
+    },
+  )
 ])
 
 -- ---- a matroid by its bases
@@ -53,17 +58,19 @@ module _ (given : Given) (rank : ℕ) (same : (S T : ℕ → Bool) → ((j : ℕ
   matroid_of : (N : Matroid) × IsGivenBy given N
   matroid_of =
       let n = elements given in
-      let r = numbers (λ X. IsGivenBasis given (members X)) (λ X. d (members X)) (2 ^ n) 0 in
-      (record { rank = rank; size = n; bases = r.0 }, record {
-        sizes = refl;
-        rising = r.1.rising;
-        exact = λ X. (
-          (λ c. (let s = r.1.sound X (from_contains X r.0 c) in ((let l = s.1 in omega arith), s.2))),
-          (λ w. to_contains X r.0 (r.1.complete X (omega arith) (let l = w.0 in omega arith) w.1)),
-        );
-        some = (mask n B, to_contains (mask n B) r.0 (r.1.complete (mask n B) (omega arith) (let l : mask n B < 2 ^ n = mask-below n B in omega arith) (same B (members (mask n B)) (λ j l. sym (members-mask n B j l)) b)));
-        ranks = λ X c. ranks (members X) (let s = r.1.sound X (from_contains X r.0 c) in s.2);
-      })
+      let r = numbers (λ X. IsGivenBasis given (members X)) (λ X. d (members X)) (2 ^ n) 0 in (
+        record { rank = rank; size = n; bases = r.0 },
+        record {
+          sizes = refl;
+          rising = r.1.rising;
+          exact = λ X. (
+            (λ c. (let s = r.1.sound X (from_contains X r.0 c) in ((let l = s.1 in omega arith), s.2))),
+            (λ w. to_contains X r.0 (r.1.complete X (omega arith) (let l = w.0 in omega arith) w.1)),
+          );
+          some = (mask n B, to_contains (mask n B) r.0 (r.1.complete (mask n B) (omega arith) (let l : mask n B < 2 ^ n = mask-below n B in omega arith) (same B (members (mask n B)) (λ j l. sym (members-mask n B j l)) b)));
+          ranks = λ X c. ranks (members X) (let s = r.1.sound X (from_contains X r.0 c) in s.2);
+        },
+      )
 
 -- ---- all sets of one size
 

@@ -1,8 +1,6 @@
 -- A family has a level of each size.
-use Rattle.std.proofs.Common.{◌≡◌, ℕ, ◌<◌, sym, ◌∙◌, subst, List, length}
-use Rattle.std.specs.List.{All}
-use Rattle.matroid_theory.specs.Rep.{Rep, Shape, shape, count, size}
-use Rattle.matroid_theory.specs.Matroid.{IsSimple}
+use Rattle.std.proofs.Common.{◌≡◌, ℕ, List}
+use Rattle.matroid_theory.specs.Rep.{Rep, Shape, shape, size}
 use Rattle.matroid_theory.specs.Minor.{IsMinor}
 use Rattle.matroid_theory.specs.Level.{Family, IsMember, IsLevelForm, IsLevel}
 use Rattle.existence.specs.Decided.{IsDecided}

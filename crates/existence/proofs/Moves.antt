@@ -1,16 +1,16 @@
 -- Whether a move takes a representation to another, and whether some move does: there are finitely many, up to what counts of them.
-use Rattle.std.proofs.Common.{◌≡◌, ◌≢◌, ℕ, ◌<◌, refl, sym, ◌∙◌, ap, subst, arith, List, length, map, inl, slice_index, lit<}
+use Rattle.std.proofs.Common.{◌≡◌, ◌≢◌, ℕ, ◌<◌, sym, ◌∙◌, ap, subst, arith, List, length, map, inl, slice_index, lit<}
 use Rattle.std.specs.List.{range_with_len}
 use Rattle.matroid_theory.specs.declared.Mode.{Mode}
 use Rattle.matroid_theory.specs.declared.Mode.TheVariants.{Linear, Semilinear}
 use Rattle.matroid_theory.specs.Field.{IsOrder, IsField, times, degree, raised}
-use Rattle.matroid_theory.specs.Matrix.{Matrix, matrix_product, unit, combination, AreInverse}
-use Rattle.matroid_theory.specs.Rep.{Rep, Shape, shape, count, size, order, matrix, IsShaped}
+use Rattle.matroid_theory.specs.Matrix.{Matrix, matrix_product, unit, AreInverse}
+use Rattle.matroid_theory.specs.Rep.{Rep, Shape, shape, count, size, matrix, IsShaped}
 use Rattle.matroid_theory.specs.Move.{Move, ArePermutation, AllowsPower, IsMove, moved, TakesTo, AreEquivalent}
 use Rattle.matroid_theory.proofs.FieldLaws.{by_order, field_laws}
 use Rattle.matroid_theory.proofs.Sums.{sum_same}
 use Rattle.existence.specs.Decided.{IsDecided}
-use Rattle.existence.proofs.Deciding.{IsIn, along, both, negated, less, equal, each_below, each_two, each_three}
+use Rattle.existence.proofs.Deciding.{along, both, negated, less, equal, each_below, each_two, each_three}
 use Rattle.existence.proofs.Covers.{IsCover, some_covered, number_cover, function_cover, functions, pair_cover, pairs, in_map}
 use Rattle.existence.proofs.AllReps.{small}
 use Rattle.existence.proofs.Shaped.{shaped_decided, same_shape_decided}
@@ -143,29 +143,38 @@ module _ (S : Shape) (orders : (f : ℕ) → f < length S.factors → IsOrder (s
 
   moves_cover : (mode : Mode) → IsCover (IsMove mode S) (IsNear S) all_moves
   unfolding all_moves all_tables move_of_tables
-  moves_cover mode = record { near = λ m w.
-      let powers = function_cover _ _ codes16 (number_cover 16) 0 (length S.factors) in
-      let row = function_cover _ _ codes16 (number_cover 16) 0 S.rank in
-      let rows = function_cover _ _ _ row (λ _. 0) S.rank in
-      let all_rows = function_cover _ _ _ rows (λ _ _. 0) (length S.factors) in
-      let scalars = function_cover _ _ _ (function_cover _ _ codes16 (number_cover 16) 0 S.size) (λ _. 0) (length S.factors) in
-      let labels = function_cover _ _ _ (number_cover S.size) 0 S.size in
-      let all = pair_cover _ _ _ _ _ _ (pair_cover _ _ _ _ _ _ powers scalars) (pair_cover _ _ _ _ _ _ (pair_cover _ _ _ _ _ _ all_rows all_rows) (pair_cover _ _ _ _ _ _ labels labels)) in
-      let t : Tables = ((m.power, m.scalar), ((m.rows, m.back), (m.label, m.place))) in
-      let found = all.near t (
-        ((λ f l. (let b : degree (slice_index S.factors f) < 16 = degree_small (slice_index S.factors f) (orders f l) in let p : m.power f < degree (slice_index S.factors f) = w.powers f l in omega arith)),
-        (λ f l j a. below16 f l (m.scalar f j) (w.scalars f j l a))),
-        (((λ f l i a j b. below16 f l (m.rows f i j) (w.codes f i j l a b)), (λ f l i a j b. below16 f l (m.back f i j) (w.back_codes f i j l a b))),
-        (w.labels.below, w.labels.inverse_below)),
-      ) in
-      (move_of_tables found.0, in_map move_of_tables found.0 all_tables found.1, record {
-        power = found.2.0.0;
-        scalar = found.2.0.1;
-        rows = found.2.1.0.0;
-        back = found.2.1.0.1;
-        label = found.2.1.1.0;
-        place = found.2.1.1.1;
-      }) }
+  moves_cover mode = record {
+    near = λ m w.
+        let powers = function_cover _ _ codes16 (number_cover 16) 0 (length S.factors) in
+        let row = function_cover _ _ codes16 (number_cover 16) 0 S.rank in
+        let rows = function_cover _ _ _ row (λ _. 0) S.rank in
+        let all_rows = function_cover _ _ _ rows (λ _ _. 0) (length S.factors) in
+        let scalars = function_cover _ _ _ (function_cover _ _ codes16 (number_cover 16) 0 S.size) (λ _. 0) (length S.factors) in
+        let labels = function_cover _ _ _ (number_cover S.size) 0 S.size in
+        let all = pair_cover _ _ _ _ _ _ (pair_cover _ _ _ _ _ _ powers scalars) (pair_cover _ _ _ _ _ _ (pair_cover _ _ _ _ _ _ all_rows all_rows) (pair_cover _ _ _ _ _ _ labels labels)) in
+        let t : Tables = ((m.power, m.scalar), ((m.rows, m.back), (m.label, m.place))) in
+        let found = all.near t (
+          (
+            (λ f l. (let b : degree (slice_index S.factors f) < 16 = degree_small (slice_index S.factors f) (orders f l) in let p : m.power f < degree (slice_index S.factors f) = w.powers f l in omega arith)),
+            (λ f l j a. below16 f l (m.scalar f j) (w.scalars f j l a)),
+          ),
+          (
+            ((λ f l i a j b. below16 f l (m.rows f i j) (w.codes f i j l a b)), (λ f l i a j b. below16 f l (m.back f i j) (w.back_codes f i j l a b))),
+            (w.labels.below, w.labels.inverse_below),
+          ),
+        ) in (
+          move_of_tables found.0,
+          in_map move_of_tables found.0 all_tables found.1,
+          record {
+            power = found.2.0.0;
+            scalar = found.2.0.1;
+            rows = found.2.1.0.0;
+            back = found.2.1.0.1;
+            label = found.2.1.1.0;
+            place = found.2.1.1.1;
+          },
+        );
+  }
 
 pub equivalent_decided : (mode : Mode) (M N : Rep) → IsDecided (AreEquivalent mode M N)
 equivalent_decided mode M N =

@@ -1,6 +1,6 @@
 -- The representations of a shape with a property that is decided can be listed in rising order.
-use Rattle.std.proofs.Common.{◌≡◌, ℕ, ◌<◌, refl, sym, ◌∙◌, ap, subst, arith, List, [], ◌∷◌, length, inl, inr, ◌⊎◌}
-use Rattle.std.specs.List.{AllPairs, Contains, slice_index_or}
+use Rattle.std.proofs.Common.{◌≡◌, refl, sym, ◌∙◌, ap, subst, arith, List, [], ◌∷◌, inl, inr, ◌⊎◌}
+use Rattle.std.specs.List.{AllPairs, slice_index_or}
 use Rattle.std.specs.Ordering.{ordering_reverse}
 use Rattle.std.specs.declared.cmp.Ordering.{Ordering}
 use Rattle.std.specs.declared.cmp.Ordering.TheVariants.{Less, Equal, Greater}
@@ -53,26 +53,34 @@ with M [] r s = (M ∷ [], record { rises = ((λ N i. absurd i), tt); from = λ 
 with M (L ∷ Ms) r s = by (with M Ms r.1 (λ N i. s N (inr i))) (rep_cmp M L) refl
   where
     by : ((Ns : List Rep) × With M Ms Ns) → (o : Ordering) → rep_cmp M L ≡ o → (Ns : List Rep) × With M (L ∷ Ms) Ns
-    by rest Less e = (M ∷ L ∷ Ms, record {
-      rises = ((λ N i. elim i [ inl d ↦ subst (λ K. rep_cmp M K ≡ Less) d e | inr j ↦ rep_cmp-transitive M L N e (r.0 N j) ]), r);
-      from = λ N i. i;
-      new = inl refl;
-      old = λ N i. inr i;
-    })
-    by rest Equal e = (let same : M ≡ L = rep_cmp-equal M L (s L (inl refl)) e in (L ∷ Ms, record {
-      rises = r;
-      from = λ N i. inr i;
-      new = inl (sym same);
-      old = λ N i. i;
-    }))
+    by rest Less e = (
+      M ∷ L ∷ Ms,
+      record {
+        rises = ((λ N i. elim i [ inl d ↦ subst (λ K. rep_cmp M K ≡ Less) d e | inr j ↦ rep_cmp-transitive M L N e (r.0 N j) ]), r);
+        from = λ N i. i;
+        new = inl refl;
+        old = λ N i. inr i;
+      },
+    )
+    by rest Equal e = (let same : M ≡ L = rep_cmp-equal M L (s L (inl refl)) e in (
+      L ∷ Ms,
+      record {
+        rises = r;
+        from = λ N i. inr i;
+        new = inl (sym same);
+        old = λ N i. i;
+      },
+    ))
     by rest Greater e =
-        let below : rep_cmp L M ≡ Less = rep_cmp-reversed M L ∙ ap ordering_reverse e in
-        (L ∷ rest.0, record {
-          rises = ((λ N i. elim (rest.1.from N i) [ inl d ↦ subst (λ K. rep_cmp L K ≡ Less) d below | inr j ↦ r.0 N j ]), rest.1.rises);
-          from = λ N i. elim i [ inl d ↦ inr (inl d) | inr j ↦ elim (rest.1.from N j) [ inl d ↦ inl d | inr n ↦ inr (inr n) ] ];
-          new = inr rest.1.new;
-          old = λ N i. elim i [ inl d ↦ inl d | inr j ↦ inr (rest.1.old N j) ];
-        })
+        let below : rep_cmp L M ≡ Less = rep_cmp-reversed M L ∙ ap ordering_reverse e in (
+          L ∷ rest.0,
+          record {
+            rises = ((λ N i. elim (rest.1.from N i) [ inl d ↦ subst (λ K. rep_cmp L K ≡ Less) d below | inr j ↦ r.0 N j ]), rest.1.rises);
+            from = λ N i. elim i [ inl d ↦ inr (inl d) | inr j ↦ elim (rest.1.from N j) [ inl d ↦ inl d | inr n ↦ inr (inr n) ] ];
+            new = inr rest.1.new;
+            old = λ N i. elim i [ inl d ↦ inl d | inr j ↦ inr (rest.1.old N j) ];
+          },
+        )
 
 record InOrder (Ms Ns : List Rep) : Type 0 where
   rises : Rises Ns
@@ -83,19 +91,25 @@ in_order : (Ms : List Rep) → ((M N : Rep) → IsIn M Ms → IsIn N Ms → shap
 in_order [] s = ([], record { rises = tt; from = λ N i. i; old = λ N i. i })
 in_order (M ∷ Ms) s =
     let rest = in_order Ms (λ K L i j. s K L (inr i) (inr j)) in
-    let all = with M rest.0 rest.1.rises (λ N i. s M N (inl refl) (inr (rest.1.from N i))) in
-    (all.0, record {
-      rises = all.1.rises;
-      from = λ N i. elim (all.1.from N i) [ inl d ↦ inl d | inr j ↦ inr (rest.1.from N j) ];
-      old = λ N i. elim i [ inl d ↦ subst (λ K. IsIn K all.0) d all.1.new | inr j ↦ all.1.old N (rest.1.old N j) ];
-    })
+    let all = with M rest.0 rest.1.rises (λ N i. s M N (inl refl) (inr (rest.1.from N i))) in (
+      all.0,
+      record {
+        rises = all.1.rises;
+        from = λ N i. elim (all.1.from N i) [ inl d ↦ inl d | inr j ↦ inr (rest.1.from N j) ];
+        old = λ N i. elim i [ inl d ↦ subst (λ K. IsIn K all.0) d all.1.new | inr j ↦ all.1.old N (rest.1.old N j) ];
+      },
+    )
 
 pub rising_list : (S : Shape) (P : Rep → Type 0) → ((M : Rep) → P M → IsShaped M × (shape M ≡ S)) → ((M : Rep) → IsDecided (P M)) → (forms : List Rep) × IsRisingList P forms
 rising_list S P of d =
     let r = keep P d (all_reps S.factors S.rank S.size) in
-    let sorted = in_order r.kept (λ M N i j. (let a = of M (r.sound M i) in let b = of N (r.sound N j) in a.1 ∙ sym b.1)) in
-    (sorted.0, record {
-      rising = to_pairs sorted.0 sorted.1.rises;
-      exact = λ M. ((λ c. r.sound M (sorted.1.from M (from_contains M sorted.0 c))),
-      (λ p. let o = of M p in to_contains M sorted.0 (sorted.1.old M (r.complete M (in_all_of M S o.0 o.1) p))));
-    })
+    let sorted = in_order r.kept (λ M N i j. (let a = of M (r.sound M i) in let b = of N (r.sound N j) in a.1 ∙ sym b.1)) in (
+      sorted.0,
+      record {
+        rising = to_pairs sorted.0 sorted.1.rises;
+        exact = λ M. (
+          (λ c. r.sound M (sorted.1.from M (from_contains M sorted.0 c))),
+          (λ p. let o = of M p in to_contains M sorted.0 (sorted.1.old M (r.complete M (in_all_of M S o.0 o.1) p))),
+        );
+      },
+    )

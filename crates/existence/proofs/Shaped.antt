@@ -1,9 +1,9 @@
 -- Whether a representation is shaped, standard, or equal to another.
-use Rattle.std.proofs.Common.{◌≡◌, ℕ, ◌+◌, ◌*◌, ◌<◌, refl, sym, ap, subst, List, [], length, slice_index}
+use Rattle.std.proofs.Common.{◌≡◌, ℕ, ◌+◌, ◌*◌, ◌<◌, ap, List, [], length, slice_index}
 use Rattle.std.specs.List.{slice_index_or}
 use Rattle.matroid_theory.specs.Field.{orders, IsOrder}
 use Rattle.matroid_theory.specs.Matrix.{unit}
-use Rattle.matroid_theory.specs.Rep.{Rep, Shape, shape, count, size, order, matrix, IsShaped, IsStandard, IsProductColumn}
+use Rattle.matroid_theory.specs.Rep.{Rep, Shape, count, size, order, matrix, IsShaped, IsStandard, IsProductColumn}
 use Rattle.existence.specs.Decided.{IsDecided}
 use Rattle.existence.proofs.Deciding.{along, both, less, at_most, equal, each_below, each_two, each_three, contained, equal_lists}
 

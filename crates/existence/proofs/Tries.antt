@@ -1,10 +1,10 @@
 -- There is a number of tries of each size.
-use Rattle.std.proofs.Common.{◌≡◌, ◌≢◌, ℕ, zero, suc, ◌+◌, ◌-◌, ◌*◌, ◌<◌, refl, sym, ◌∙◌, ap, subst, arith, List, [], ◌∷◌, length, slice_index, inl, inr}
-use Rattle.std.specs.List.{AllPairs, slice_index_or}
+use Rattle.std.proofs.Common.{◌≡◌, ◌≢◌, ℕ, suc, ◌+◌, ◌-◌, ◌*◌, ◌<◌, refl, sym, ◌∙◌, ap, subst, arith, List, [], ◌∷◌, length, slice_index, inl, inr}
+use Rattle.std.specs.List.{AllPairs}
 use Rattle.std.proofs.lemmas.List.Kept.{AllPairs-cons}
 use Rattle.matroid_theory.specs.Field.{IsOrder}
-use Rattle.matroid_theory.specs.Rep.{Rep, size, IsProductColumn}
-use Rattle.matroid_theory.specs.Level.{Family, IsMember, IsLevelForm, IsNormalised, IsTry, IsCount, followed_by}
+use Rattle.matroid_theory.specs.Rep.{Rep, size}
+use Rattle.matroid_theory.specs.Level.{Family, IsNormalised, IsTry, IsCount, followed_by}
 use Rattle.matroid_theory.proofs.Followed.{size_followed}
 use Rattle.existence.specs.Decided.{IsDecided}
 use Rattle.existence.proofs.Deciding.{IsIn, at_place, to_contains, from_contains, along, both, implied, equal, equal_lists, is_in, some_below, each_below, each_two, each_three}
@@ -42,24 +42,29 @@ once : {X : Type 0} → ((x y : X) → IsDecided (x ≡ y)) → (xs : List X) �
 once same [] = ([], record { apart = λ i j d l m. absurd (omega arith); from = λ x i. i; old = λ x i. i })
 once {X = X} same (x ∷ xs) = (let r = once same xs in elim (is_in same x r.0) [
   | inl i ↦ (r.0, record { apart = r.1.apart; from = λ y j. inr (r.1.from y j); old = λ y j. elim j [ inl e ↦ subst (λ (z : X). IsIn z r.0) e i | inr k ↦ r.1.old y k ] })
-  | inr new ↦ (x ∷ r.0, record {
-    apart = AllPairs-cons (λ x y. x ≢ y) x r.0 (λ k d l e. new (subst (λ (z : X). IsIn z r.0) (sym e) (at_place r.0 k d l))) r.1.apart;
-    from = λ y j. elim j [ inl e ↦ inl e | inr k ↦ inr (r.1.from y k) ];
-    old = λ y j. elim j [ inl e ↦ inl e | inr k ↦ inr (r.1.old y k) ];
-  })
+  | inr new ↦ (
+    x ∷ r.0,
+    record {
+      apart = AllPairs-cons (λ x y. x ≢ y) x r.0 (λ k d l e. new (subst (λ (z : X). IsIn z r.0) (sym e) (at_place r.0 k d l))) r.1.apart;
+      from = λ y j. elim j [ inl e ↦ inl e | inr k ↦ inr (r.1.from y k) ];
+      old = λ y j. elim j [ inl e ↦ inl e | inr k ↦ inr (r.1.old y k) ];
+    },
+  )
 ])
 
 -- so what is decided and stands in a list can be counted
 count_listed : {X : Type 0} → ((x y : X) → IsDecided (x ≡ y)) → (P : X → Type 0) → ((x : X) → IsDecided (P x)) → (xs : List X) → ((x : X) → P x → IsIn x xs) → (n : ℕ) × IsCount P n
 count_listed same P d xs here =
     let r = keep P d xs in
-    let s = once same r.kept in
-    (length s.0, record {
-      list = s.0;
-      apart = s.1.apart;
-      exact = λ x. ((λ c. r.sound x (s.1.from x (from_contains x s.0 c))), (λ p. to_contains x s.0 (s.1.old x (r.complete x (here x p) p))));
-      number = refl;
-    })
+    let s = once same r.kept in (
+      length s.0,
+      record {
+        list = s.0;
+        apart = s.1.apart;
+        exact = λ x. ((λ c. r.sound x (s.1.from x (from_contains x s.0 c))), (λ p. to_contains x s.0 (s.1.old x (r.complete x (here x p) p))));
+        number = refl;
+      },
+    )
 
 same_try_decided : (a b : Rep × List ℕ) → IsDecided (a ≡ b)
 same_try_decided a b = along (both (same_rep_decided a.0 b.0) (λ _. equal_lists equal a.1 b.1)) (λ w i. (w.0 i, w.1 i)) (λ e. (ap (λ (t : Rep × List ℕ). t.0) e, ap (λ (t : Rep × List ℕ). t.1) e))

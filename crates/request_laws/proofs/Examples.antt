@@ -1,11 +1,9 @@
 -- Worked examples: the laws at a small request, and at a text that isn't one.
-use Rattle.std.proofs.Common.{◌≡◌, ◌≢◌, ℕ, zero, suc, ◌<◌, ◌≤◌, refl, sym, ◌∙◌, ap, arith, List, [], ◌∷◌, length, inl, inr, ◌⊎◌, None, false, lit<, lit≤}
+use Rattle.std.proofs.Common.{◌≡◌, ℕ, ◌≤◌, refl, arith, List, [], ◌∷◌, inl, inr, ◌⊎◌, None, false, lit<, lit≤}
 use Rattle.std.specs.Prelude.{codes}
 use Rattle.std.specs.Fmt.{digits}
 use Rattle.std.proofs.lemmas.Bool.Decides.{nat_tests}
-use Rattle.matroid_theory.specs.declared.Mode.TheVariants.{Linear}
-use Rattle.matroid_theory.specs.Rep.{Rep}
-use Rattle.matroid_theory.specs.Level.{Filters, IsLevelForm, Passes, IsListed}
+use Rattle.matroid_theory.specs.Level.{Filters, IsListed}
 use Rattle.formats.specs.declared.refusal.PrintMode.TheVariants.{Forms}
 use Rattle.formats.specs.declared.refusal.Word.TheVariants.{Field}
 use Rattle.formats.specs.declared.refusal.Refusal.TheVariants as refusal

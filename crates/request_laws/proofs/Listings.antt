@@ -1,17 +1,16 @@
 -- Each request that a text stands for has a listing.
-use Rattle.std.proofs.Common.{◌≡◌, ℕ, zero, suc, ◌+◌, ◌-◌, ◌<◌, ◌≤◌, refl, sym, ◌∙◌, ap, subst, arith, List, [], ◌∷◌, map, length, inl, inr, Option, None, Some, Bool}
+use Rattle.std.proofs.Common.{◌≡◌, ℕ, zero, suc, ◌+◌, refl, sym, ◌∙◌, ap, subst, arith, List, [], ◌∷◌, map, length, inl, inr, Option, None, Some, Bool}
 use Rattle.std.specs.Prelude.{filter_map, option_to_list}
 use Rattle.std.specs.List.{AllByRecursion, range_with_len}
 use Rattle.std.proofs.lemmas.Bool.{cases_lt}
 use Rattle.matroid_theory.specs.declared.Mode.TheVariants.{Linear}
-use Rattle.matroid_theory.specs.Rep.{Rep}
 use Rattle.matroid_theory.specs.Minor.{Matroid}
-use Rattle.matroid_theory.specs.Level.{Family, Filters, IsTry, IsCount}
-use Rattle.formats.specs.Statement.{MinorName, Statement, Version, RankIs, FieldIs, SizeIs, Forbids, ListsConnected, ListsThreeConnected, ListsCosimple, ListsDistinct, ListsWith, Prints, IsMinorName, IsStatement}
+use Rattle.matroid_theory.specs.Level.{Family, Filters}
+use Rattle.formats.specs.Statement.{MinorName, Statement, Forbids, ListsWith, IsMinorName, IsStatement}
 use Rattle.formats.specs.Request.{Request, StandsFor, forbidden_in, wanted_in}
 use Rattle.formats.specs.Minors.{given_as}
 use Rattle.formats.specs.Listing.{LevelEntry, level_count, listing_blocks, text_of_blocks}
-use Rattle.formats.specs.Levels.{AreGivenBy, Grows, Keeps, HasTries, IsLevelEntry, AreFirstLevels, AreLevels, IsListing, IsListingUpTo, IsListingCutOff, columns_of}
+use Rattle.formats.specs.Levels.{AreGivenBy, Grows, Keeps, HasTries, IsLevelEntry, AreLevels, IsListing, IsListingUpTo, IsListingCutOff, columns_of}
 use Rattle.formats.proofs.Fronts.{cut_is_front, up_to_is_front}
 use Rattle.existence.proofs.Levels.{level_exists}
 use Rattle.existence.proofs.Filters.{listed_exists}
@@ -52,9 +51,10 @@ family_exists q names =
 
 pub filters_exist : (q : Request) → NamesMinors q → (filters : Filters) × Keeps q filters
 filters_exist q names =
-    let N = wanted_exists q.has names.has in
-    (record { connected = q.connected; three = q.three_connected; cosimple = q.cosimple; distinct = q.distinct; has = N.0 },
-    record { connected = refl; three = refl; cosimple = refl; distinct = refl; has = N.1 })
+    let N = wanted_exists q.has names.has in (
+      record { connected = q.connected; three = q.three_connected; cosimple = q.cosimple; distinct = q.distinct; has = N.0 },
+      record { connected = refl; three = refl; cosimple = refl; distinct = refl; has = N.1 },
+    )
 
 -- ---- its levels
 
@@ -71,20 +71,23 @@ module _ (q : Request) (names : NamesMinors q) where
       let filters = filters_exist q names in
       let level = level_exists family.0 n in
       let listed = listed_exists family.0 n filters.0 in
-      let tried = has_tries family.0 n in
-      (record { size = n; classes = length level.0; listed = map columns_of listed.0; tried = tried.0 }, refl, record {
-        family = family.0;
-        grows = family.1;
-        filters = filters.0;
-        keeps = filters.1;
-        forms = level.0;
-        are_level = level.1;
-        classes_are = refl;
-        shown = listed.0;
-        are_listed = listed.1;
-        listed_are = refl;
-        tries = tried.1;
-      })
+      let tried = has_tries family.0 n in (
+        record { size = n; classes = length level.0; listed = map columns_of listed.0; tried = tried.0 },
+        refl,
+        record {
+          family = family.0;
+          grows = family.1;
+          filters = filters.0;
+          keeps = filters.1;
+          forms = level.0;
+          are_level = level.1;
+          classes_are = refl;
+          shown = listed.0;
+          are_listed = listed.1;
+          listed_are = refl;
+          tries = tried.1;
+        },
+      )
 
   record Entries (a n : ℕ) (levels : List LevelEntry) : Type 0 where
     sizes : map (λ l. l.size) levels ≡ range_with_len a n
@@ -100,11 +103,13 @@ module _ (q : Request) (names : NamesMinors q) where
 
   pub levels_exist : (levels : List LevelEntry) × AreLevels q levels
   levels_exist =
-      let w = entries_exist (level_count q) q.rank in
-      (w.0, record {
-        are_first = record { sizes = w.1.sizes ∙ ap (range_with_len q.rank) (sym w.1.number); at_most = (let e : length w.0 ≡ level_count q = w.1.number in omega arith); each = w.1.each };
-        are_all = w.1.number;
-      })
+      let w = entries_exist (level_count q) q.rank in (
+        w.0,
+        record {
+          are_first = record { sizes = w.1.sizes ∙ ap (range_with_len q.rank) (sym w.1.number); at_most = (let e : length w.0 ≡ level_count q = w.1.number in omega arith); each = w.1.each };
+          are_all = w.1.number;
+        },
+      )
 
 pub listing_exists : (forms : Statement → Bool) (text : List ℕ) (q : Request) → StandsFor forms text q → (listing : List ℕ) × IsListing q listing
 listing_exists forms text q s =

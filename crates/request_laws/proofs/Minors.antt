@@ -1,7 +1,7 @@
 -- Each minor that a line can name has its matroid.
-use Rattle.std.proofs.Common.{◌≡◌, ℕ, zero, suc, ◌+◌, ◌<◌, refl, arith, true, List, [], ◌∷◌, length, slice_index}
+use Rattle.std.proofs.Common.{◌≡◌, ℕ, zero, suc, ◌<◌, refl, arith, true, List, [], ◌∷◌, length, slice_index}
 use Rattle.std.specs.Bool.{nat_lt}
-use Rattle.std.specs.List.{AllByRecursion, slice_index_or, list_all}
+use Rattle.std.specs.List.{AllByRecursion, list_all}
 use Rattle.std.proofs.lemmas.Bool.{ltb-true}
 use Rattle.matroid_theory.specs.Field.{IsOrder}
 use Rattle.matroid_theory.specs.Minor.{Matroid}

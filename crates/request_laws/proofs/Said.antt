@@ -1,11 +1,11 @@
 -- Whether the words of a line say something. Each number is below 10^9, and a line of some words names a matrix of fewer columns, so a search decides it.
-use Rattle.std.proofs.Common.{◌≡◌, ℕ, zero, suc, ◌+◌, ◌^◌, ◌<◌, ◌≤◌, refl, sym, ◌∙◌, ap, subst, arith, Bool, List, [], ◌∷◌, map, length, inl, inr, slice_index}
-use Rattle.std.specs.Prelude.{flat_map, IsTrue}
-use Rattle.std.specs.List.{AllByRecursion, slice_index_or, range_with_len}
+use Rattle.std.proofs.Common.{◌≡◌, ℕ, ◌+◌, ◌^◌, ◌<◌, ◌≤◌, refl, ap, subst, arith, Bool, List, [], ◌∷◌, map, length, inl, inr, slice_index}
+use Rattle.std.specs.Prelude.{flat_map}
+use Rattle.std.specs.List.{AllByRecursion, range_with_len}
 use Rattle.std.proofs.lemmas.List.{length-map}
 use Rattle.matroid_theory.specs.Field.{orders, IsOrder, IsFactors}
 use Rattle.formats.specs.declared.refusal.PrintMode.TheVariants.{Forms, Counts}
-use Rattle.formats.specs.Statement.{MinorName, Uniform, Fano, FanoDual, NonFano, KFour, KFive, ByMatrix, IsNumber, IsUniform, IsMatrix, IsMinorName, Statement, Version, RankIs, FieldIs, SizeIs, Forbids, ListsConnected, ListsThreeConnected, ListsCosimple, ListsDistinct, ListsWith, Prints, IsStatement, column_word, minor_words, spelling, Says}
+use Rattle.formats.specs.Statement.{MinorName, Uniform, Fano, FanoDual, NonFano, KFour, KFive, ByMatrix, IsNumber, IsUniform, IsMatrix, IsMinorName, Statement, Version, RankIs, FieldIs, SizeIs, Forbids, ListsConnected, ListsThreeConnected, ListsCosimple, ListsDistinct, ListsWith, Prints, IsStatement, column_word, spelling, Says}
 use Rattle.existence.specs.Decided.{IsDecided}
 use Rattle.existence.proofs.Deciding.{IsIn, along, both, less, at_most, equal, equal_lists, is_set, some_below, each_below, some_in, from_contains, place_of}
 use Rattle.existence.proofs.Covers.{words, in_words, in_flat, in_range}
@@ -141,7 +141,7 @@ module _ (forms : Statement → Bool) (line : List (List ℕ)) where
       along (some_below 4 (λ n. (fs : List ℕ) × IsIn fs (words orders n) × Says forms line (FieldIs fs)) (λ n _. some_in (words orders n) (λ fs. Says forms line (FieldIs fs)) (λ fs. one_said (FieldIs fs))))
       (λ w. (w.2.0, w.2.2))
       (λ w. (let s = w.1 in let m = s.may in let few = m.few in
-          (length w.0, omega arith, (w.0, in_words orders (length w.0) w.0 refl (λ q i. (let at = place_of q 0 w.0 i in let o = m.fields at.0 at.1 in subst (λ (q : ℕ). IsIn q orders) at.2 (from_contains _ orders o.listed))), w.1))))
+      (length w.0, omega arith, (w.0, in_words orders (length w.0) w.0 refl (λ q i. (let at = place_of q 0 w.0 i in let o = m.fields at.0 at.1 in subst (λ (q : ℕ). IsIn q orders) at.2 (from_contains _ orders o.listed))), w.1))))
 
   record NoneSaid : Type 0 where
     version : ¬ (Says forms line Version)

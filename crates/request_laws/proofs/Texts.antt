@@ -1,5 +1,5 @@
 -- Each text stands for a request or has a refusal.
-use Rattle.std.proofs.Common.{◌≡◌, ℕ, suc, ◌+◌, ◌<◌, ◌≤◌, refl, sym, ◌∙◌, ap, arith, Bool, List, [], ◌∷◌, length, inl, inr, ◌⊎◌, Option, None, Some}
+use Rattle.std.proofs.Common.{◌≡◌, ℕ, ◌+◌, ◌≤◌, refl, arith, Bool, List, [], ◌∷◌, length, inl, inr, ◌⊎◌, Option, None, Some}
 use Rattle.std.specs.Prelude.{filter_map, option_to_list, if◌then◌else◌}
 use Rattle.std.specs.List.{list_any}
 use Rattle.std.proofs.lemmas.Bool.{cases_lt}
@@ -9,11 +9,10 @@ use Rattle.formats.specs.declared.refusal.Refusal.{Refusal}
 use Rattle.formats.specs.declared.refusal.Refusal.TheVariants as refusal
 use Rattle.formats.specs.Lines.{lines_of}
 use Rattle.formats.specs.Statement.{MinorName, Statement, RankIs, FieldIs, SizeIs, ListsConnected, ListsThreeConnected, ListsCosimple, ListsDistinct, ListsWith}
-use Rattle.formats.specs.Request.{Request, count_of_kind, rank_in, field_in, size_in, forbidden_in, wanted_in, has_kind, prints_counts, column_count, most_bytes, most_columns, IsRankInRange, IsSizeInRange, StandsFor}
+use Rattle.formats.specs.Request.{Request, count_of_kind, rank_in, field_in, size_in, forbidden_in, wanted_in, has_kind, prints_counts, column_count, most_bytes, most_columns, StandsFor}
 use Rattle.formats.specs.Refusal.{Fault, NoForm, Again, NinthForbid, TooBig, FirstFault, NoFault, AreValues, HasValues, HasRefusal}
-use Rattle.existence.specs.Decided.{IsDecided}
 use Rattle.existence.proofs.Deciding.{both, at_most}
-use Rattle.request_laws.proofs.Walks.{InOrder, AtFault, lines_walked, count_cons}
+use Rattle.request_laws.proofs.Walks.{AtFault, lines_walked, count_cons}
 
 -- as many statements of a kind as values of it
 rank_count : (es : List Statement) → count_of_kind 1 es ≡ length (filter_map rank_in es)
@@ -83,25 +82,28 @@ module _ (forms : Statement → Bool) (text : List ℕ) where
         | inr bad ↦ inr (refusal.Size size, (rank, factors, values, (r.0, r.1), λ w. bad (w.0, w.1)))
         | inl s ↦ elim (cases_lt most_columns (column_count rank factors)) [
           | inl wide ↦ inr (refusal.TooWide (column_count rank factors), (rank, factors, size, values, (r.0, r.1), (s.0, s.1), refl, wide))
-          | inr few ↦ inl (request, record {
-            short = none.short;
-            entries = es;
-            said = none.said;
-            in_order = none.in_order;
-            asked = record {
-              rank = v.rank_said;
-              field = v.field_said;
-              size = v.size_said;
-              forbid = refl;
-              connected = refl;
-              three_connected = refl;
-              cosimple = refl;
-              distinct = refl;
-              has = wanted.1;
-              print = refl;
-            };
-            limits = record { rank = (r.0, r.1); size = (s.0, s.1); columns = few };
-          })
+          | inr few ↦ inl (
+            request,
+            record {
+              short = none.short;
+              entries = es;
+              said = none.said;
+              in_order = none.in_order;
+              asked = record {
+                rank = v.rank_said;
+                field = v.field_said;
+                size = v.size_said;
+                forbid = refl;
+                connected = refl;
+                three_connected = refl;
+                cosimple = refl;
+                distinct = refl;
+                has = wanted.1;
+                print = refl;
+              };
+              limits = record { rank = (r.0, r.1); size = (s.0, s.1); columns = few };
+            },
+          )
         ]
       ]
     ]
