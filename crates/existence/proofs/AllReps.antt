@@ -14,27 +14,35 @@ pub small : (q : ℕ) → IsOrder q → q < 16
 small = by_order (λ q. q < 16) (lit< tt) (lit< tt) (lit< tt) (lit< tt) (lit< tt) (lit< tt) (lit< tt)
 
 columns_positive : (k r c : ℕ) → k < r * c → 0 < c
-columns_positive k r c l = elim (cases_lt 0 c) [ inl b ↦ b | inr g ↦ (let e : c ≡ 0 = omega arith in let z : r * c ≡ r * 0 = ap (λ c. r * c) e in absurd (omega arith)) ]
+columns_positive k r c l = elim (cases_lt 0 c) [
+  | inl b ↦ b
+  | inr g ↦ (let e : c ≡ 0 = omega arith in let z : r * c ≡ r * 0 = ap (λ c. r * c) e in
+      absurd (omega arith))
+]
 
 -- the columns of a rank over some factors, and more
 pub all_columns : List ℕ → ℕ → List (List ℕ)
 all_columns factors rank = words (range_with_len 0 16) (rank * length factors)
 
-code_small : (factors : List ℕ) (rank : ℕ) (v : List ℕ) → ((f : ℕ) → f < length factors → IsOrder (slice_index factors f)) → IsProductColumn factors rank v → (c : ℕ) → IsIn c v → c < 16
+code_small : (factors : List ℕ) (rank : ℕ) (v : List ℕ) → ((f : ℕ) → f < length factors → IsOrder (slice_index factors f)) → IsProductColumn factors rank v
+    → (c : ℕ) → IsIn c v → c < 16
 code_small factors rank v orders column c i =
     let at = place_of c 0 v i in
     let k : at.0 < rank * length factors = subst (λ n. at.0 < n) column.rows at.1 in
     let p : 0 < length factors = columns_positive at.0 rank (length factors) k in
     let f : at.0 % length factors < length factors = mod-lt at.0 p in
     let e : slice_index v (at.0 / length factors * length factors + at.0 % length factors) ≡ c = ap (slice_index v) (whole at.0 (length factors) p) ∙ at.2 in
-    let b : slice_index v (at.0 / length factors * length factors + at.0 % length factors) < slice_index factors (at.0 % length factors) = column.codes (at.0 / length factors) (at.0 % length factors) (row_below at.0 (length factors) rank p k) f in
+    let b : slice_index v (at.0 / length factors * length factors + at.0 % length factors) < slice_index factors (at.0 % length factors) = column.codes
+    (at.0 / length factors) (at.0 % length factors) (row_below at.0 (length factors) rank p k) f in
     let o : slice_index factors (at.0 % length factors) < 16 = small (slice_index factors (at.0 % length factors)) (orders (at.0 % length factors) f) in
     omega arith
 
-pub in_columns : (factors : List ℕ) (rank : ℕ) (v : List ℕ) → ((f : ℕ) → f < length factors → IsOrder (slice_index factors f)) → IsProductColumn factors rank v → IsIn v (all_columns factors rank)
+pub in_columns : (factors : List ℕ) (rank : ℕ) (v : List ℕ) → ((f : ℕ) → f < length factors → IsOrder (slice_index factors f))
+    → IsProductColumn factors rank v → IsIn v (all_columns factors rank)
 unfolding all_columns
 in_columns factors rank v orders column =
-    in_words (range_with_len 0 16) (rank * length factors) v column.rows (λ c i. in_range 16 0 c (omega arith) (let b : c < 16 = code_small factors rank v orders column c i in omega arith))
+    in_words (range_with_len 0 16) (rank * length factors) v column.rows (λ c i. in_range 16 0 c (omega arith)
+    (let b : c < 16 = code_small factors rank v orders column c i in omega arith))
 
 abbrev pub rep_of : List ℕ → ℕ → List (List ℕ) → Rep
 rep_of factors rank columns = record { factors = factors; rank = rank; columns = columns }

@@ -12,11 +12,13 @@ use Rattle.matroid_theory.proofs.FieldLaws.{field_laws}
 use Rattle.matroid_theory.proofs.Masks.{size-same, IsBasis-same}
 use Rattle.matroid_theory.proofs.Ranks.{decided, related_dependent}
 use Rattle.existence.specs.Decided.{IsDecided}
-use Rattle.existence.proofs.Deciding.{along, both, implied, iff, less, equal, equal_bools, each_below, each_two, each_three, some_set, each_set, contained, each_in, at_place, place_of}
+use Rattle.existence.proofs.Deciding.{along, both, implied, iff, less, equal, equal_bools, each_below}
+use Rattle.existence.proofs.Deciding.{each_two, each_three, some_set, each_set, contained, each_in, at_place, place_of}
 use Rattle.existence.proofs.Shaped.{shaped_decided}
 use Rattle.existence.proofs.Covers.{some_covered, number_cover, truth_cover, function_cover, pair_cover}
 
-pub independent_decided : (q : ℕ) → IsField q → (r n : ℕ) (A : Matrix) → ((i j : ℕ) → i < r → j < n → A i j < q) → (S : ℕ → Bool) → IsDecided (IsIndependent q r n A S)
+pub independent_decided : (q : ℕ) → IsField q → (r n : ℕ) (A : Matrix) → ((i j : ℕ) → i < r → j < n → A i j < q) → (S : ℕ → Bool)
+    → IsDecided (IsIndependent q r n A S)
 independent_decided q F r n A codes S = elim (decided q F r n A codes S) [ inl h ↦ inl h | inr w ↦ inr (related_dependent q F r n A S w) ]
 
 -- what holds of each element of a list
@@ -26,22 +28,27 @@ all_decided P d xs =
 
 module _ (M : Rep) (s : IsShaped M) where
   pub independent_in_decided : (f : ℕ) → f < count M → (S : ℕ → Bool) → IsDecided (IsIndependentIn M f S)
-  independent_in_decided f l S = independent_decided (order M f) (field_laws (order M f) (s.orders f l)) M.rank (size M) (matrix M f) (λ i j a b. s.codes f i j l a b) S
+  independent_in_decided f l S = independent_decided (order M f) (field_laws (order M f) (s.orders f l)) M.rank (size M) (matrix M f)
+      (λ i j a b. s.codes f i j l a b) S
 
   pub basis_decided : (f : ℕ) → f < count M → (S : ℕ → Bool) → IsDecided (IsBasis M f S)
   basis_decided f l S =
-      along (both (equal (size_below (size M) S) M.rank) (λ _. independent_in_decided f l S)) (λ w. record { full = w.0; independent = w.1 }) (λ b. (b.full, b.independent))
+      along (both (equal (size_below (size M) S) M.rank) (λ _. independent_in_decided f l S)) (λ w. record { full = w.0; independent = w.1 })
+      (λ b. (b.full, b.independent))
 
   pub agrees_decided : IsDecided (Agrees M)
   agrees_decided =
       along
       (both (each_below (count M) (λ f. (S : ℕ → Bool) × IsBasis M f S) (λ f l. some_set (size M) (IsBasis M f) (IsBasis-same M f) (basis_decided f l)))
-      (λ _. each_two (count M) (count M) (λ f g. (S : ℕ → Bool) → IsBasis M f S → IsBasis M g S) (λ f g l m. each_set (size M) (λ S. IsBasis M f S → IsBasis M g S)
-      (λ S T e h b. IsBasis-same M g S T e (h (IsBasis-same M f T S (λ j k. sym (e j k)) b))) (λ S. implied (basis_decided f l S) (λ _. basis_decided g m S)))))
+      (λ _. each_two (count M) (count M) (λ f g. (S : ℕ → Bool) → IsBasis M f S → IsBasis M g S)
+      (λ f g l m. each_set (size M) (λ S. IsBasis M f S → IsBasis M g S)
+      (λ S T e h b. IsBasis-same M g S T e (h (IsBasis-same M f T S (λ j k. sym (e j k)) b)))
+      (λ S. implied (basis_decided f l S) (λ _. basis_decided g m S)))))
       (λ w. record { some = w.0; same = w.1 }) (λ a. (a.some, a.same))
 
   pub simple_decided : IsDecided (IsSimple M)
-  simple_decided = each_three (count M) (size M) (size M) (λ f i j. IsIndependentIn M f (λ k. (k == i) || (k == j))) (λ f i j l _ _. independent_in_decided f l _)
+  simple_decided = each_three (count M) (size M) (size M) (λ f i j. IsIndependentIn M f (λ k. (k == i) || (k == j)))
+      (λ f i j l _ _. independent_in_decided f l _)
 
 pub representation_decided : (M : Rep) → IsDecided (IsRepresentation M)
 representation_decided M =
@@ -53,7 +60,8 @@ representation_decided M =
 injection_decided : (n m : ℕ) (f : ℕ → ℕ) → IsDecided (IsInjection n m f)
 injection_decided n m f =
     along
-    (both (each_below n (λ x. f x < m) (λ x _. less _ _)) (λ _. each_two n n (λ x y. f x ≡ f y → x ≡ y) (λ x y _ _. implied (equal (f x) (f y)) (λ _. equal x y))))
+    (both (each_below n (λ x. f x < m) (λ x _. less _ _)) (λ _. each_two n n (λ x y. f x ≡ f y → x ≡ y)
+    (λ x y _ _. implied (equal (f x) (f y)) (λ _. equal x y))))
     (λ w. record { below = w.0; apart = w.1 }) (λ w. (w.below, w.apart))
 
 pub any_below-same : (n : ℕ) (p p' : ℕ → Bool) → ((x : ℕ) → x < n → p x ≡ p' x) → any_below n p ≡ any_below n p'
@@ -62,7 +70,8 @@ any_below-same (suc n) p p' h = λ i. any_below-same n p p' (λ x l. h x (omega 
 
 module _ (N : Matroid) (M : Rep) where
   -- the same embedding
-  minor_near : (f g : ℕ → ℕ) (C D : ℕ → Bool) → ((x : ℕ) → x < N.size → f x ≡ g x) → ((j : ℕ) → j < size M → C j ≡ D j) → IsMinorBy N M f C → IsMinorBy N M g D
+  minor_near : (f g : ℕ → ℕ) (C D : ℕ → Bool) → ((x : ℕ) → x < N.size → f x ≡ g x) → ((j : ℕ) → j < size M → C j ≡ D j) → IsMinorBy N M f C
+      → IsMinorBy N M g D
   minor_near f g C D a b w = record {
     injection = record {
       below = λ x l. subst (λ (y : ℕ). y < size M) (a x l) (w.injection.below x l);
@@ -75,7 +84,8 @@ module _ (N : Matroid) (M : Rep) where
   }
     where
       near : (X k : ℕ) → k < size M → (image N.size f (members X) k || C k) ≡ (image N.size g (members X) k || D k)
-      near X k m t = any_below-same N.size (λ x. members X x && (f x == k)) (λ x. members X x && (g x == k)) (λ x l s. members X x && (a x l s == k)) t || b k m t
+      near X k m t = any_below-same N.size (λ x. members X x && (f x == k)) (λ x. members X x && (g x == k))
+          (λ x l s. members X x && (a x l s == k)) t || b k m t
 
   pub minor_decided : IsShaped M → 0 < count M → IsDecided (IsMinor N M)
   minor_decided s some =

@@ -14,7 +14,7 @@ use Rattle.matroid_theory.specs.Matroid.{members, IsRepresentation}
 use Rattle.matroid_theory.specs.Move.{ArePermutation, AreEquivalent}
 use Rattle.matroid_theory.specs.Order.{rep_cmp, IsForm}
 use Rattle.matroid_theory.specs.Minor.{Matroid, image, IsMinorBy, IsMinor}
-use Rattle.matroid_theory.specs.Level.{Family, IsMember, IsLevelForm, IsRisingList, IsTry, IsTryFor, followed_by}
+use Rattle.matroid_theory.specs.Level.{Family, IsMember, IsLevelForm, IsLevel, IsRisingList, IsTry, IsTryFor, followed_by}
 use Rattle.matroid_theory.proofs.Sums.{same_number, other_number}
 use Rattle.matroid_theory.proofs.Masks.{IsBasis-same}
 use Rattle.matroid_theory.proofs.Counts.{size_relabelled}
@@ -22,7 +22,9 @@ use Rattle.matroid_theory.proofs.Equivalence.{equivalent-reflexive, equivalent-s
 use Rattle.matroid_theory.proofs.Carried.{basis_carried, agrees_carried, simple_carried}
 use Rattle.matroid_theory.proofs.Levels.{rep_cmp-reversed}
 use Rattle.matroid_theory.proofs.Built.{standard_exists}
+use Rattle.matroid_theory.proofs.Forms.{one_form}
 use Rattle.matroid_theory.proofs.Parents.{last_try}
+use Rattle.existence.specs.Exists.{HasOneOfEachClass}
 use Rattle.existence.proofs.Deciding.{both}
 use Rattle.existence.proofs.RisingLists.{rising_list}
 use Rattle.existence.proofs.Shaped.{standard_decided}
@@ -54,8 +56,10 @@ first_least P (N ∷ Ns) r w = (
 
 pub form_exists : (mode : Mode) (M : Rep) → IsRepresentation M → (N : Rep) × IsForm mode N × AreEquivalent mode M N
 form_exists mode M r =
-    let all = rising_list (shape M) (λ N. IsStandard N × AreEquivalent mode M N) (λ N w. (w.1.takes.shaped, w.1.takes.same_shape)) (λ N. both (standard_decided N) (λ _. equivalent_decided mode M N)) in
-    let least = first_least (λ N. IsStandard N × AreEquivalent mode M N) all.0 all.1 (let w = standard_exists mode M r.shaped r.some r.agrees in (w.0, (w.1, w.2))) in
+    let all = rising_list (shape M) (λ N. IsStandard N × AreEquivalent mode M N) (λ N w. (w.1.takes.shaped, w.1.takes.same_shape))
+    (λ N. both (standard_decided N) (λ _. equivalent_decided mode M N)) in
+    let least = first_least (λ N. IsStandard N × AreEquivalent mode M N) all.0 all.1 (let w = standard_exists mode M r.shaped r.some r.agrees in
+    (w.0, (w.1, w.2))) in
     let e = least.1.1 in (
       least.0,
       record {
@@ -100,7 +104,8 @@ module _ (mode : Mode) (M N : Rep) (some : 0 < count M) (e : AreEquivalent mode 
   carried : (X j : ℕ) → j < size N → before X (p j) ≡ (image K.size f (members X) j || C j)
   carried X j l i =
       let l' : j < size M = subst (λ (n : ℕ). j < n) sizes l in
-      any_below-same K.size (λ x. members X x && (p (f x) == p j)) (λ x. members X x && (f x == j)) (λ x m t. members X x && same_label (size M) p u e.valid.labels (f x) j (in_M x m) l' t) i
+      any_below-same K.size (λ x. members X x && (p (f x) == p j)) (λ x. members X x && (f x == j))
+      (λ x m t. members X x && same_label (size M) p u e.valid.labels (f x) j (in_M x m) l' t) i
       || C (e.valid.labels.there j l' i)
 
   minor_before : IsMinor K M
@@ -114,7 +119,12 @@ module _ (mode : Mode) (M N : Rep) (some : 0 < count M) (e : AreEquivalent mode 
       };
       outside = λ x l. ap C (e.valid.labels.there (f x) (in_M x l)) ∙ w.outside x l;
       contracted =
-          ap (λ n. K.rank + n) (size_relabelled (size M) u p (record { below = e.valid.labels.inverse_below; inverse_below = e.valid.labels.below; there = e.valid.labels.back; back = e.valid.labels.there }) C
+          ap (λ n. K.rank + n) (size_relabelled (size M) u p (record {
+            below = e.valid.labels.inverse_below;
+            inverse_below = e.valid.labels.below;
+            there = e.valid.labels.back;
+            back = e.valid.labels.there;
+          }) C
           ∙ ap (λ n. size_below n C) (sym sizes)) ∙ w.contracted ∙ ap (λ S. S.rank) e.takes.same_shape;
       bases = λ X l. (let old = w.bases X l in
           let move = basis_carried mode M N e.move e.shaped e.valid e.takes 0 some (before X) in
@@ -144,6 +154,20 @@ member_carried q mode n M N e m =
       simple = (let c = simple_carried mode M N e in c.0 m.simple);
       avoids = λ k d l w. m.avoids k d l (minor_before mode M N some e (slice_index_or q.forbidden k d) w.0 w.1 w.2);
     }
+
+-- a level has one of each class
+pub one_of_each_class : (q : Family) (n : ℕ) (forms : List Rep) → IsLevel q n forms → HasOneOfEachClass q n forms
+one_of_each_class q n forms level = record {
+  members = λ M c. (let f = form_of M c in f.member);
+  each = λ M m.
+      let w = form_exists q.mode M m.representation in
+      let e = level.exact w.0 in
+      (w.0, e.1 (record { form = w.1; member = member_carried q q.mode n M w.0 w.2 m }), w.2);
+  one = λ M N c d e. (let f = form_of M c in let g = form_of N d in one_form q.mode M N f.form g.form e);
+}
+  where
+    form_of : (M : Rep) → Contains forms M → IsLevelForm q n M
+    form_of M c = let e = level.exact M in e.0 c
 
 -- ---- tries
 

@@ -11,7 +11,8 @@ use Rattle.existence.proofs.Deciding.{IsIn, some_in, along}
 pub record IsCover {X : Type 0} (V : X → Type 0) (R : X → X → Type 0) (xs : List X) : Type 0 where
   pub near : (x : X) → V x → (y : X) × IsIn y xs × R x y
 
-pub some_covered : {X : Type 0} (V : X → Type 0) (R : X → X → Type 0) (xs : List X) → IsCover V R xs → (P : X → Type 0) → ((x : X) → P x → V x) → ((x y : X) → R x y → P x → P y) → ((x : X) → IsDecided (P x)) → IsDecided ((x : X) × P x)
+pub some_covered : {X : Type 0} (V : X → Type 0) (R : X → X → Type 0) (xs : List X) → IsCover V R xs → (P : X → Type 0) → ((x : X) → P x → V x)
+    → ((x y : X) → R x y → P x → P y) → ((x : X) → IsDecided (P x)) → IsDecided ((x : X) × P x)
 some_covered V R xs c P valid same d =
     along (some_in xs P d) (λ w. (w.0, w.2)) (λ w. (let n = c.near w.0 (valid w.0 w.1) in (n.0, n.1, same w.0 n.0 n.2 w.1)))
 
@@ -50,7 +51,8 @@ in_words B zero [] l h = inl refl
 in_words B zero (x ∷ w) l h = absurd (omega (arith, l))
 in_words B (suc n) [] l h = absurd (omega (arith, l))
 in_words B (suc n) (x ∷ w) l h =
-    in_flat (λ x. map (λ w. x ∷ w) (words B n)) x (x ∷ w) B (h x (inl refl)) (in_map (λ w. x ∷ w) w (words B n) (in_words B n w (omega (arith, l)) (λ y i. h y (inr i))))
+    in_flat (λ x. map (λ w. x ∷ w) (words B n)) x (x ∷ w) B (h x (inl refl)) (in_map (λ w. x ∷ w) w (words B n)
+    (in_words B n w (omega (arith, l)) (λ y i. h y (inr i))))
 
 -- ---- numbers, functions and pairs
 
@@ -74,10 +76,12 @@ module _ {X : Type 0} (V : X → Type 0) (R : X → X → Type 0) (xs : List X) 
         let rest = (let r = function_cover n in r.near f (λ j l. v j (omega arith))) in
         let last = c.near (f n) (v n (omega arith)) in (
           at_last n last.0 rest.0,
-          in_flat (λ x. map (at_last n x) (functions d xs n)) last.0 (at_last n last.0 rest.0) xs last.1 (in_map (at_last n last.0) rest.0 (functions d xs n) rest.1),
+          in_flat (λ x. map (at_last n x) (functions d xs n)) last.0 (at_last n last.0 rest.0) xs last.1
+              (in_map (at_last n last.0) rest.0 (functions d xs n) rest.1),
           λ j l. elim (cases_lt j n) [
             | inl b ↦ subst (R (f j)) (sym (at_last-before n last.0 rest.0 j b)) (rest.2 j b)
-            | inr g ↦ (let e : n ≡ j = omega arith in subst (λ k. R (f k) (at_last n last.0 rest.0 k)) e (subst (R (f n)) (sym (at_last-own n last.0 rest.0)) last.2))
+            | inr g ↦ (let e : n ≡ j = omega arith in subst (λ k. R (f k) (at_last n last.0 rest.0 k)) e
+                (subst (R (f n)) (sym (at_last-own n last.0 rest.0)) last.2))
           ],
         );
   }
@@ -89,7 +93,8 @@ pub in_pairs : {X Y : Type 0} (xs : List X) (ys : List Y) (x : X) (y : Y) → Is
 unfolding pairs
 in_pairs xs ys x y i j = in_flat (λ x. map (λ y. (x, y)) ys) x (x, y) xs i (in_map (λ y. (x, y)) y ys j)
 
-pub pair_cover : {X Y : Type 0} (V : X → Type 0) (R : X → X → Type 0) (xs : List X) (W : Y → Type 0) (S : Y → Y → Type 0) (ys : List Y) → IsCover V R xs → IsCover W S ys
+pub pair_cover : {X Y : Type 0} (V : X → Type 0) (R : X → X → Type 0) (xs : List X) (W : Y → Type 0) (S : Y → Y → Type 0) (ys : List Y) → IsCover V R xs
+    → IsCover W S ys
     → IsCover (λ (p : X × Y). V p.0 × W p.1) (λ p q. R p.0 q.0 × S p.1 q.1) (pairs xs ys)
 pair_cover V R xs W S ys c d = record {
   near = λ p v.

@@ -66,26 +66,30 @@ pub some_below : (n : ℕ) (P : ℕ → Type 0) → ((j : ℕ) → j < n → IsD
 some_below n P d = elim (search_below n P (λ j. ¬ (P j)) d) [ inl w ↦ inl w | inr none ↦ inr (λ w. none w.0 w.1 w.2) ]
 
 pub each_below : (n : ℕ) (P : ℕ → Type 0) → ((j : ℕ) → j < n → IsDecided (P j)) → IsDecided ((j : ℕ) → j < n → P j)
-each_below n P d = elim (search_below n (λ j. ¬ (P j)) P (λ j l. elim (d j l) [ inl p ↦ inr p | inr never ↦ inl never ])) [ inl w ↦ inr (λ all. w.2 (all w.0 w.1)) | inr all ↦ inl all ]
+each_below n P d = elim (search_below n (λ j. ¬ (P j)) P (λ j l. elim (d j l) [ inl p ↦ inr p | inr never ↦ inl never ]))
+    [ inl w ↦ inr (λ all. w.2 (all w.0 w.1)) | inr all ↦ inl all ]
 
 pub each_two : (a b : ℕ) (P : ℕ → ℕ → Type 0) → ((i j : ℕ) → i < a → j < b → IsDecided (P i j)) → IsDecided ((i j : ℕ) → i < a → j < b → P i j)
 each_two a b P d =
     along (each_below a (λ i. (j : ℕ) → j < b → P i j) (λ i l. each_below b (P i) (λ j m. d i j l m)))
     (λ w i j l m. w i l j m) (λ w i l j m. w i j l m)
 
-pub each_three : (a b c : ℕ) (P : ℕ → ℕ → ℕ → Type 0) → ((i j k : ℕ) → i < a → j < b → k < c → IsDecided (P i j k)) → IsDecided ((i j k : ℕ) → i < a → j < b → k < c → P i j k)
+pub each_three : (a b c : ℕ) (P : ℕ → ℕ → ℕ → Type 0) → ((i j k : ℕ) → i < a → j < b → k < c → IsDecided (P i j k))
+    → IsDecided ((i j k : ℕ) → i < a → j < b → k < c → P i j k)
 each_three a b c P d =
     along (each_below a (λ i. (j k : ℕ) → j < b → k < c → P i j k) (λ i l. each_two b c (P i) (λ j k m n. d i j k l m n)))
     (λ w i j k l m n. w i l j k m n) (λ w i l j k m n. w i j k l m n)
 
 -- ---- sets of numbers below n
 
-pub some_set : (n : ℕ) (P : (ℕ → Bool) → Type 0) → ((S T : ℕ → Bool) → ((j : ℕ) → j < n → S j ≡ T j) → P S → P T) → ((S : ℕ → Bool) → IsDecided (P S)) → IsDecided ((S : ℕ → Bool) × P S)
+pub some_set : (n : ℕ) (P : (ℕ → Bool) → Type 0) → ((S T : ℕ → Bool) → ((j : ℕ) → j < n → S j ≡ T j) → P S → P T) → ((S : ℕ → Bool) → IsDecided (P S))
+    → IsDecided ((S : ℕ → Bool) × P S)
 some_set n P same d =
     along (some_below (2 ^ n) (λ X. P (members X)) (λ X _. d (members X)))
     (λ w. (members w.0, w.2)) (λ w. (mask n w.0, mask-below n w.0, same w.0 (members (mask n w.0)) (λ j l. sym (members-mask n w.0 j l)) w.1))
 
-pub each_set : (n : ℕ) (P : (ℕ → Bool) → Type 0) → ((S T : ℕ → Bool) → ((j : ℕ) → j < n → S j ≡ T j) → P S → P T) → ((S : ℕ → Bool) → IsDecided (P S)) → IsDecided ((S : ℕ → Bool) → P S)
+pub each_set : (n : ℕ) (P : (ℕ → Bool) → Type 0) → ((S T : ℕ → Bool) → ((j : ℕ) → j < n → S j ≡ T j) → P S → P T) → ((S : ℕ → Bool) → IsDecided (P S))
+    → IsDecided ((S : ℕ → Bool) → P S)
 each_set n P same d = along (each_below (2 ^ n) (λ X. P (members X)) (λ X _. d (members X))) (λ w. by_masks n P same w) (λ w X _. w (members X))
 
 -- ---- lists

@@ -67,13 +67,15 @@ module _ (M : Rep) (r : IsRepresentation M) where
         w.large,
         (
           w.other_large,
-          (let e : a.0 ≡ w.rank = one_rank X a.0 w.rank a.1 w.is_rank in let d : b.0 ≡ w.other_rank = one_rank (λ j. not (X j)) b.0 w.other_rank b.1 w.is_other_rank in let s = w.small in omega arith),
+          (let e : a.0 ≡ w.rank = one_rank X a.0 w.rank a.1 w.is_rank in let d : b.0 ≡ w.other_rank = one_rank
+              (λ j. not (X j)) b.0 w.other_rank b.1 w.is_other_rank in let s = w.small in omega arith),
         ),
       ))
 
   pub connected_decided : IsDecided (IsConnected M)
   connected_decided =
-      each_set (size M) (λ X. ¬ (IsSeparation M 1 X)) (λ S T h n w. n (separation_near M 1 T S (λ j l. sym (h j l)) w)) (λ X. negated (separation_decided 1 X))
+      each_set (size M) (λ X. ¬ (IsSeparation M 1 X)) (λ S T h n w. n (separation_near M 1 T S (λ j l. sym (h j l)) w))
+      (λ X. negated (separation_decided 1 X))
 
   pub three_connected_decided : IsDecided (Is3Connected M)
   three_connected_decided =
@@ -127,7 +129,8 @@ passes_decided q n filters M r =
     (λ _. both (implied (is_set filters.three) (λ _. three_connected_decided M r))
     (λ _. both (implied (is_set filters.cosimple) (λ _. cosimple_decided M r))
     (λ _. both (has_decided M r filters.has)
-    (λ _. implied (is_set filters.distinct) (λ _. each_in (all_reps q.factors q.rank n) (λ N. IsLevelForm q n N → rep_cmp N M ≡ Less → ¬ (HaveSameMatroid N M))
+    (λ _. implied (is_set filters.distinct) (λ _. each_in (all_reps q.factors q.rank n) (λ N. IsLevelForm q n N → rep_cmp N M ≡ Less
+    → ¬ (HaveSameMatroid N M))
     (λ N. implied (level_form_decided q n N) (λ f. implied (is_less (rep_cmp N M)) (λ _. negated (same_matroid_decided N M f.form.representation r))))))))))
     (λ w. record {
       connected = w.0;
@@ -140,5 +143,9 @@ passes_decided q n filters M r =
 
 pub listed_exists : (q : Family) (n : ℕ) (filters : Filters) → (forms : List Rep) × IsListed q n filters forms
 listed_exists q n filters =
-    rising_list (shape_of q n) (λ M. IsLevelForm q n M × Passes q n filters M) (λ M w. (let r = w.0.form.representation in r.shaped, member_shape q n M w.0.member))
+    rising_list (shape_of q n) (λ M. IsLevelForm q n M × Passes q n filters M) (λ M w. (
+      let r = w.0.form.representation in
+          r.shaped,
+      member_shape q n M w.0.member,
+    ))
     (λ M. both (level_form_decided q n M) (λ f. passes_decided q n filters M f.form.representation))

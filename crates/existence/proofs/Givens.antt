@@ -1,12 +1,14 @@
 -- What is given by all sets of one size, by columns or as their dual is a matroid.
-use Rattle.std.proofs.Common.{◌≡◌, ℕ, zero, suc, ◌+◌, ◌-◌, ◌^◌, ◌<◌, ◌≤◌, refl, sym, ◌∙◌, ap, subst, arith, Bool, true, false, cond, not, List, [], ◌∷◌, length, inl, inr, slice_index}
+use Rattle.std.proofs.Common.{◌≡◌, ℕ, zero, suc, ◌+◌, ◌-◌, ◌^◌, ◌<◌, ◌≤◌, refl, sym, ◌∙◌, ap}
+use Rattle.std.proofs.Common.{subst, arith, Bool, true, false, cond, not, List, [], ◌∷◌, length, inl, inr, slice_index}
 use Rattle.std.specs.Bool.{nat_lt}
 use Rattle.std.specs.List.Sorted.{IsStrictlyIncreasing}
 use Rattle.matroid_theory.specs.Field.{IsOrder}
 use Rattle.matroid_theory.specs.Matrix.{size_below, IsRankOf}
 use Rattle.matroid_theory.specs.Matroid.{members}
 use Rattle.matroid_theory.specs.Minor.{Matroid}
-use Rattle.matroid_theory.specs.Given.{Given, AllSets, ColumnsOver, DualOfColumns, elements, column_length, matrix_of_lists, IsColumnBasis, IsGivenBasis, IsGivenBy}
+use Rattle.matroid_theory.specs.Given.{Given, AllSets, ColumnsOver, DualOfColumns, elements}
+use Rattle.matroid_theory.specs.Given.{column_length, matrix_of_lists, IsColumnBasis, IsGivenBasis, IsGivenBy}
 use Rattle.matroid_theory.proofs.FieldLaws.{field_laws}
 use Rattle.matroid_theory.proofs.Masks.{mask, mask-below, members-mask, size-same, IsIndependent-same}
 use Rattle.matroid_theory.proofs.Bases.{rank_exists, rank_unique}
@@ -25,7 +27,8 @@ record Numbers (P : ℕ → Type 0) (a n : ℕ) (xs : List ℕ) : Type 0 where
 rises_cons : (x : ℕ) (xs : List ℕ) → ((y : ℕ) → IsIn y xs → x < y) → IsStrictlyIncreasing xs → IsStrictlyIncreasing (x ∷ xs)
 rises_cons x [] above r k l = absurd (omega arith)
 rises_cons x (y ∷ ys) above r zero l = above y (inl refl)
-rises_cons x (y ∷ ys) above r (suc k) l = (let e : suc (k + 1) ≡ suc k + 1 = omega arith in subst (λ i. slice_index (y ∷ ys) k < slice_index (x ∷ y ∷ ys) i) e (r k (omega arith)))
+rises_cons x (y ∷ ys) above r (suc k) l = (let e : suc (k + 1) ≡ suc k + 1 = omega arith in
+    subst (λ i. slice_index (y ∷ ys) k < slice_index (x ∷ y ∷ ys) i) e (r k (omega arith)))
 
 numbers : (P : ℕ → Type 0) → ((x : ℕ) → IsDecided (P x)) → (n a : ℕ) → (xs : List ℕ) × Numbers P a n xs
 numbers P d zero a = ([], record { rising = λ k l. absurd (omega arith); sound = λ x i. absurd i; complete = λ x l m p. absurd (omega arith) })
@@ -54,7 +57,8 @@ numbers P d (suc n) a = (let r = numbers P d n (a + 1) in elim (d a) [
 -- ---- a matroid by its bases
 
 module _ (given : Given) (rank : ℕ) (same : (S T : ℕ → Bool) → ((j : ℕ) → j < elements given → S j ≡ T j) → IsGivenBasis given S → IsGivenBasis given T)
-    (d : (S : ℕ → Bool) → IsDecided (IsGivenBasis given S)) (B : ℕ → Bool) (b : IsGivenBasis given B) (ranks : (S : ℕ → Bool) → IsGivenBasis given S → size_below (elements given) S ≡ rank) where
+    (d : (S : ℕ → Bool) → IsDecided (IsGivenBasis given S)) (B : ℕ → Bool) (b : IsGivenBasis given B) (ranks : (S : ℕ → Bool) → IsGivenBasis given S
+    → size_below (elements given) S ≡ rank) where
   matroid_of : (N : Matroid) × IsGivenBy given N
   matroid_of =
       let n = elements given in
@@ -67,7 +71,11 @@ module _ (given : Given) (rank : ℕ) (same : (S T : ℕ → Bool) → ((j : ℕ
             (λ c. (let s = r.1.sound X (from_contains X r.0 c) in ((let l = s.1 in omega arith), s.2))),
             (λ w. to_contains X r.0 (r.1.complete X (omega arith) (let l = w.0 in omega arith) w.1)),
           );
-          some = (mask n B, to_contains (mask n B) r.0 (r.1.complete (mask n B) (omega arith) (let l : mask n B < 2 ^ n = mask-below n B in omega arith) (same B (members (mask n B)) (λ j l. sym (members-mask n B j l)) b)));
+          some = (
+            mask n B,
+            to_contains (mask n B) r.0 (r.1.complete (mask n B) (omega arith) (let l : mask n B < 2 ^ n = mask-below n B in omega arith)
+                (same B (members (mask n B)) (λ j l. sym (members-mask n B j l)) b)),
+          );
           ranks = λ X c. ranks (members X) (let s = r.1.sound X (from_contains X r.0 c) in s.2);
         },
       )
@@ -76,7 +84,8 @@ module _ (given : Given) (rank : ℕ) (same : (S T : ℕ → Bool) → ((j : ℕ
 
 pub uniform_given : (rank size : ℕ) → rank ≤ size → (N : Matroid) × IsGivenBy (AllSets rank size) N
 uniform_given rank size l =
-    matroid_of (AllSets rank size) rank (λ S T h e. sym (size-same size S T h) ∙ e) (λ S. equal (size_below size S) rank) (λ j. nat_lt j rank) (size_front rank size l) (λ S e. e)
+    matroid_of (AllSets rank size) rank (λ S T h e. sym (size-same size S T h) ∙ e) (λ S. equal (size_below size S) rank) (λ j. nat_lt j rank)
+    (size_front rank size l) (λ S e. e)
 
 -- ---- columns and duals
 
@@ -86,7 +95,8 @@ size_both (suc n) S =
     let h : size_below n S + size_below n (λ j. not (S j)) ≡ n = size_both n S in
     elim (S n) as (λ b. size_below n S + cond b 1 0 + (size_below n (λ j. not (S j)) + cond (not b) 1 0) ≡ suc n) [ true ↦ omega arith | false ↦ omega arith ]
 
-module _ (q : ℕ) (o : IsOrder q) (columns : List (List ℕ)) (codes : (i j : ℕ) → i < column_length columns → j < length columns → matrix_of_lists columns i j < q) where
+module _ (q : ℕ) (o : IsOrder q) (columns : List (List ℕ)) (codes : (i j : ℕ) → i < column_length columns → j < length columns
+    → matrix_of_lists columns i j < q) where
   abbrev n : ℕ
   n = length columns
 
@@ -100,7 +110,10 @@ module _ (q : ℕ) (o : IsOrder q) (columns : List (List ℕ)) (codes : (i j : �
   column_rank = rank_exists q (field_laws q o) r n (matrix_of_lists columns) codes (λ _. true)
 
   basis_same : (S T : ℕ → Bool) → ((j : ℕ) → j < n → S j ≡ T j) → IsColumnBasis q columns S → IsColumnBasis q columns T
-  basis_same S T h b = record { independent = IsIndependent-same q r n (matrix_of_lists columns) S T h b.independent; greatest = subst HasRank (size-same n S T h) b.greatest }
+  basis_same S T h b = record {
+    independent = IsIndependent-same q r n (matrix_of_lists columns) S T h b.independent;
+    greatest = subst HasRank (size-same n S T h) b.greatest;
+  }
 
   basis_rank : (S : ℕ → Bool) → IsColumnBasis q columns S → size_below n S ≡ column_rank.0
   basis_rank S b = rank_unique q r n (matrix_of_lists columns) (λ _. true) (size_below n S) column_rank.0 b.greatest column_rank.1
@@ -111,16 +124,24 @@ module _ (q : ℕ) (o : IsOrder q) (columns : List (List ℕ)) (codes : (i j : �
       (λ w. record { independent = w.0; greatest = subst HasRank w.1 column_rank.1 }) (λ b. (b.independent, sym (basis_rank S b)))
 
   first_basis : (S : ℕ → Bool) × IsColumnBasis q columns S
-  first_basis = (let h = column_rank.1 in let p = h.reached in (p.0, record { independent = p.1.independent; greatest = subst HasRank (sym p.1.elements) column_rank.1 }))
+  first_basis = (let h = column_rank.1 in let p = h.reached in (
+    p.0,
+    record {
+      independent = p.1.independent;
+      greatest = subst HasRank (sym p.1.elements) column_rank.1;
+    },
+  ))
 
   pub columns_given : (N : Matroid) × IsGivenBy (ColumnsOver q columns) N
   columns_given = matroid_of (ColumnsOver q columns) column_rank.0 basis_same column_basis_decided first_basis.0 first_basis.1 basis_rank
 
   pub dual_given : (N : Matroid) × IsGivenBy (DualOfColumns q columns) N
   dual_given =
-      matroid_of (DualOfColumns q columns) (n - column_rank.0) (λ S T h b. basis_same (λ j. not (S j)) (λ j. not (T j)) (λ j l. ap not (h j l)) b) (λ S. column_basis_decided (λ j. not (S j)))
+      matroid_of (DualOfColumns q columns) (n - column_rank.0) (λ S T h b. basis_same (λ j. not (S j)) (λ j. not (T j)) (λ j l. ap not (h j l)) b)
+      (λ S. column_basis_decided (λ j. not (S j)))
       (λ j. not (first_basis.0 j)) (basis_same first_basis.0 (λ j. not (not (first_basis.0 j))) (λ j l. twice (first_basis.0 j)) first_basis.1)
-      (λ S b. (let e : size_below n (λ j. not (S j)) ≡ column_rank.0 = basis_rank (λ j. not (S j)) b in let a : size_below n S + size_below n (λ j. not (S j)) ≡ n = size_both n S in omega arith))
+      (λ S b. (let e : size_below n (λ j. not (S j)) ≡ column_rank.0 = basis_rank (λ j. not (S j)) b in
+      let a : size_below n S + size_below n (λ j. not (S j)) ≡ n = size_both n S in omega arith))
     where
       twice : (b : Bool) → b ≡ not (not b)
       twice true = refl

@@ -22,7 +22,8 @@ member_decided q n M =
     (λ m. (m.same_factors, (m.ranks, (m.sizes, (m.representation, (m.simple, m.avoids))))))
 
 pub level_form_decided : (q : Family) (n : ℕ) (M : Rep) → IsDecided (IsLevelForm q n M)
-level_form_decided q n M = along (both (member_decided q n M) (λ _. form_decided q.mode M)) (λ w. record { form = w.1; member = w.0 }) (λ f. (f.member, f.form))
+level_form_decided q n M = along (both (member_decided q n M) (λ _. form_decided q.mode M)) (λ w. record { form = w.1; member = w.0 })
+    (λ f. (f.member, f.form))
 
 -- the shape of a family's members of a size
 abbrev pub shape_of : Family → ℕ → Shape
@@ -32,4 +33,5 @@ pub member_shape : (q : Family) (n : ℕ) (M : Rep) → IsMember q n M → shape
 member_shape q n M m i = record { factors = m.same_factors i; rank = m.ranks i; size = m.sizes i }
 
 pub level_exists : (q : Family) (n : ℕ) → (forms : List Rep) × IsLevel q n forms
-level_exists q n = rising_list (shape_of q n) (IsLevelForm q n) (λ M f. (let r = f.form.representation in r.shaped, member_shape q n M f.member)) (level_form_decided q n)
+level_exists q n = rising_list (shape_of q n) (IsLevelForm q n) (λ M f. (let r = f.form.representation in r.shaped, member_shape q n M f.member))
+    (level_form_decided q n)

@@ -24,7 +24,8 @@ permutation_decided n p u =
     (λ w. record { below = w.0; inverse_below = w.1.0; there = w.1.1.0; back = w.1.1.1 }) (λ w. (w.below, (w.inverse_below, (w.there, w.back))))
 
 -- the same permutation below n
-pub permutation_near : (n : ℕ) (p u p' u' : ℕ → ℕ) → ((j : ℕ) → j < n → p j ≡ p' j) → ((j : ℕ) → j < n → u j ≡ u' j) → ArePermutation n p u → ArePermutation n p' u'
+pub permutation_near : (n : ℕ) (p u p' u' : ℕ → ℕ) → ((j : ℕ) → j < n → p j ≡ p' j) → ((j : ℕ) → j < n → u j ≡ u' j) → ArePermutation n p u
+    → ArePermutation n p' u'
 permutation_near n p u p' u' a b w = record {
   below = λ j l. subst (λ (x : ℕ). x < n) (a j l) (w.below j l);
   inverse_below = λ j l. subst (λ (x : ℕ). x < n) (b j l) (w.inverse_below j l);
@@ -39,16 +40,19 @@ power_decided Semilinear t = inl tt
 inverse_decided : (q r : ℕ) (G H : Matrix) → IsDecided (AreInverse q r G H)
 inverse_decided q r G H =
     along
-    (both (each_two r r (λ i j. matrix_product q r G H i j ≡ unit i j) (λ i j _ _. equal _ _)) (λ _. each_two r r (λ i j. matrix_product q r H G i j ≡ unit i j) (λ i j _ _. equal _ _)))
+    (both (each_two r r (λ i j. matrix_product q r G H i j ≡ unit i j) (λ i j _ _. equal _ _))
+    (λ _. each_two r r (λ i j. matrix_product q r H G i j ≡ unit i j) (λ i j _ _. equal _ _)))
     (λ w. record { right = w.0; left = w.1 }) (λ w. (w.right, w.left))
 
-inverse_near : (q : ℕ) → IsField q → (r : ℕ) (G H G' H' : Matrix) → ((i j : ℕ) → i < r → j < r → G i j ≡ G' i j) → ((i j : ℕ) → i < r → j < r → H i j ≡ H' i j) → AreInverse q r G H → AreInverse q r G' H'
+inverse_near : (q : ℕ) → IsField q → (r : ℕ) (G H G' H' : Matrix) → ((i j : ℕ) → i < r → j < r → G i j ≡ G' i j)
+    → ((i j : ℕ) → i < r → j < r → H i j ≡ H' i j) → AreInverse q r G H → AreInverse q r G' H'
 inverse_near q F r G H G' H' a b w = record {
   right = λ i j l m. sym (near G H G' H' a b i j l m) ∙ w.right i j l m;
   left = λ i j l m. sym (near H G H' G' b a i j l m) ∙ w.left i j l m;
 }
   where
-    near : (G H G' H' : Matrix) → ((i j : ℕ) → i < r → j < r → G i j ≡ G' i j) → ((i j : ℕ) → i < r → j < r → H i j ≡ H' i j) → (i j : ℕ) → i < r → j < r → matrix_product q r G H i j ≡ matrix_product q r G' H' i j
+    near : (G H G' H' : Matrix) → ((i j : ℕ) → i < r → j < r → G i j ≡ G' i j) → ((i j : ℕ) → i < r → j < r → H i j ≡ H' i j) → (i j : ℕ) → i < r → j < r
+        → matrix_product q r G H i j ≡ matrix_product q r G' H' i j
     near G H G' H' a b i j l m = sum_same q F r (λ k. times q (G i k) (H k j)) (λ k. times q (G' i k) (H' k j)) (λ k n t. times q (a i k l n t) (b k j n m t))
 
 pub move_decided : (mode : Mode) (S : Shape) (m : Move) → IsDecided (IsMove mode S m)
@@ -62,14 +66,24 @@ move_decided mode S m =
     (λ _. both (each_two (length S.factors) S.size (λ f j. m.scalar f j < slice_index S.factors f) (λ f j _ _. less _ _))
     (λ _. both (each_two (length S.factors) S.size (λ f j. m.scalar f j ≢ 0) (λ f j _ _. negated (equal _ _)))
     (λ _. permutation_decided S.size m.label m.place))))))))
-    (λ w. record { powers = w.0; allowed = w.1.0; codes = w.1.1.0; back_codes = w.1.1.1.0; inverse = w.1.1.1.1.0; scalars = w.1.1.1.1.1.0; nonzero = w.1.1.1.1.1.1.0; labels = w.1.1.1.1.1.1.1 })
+    (λ w. record {
+      powers = w.0;
+      allowed = w.1.0;
+      codes = w.1.1.0;
+      back_codes = w.1.1.1.0;
+      inverse = w.1.1.1.1.0;
+      scalars = w.1.1.1.1.1.0;
+      nonzero = w.1.1.1.1.1.1.0;
+      labels = w.1.1.1.1.1.1.1;
+    })
     (λ w. (w.powers, (w.allowed, (w.codes, (w.back_codes, (w.inverse, (w.scalars, (w.nonzero, w.labels))))))))
 
 pub takes_decided : (M : Rep) (m : Move) (N : Rep) → IsDecided (TakesTo M m N)
 takes_decided M m N =
     along
     (both (same_shape_decided (shape N) (shape M))
-    (λ _. both (shaped_decided N) (λ _. each_three (count M) M.rank (size M) (λ f i j. matrix N f i j ≡ moved (shape M) (matrix M) m f i j) (λ f i j _ _ _. equal _ _))))
+    (λ _. both (shaped_decided N) (λ _. each_three (count M) M.rank (size M) (λ f i j. matrix N f i j ≡ moved (shape M) (matrix M) m f i j)
+    (λ f i j _ _ _. equal _ _))))
     (λ w. record { same_shape = w.0; shaped = w.1.0; codes = w.1.1 }) (λ w. (w.same_shape, (w.shaped, w.codes)))
 
 -- two moves that are the same in what counts for a shape
@@ -88,7 +102,8 @@ module _ (mode : Mode) (S : Shape) (orders : (f : ℕ) → f < length S.factors 
     allowed = λ f l. subst (AllowsPower mode) (n.power f l) (w.allowed f l);
     codes = λ f i j l a b. subst (λ (x : ℕ). x < slice_index S.factors f) (n.rows f l i a j b) (w.codes f i j l a b);
     back_codes = λ f i j l a b. subst (λ (x : ℕ). x < slice_index S.factors f) (n.back f l i a j b) (w.back_codes f i j l a b);
-    inverse = λ f l. inverse_near (slice_index S.factors f) (field_laws (slice_index S.factors f) (orders f l)) S.rank (m.rows f) (m.back f) (k.rows f) (k.back f) (λ i j a b. n.rows f l i a j b) (λ i j a b. n.back f l i a j b) (w.inverse f l);
+    inverse = λ f l. inverse_near (slice_index S.factors f) (field_laws (slice_index S.factors f) (orders f l)) S.rank (m.rows f) (m.back f) (k.rows f)
+        (k.back f) (λ i j a b. n.rows f l i a j b) (λ i j a b. n.back f l i a j b) (w.inverse f l);
     scalars = λ f j l a. subst (λ (x : ℕ). x < slice_index S.factors f) (n.scalar f l j a) (w.scalars f j l a);
     nonzero = λ f j l a. subst (λ (x : ℕ). x ≢ 0) (n.scalar f l j a) (w.nonzero f j l a);
     labels = permutation_near S.size m.label m.place k.label k.place n.label n.place w.labels;
@@ -98,7 +113,8 @@ module _ (mode : Mode) (S : Shape) (orders : (f : ℕ) → f < length S.factors 
   moved_near A f i j l a b =
       let q = slice_index S.factors f in
       λ t. times q (n.scalar f l j b t)
-      (sum_same q (field_laws q (orders f l)) S.rank (λ c. times q (m.rows f i c) (raised q (m.power f) (A f c (m.label j)))) (λ c. times q (k.rows f i c) (raised q (k.power f) (A f c (k.label j))))
+      (sum_same q (field_laws q (orders f l)) S.rank (λ c. times q (m.rows f i c) (raised q (m.power f) (A f c (m.label j))))
+      (λ c. times q (k.rows f i c) (raised q (k.power f) (A f c (k.label j))))
       (λ c d s. times q (n.rows f l i a c d s) (raised q (n.power f l s) (A f c (n.label j b s)))) t)
 
 takes_near : (M N : Rep) (m k : Move) → IsShaped M → IsNear (shape M) m k → TakesTo M m N → TakesTo M k N
@@ -151,11 +167,13 @@ module _ (S : Shape) (orders : (f : ℕ) → f < length S.factors → IsOrder (s
         let all_rows = function_cover _ _ _ rows (λ _ _. 0) (length S.factors) in
         let scalars = function_cover _ _ _ (function_cover _ _ codes16 (number_cover 16) 0 S.size) (λ _. 0) (length S.factors) in
         let labels = function_cover _ _ _ (number_cover S.size) 0 S.size in
-        let all = pair_cover _ _ _ _ _ _ (pair_cover _ _ _ _ _ _ powers scalars) (pair_cover _ _ _ _ _ _ (pair_cover _ _ _ _ _ _ all_rows all_rows) (pair_cover _ _ _ _ _ _ labels labels)) in
+        let all = pair_cover _ _ _ _ _ _ (pair_cover _ _ _ _ _ _ powers scalars) (pair_cover _ _ _ _ _ _ (pair_cover _ _ _ _ _ _ all_rows all_rows)
+        (pair_cover _ _ _ _ _ _ labels labels)) in
         let t : Tables = ((m.power, m.scalar), ((m.rows, m.back), (m.label, m.place))) in
         let found = all.near t (
           (
-            (λ f l. (let b : degree (slice_index S.factors f) < 16 = degree_small (slice_index S.factors f) (orders f l) in let p : m.power f < degree (slice_index S.factors f) = w.powers f l in omega arith)),
+            (λ f l. (let b : degree (slice_index S.factors f) < 16 = degree_small (slice_index S.factors f) (orders f l) in
+                let p : m.power f < degree (slice_index S.factors f) = w.powers f l in omega arith)),
             (λ f l j a. below16 f l (m.scalar f j) (w.scalars f j l a)),
           ),
           (
@@ -179,7 +197,8 @@ module _ (S : Shape) (orders : (f : ℕ) → f < length S.factors → IsOrder (s
 pub equivalent_decided : (mode : Mode) (M N : Rep) → IsDecided (AreEquivalent mode M N)
 equivalent_decided mode M N =
     along
-    (both (shaped_decided M) (λ s. some_covered (IsMove mode (shape M)) (IsNear (shape M)) (all_moves (shape M) s.orders) (moves_cover (shape M) s.orders mode)
+    (both (shaped_decided M) (λ s. some_covered (IsMove mode (shape M)) (IsNear (shape M)) (all_moves (shape M) s.orders)
+    (moves_cover (shape M) s.orders mode)
     (λ m. IsMove mode (shape M) m × TakesTo M m N) (λ m w. w.0)
     (λ m k n w. (move_near mode (shape M) s.orders m k n w.0, takes_near M N m k s n w.1))
     (λ m. both (move_decided mode (shape M) m) (λ _. takes_decided M m N))))

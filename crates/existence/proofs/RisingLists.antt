@@ -27,7 +27,12 @@ keep P d (x ∷ xs) = (let r = keep P d xs in elim (d x) [
     sound = λ y i. elim i [ inl e ↦ subst P e p | inr j ↦ r.sound y j ];
     complete = λ y i q. elim i [ inl e ↦ inl e | inr j ↦ inr (r.complete y j q) ];
   }
-  | inr never ↦ record { kept = r.kept; sound = r.sound; complete = λ y i q. elim i [ inl e ↦ absurd (never (subst P (sym e) q)) | inr j ↦ r.complete y j q ] }
+  | inr never ↦ record {
+    kept = r.kept;
+    sound = r.sound;
+    complete = λ y i q. elim i
+        [ inl e ↦ absurd (never (subst P (sym e) q)) | inr j ↦ r.complete y j q ];
+  }
 ])
 
 -- rising lists of representations
@@ -100,7 +105,8 @@ in_order (M ∷ Ms) s =
       },
     )
 
-pub rising_list : (S : Shape) (P : Rep → Type 0) → ((M : Rep) → P M → IsShaped M × (shape M ≡ S)) → ((M : Rep) → IsDecided (P M)) → (forms : List Rep) × IsRisingList P forms
+pub rising_list : (S : Shape) (P : Rep → Type 0) → ((M : Rep) → P M → IsShaped M × (shape M ≡ S)) → ((M : Rep) → IsDecided (P M))
+    → (forms : List Rep) × IsRisingList P forms
 rising_list S P of d =
     let r = keep P d (all_reps S.factors S.rank S.size) in
     let sorted = in_order r.kept (λ M N i j. (let a = of M (r.sound M i) in let b = of N (r.sound N j) in a.1 ∙ sym b.1)) in (

@@ -7,7 +7,8 @@ use Rattle.matroid_theory.specs.Rep.{Rep, size}
 use Rattle.matroid_theory.specs.Level.{Family, IsNormalised, IsTry, IsCount, followed_by}
 use Rattle.matroid_theory.proofs.Followed.{size_followed}
 use Rattle.existence.specs.Decided.{IsDecided}
-use Rattle.existence.proofs.Deciding.{IsIn, at_place, to_contains, from_contains, along, both, implied, equal, equal_lists, is_in, some_below, each_below, each_two, each_three}
+use Rattle.existence.proofs.Deciding.{IsIn, at_place, to_contains, from_contains, along, both, implied}
+use Rattle.existence.proofs.Deciding.{equal, equal_lists, is_in, some_below, each_below, each_two, each_three}
 use Rattle.existence.proofs.Covers.{pairs, in_pairs}
 use Rattle.existence.proofs.AllReps.{all_reps, all_columns, in_columns, in_all_of}
 use Rattle.existence.proofs.RisingLists.{keep}
@@ -18,7 +19,8 @@ normalised_decided : (factors : List ℕ) (rank : ℕ) (v : List ℕ) → IsDeci
 normalised_decided factors rank v =
     along
     (both (product_column_decided factors rank v)
-    (λ _. both (some_below rank (λ lead. ((i f : ℕ) → i < lead → f < length factors → slice_index v (i * length factors + f) ≡ 0) × ((f : ℕ) → f < length factors → slice_index v (lead * length factors + f) ≡ 1))
+    (λ _. both (some_below rank (λ lead. ((i f : ℕ) → i < lead → f < length factors → slice_index v (i * length factors + f) ≡ 0) × ((f : ℕ)
+    → f < length factors → slice_index v (lead * length factors + f) ≡ 1))
     (λ lead _. both (each_two lead (length factors) (λ i f. slice_index v (i * length factors + f) ≡ 0) (λ i f _ _. equal _ _))
     (λ _. each_below (length factors) (λ f. slice_index v (lead * length factors + f) ≡ 1) (λ f _. equal _ _))))
     (λ _. each_three rank (length factors) (length factors) (λ i f g. slice_index v (i * length factors + f) ≡ 0 → slice_index v (i * length factors + g) ≡ 0)
@@ -29,7 +31,8 @@ normalised_decided factors rank v =
 pub try_decided : (q : Family) (n : ℕ) (try : Rep × List ℕ) → IsDecided (IsTry q n try)
 try_decided q n try =
     along
-    (both (level_form_decided q (size try.0) try.0) (λ _. both (normalised_decided q.factors q.rank try.1) (λ _. member_decided q n (followed_by try.0 try.1))))
+    (both (level_form_decided q (size try.0) try.0) (λ _. both (normalised_decided q.factors q.rank try.1)
+    (λ _. member_decided q n (followed_by try.0 try.1))))
     (λ w. record { parent = w.0; column = w.1.0; member = w.1.1 }) (λ t. (t.parent, (t.column, t.member)))
 
 -- a list without repeats, with the elements of another
@@ -41,7 +44,15 @@ record Once {X : Type 0} (xs ys : List X) : Type 0 where
 once : {X : Type 0} → ((x y : X) → IsDecided (x ≡ y)) → (xs : List X) → (ys : List X) × Once xs ys
 once same [] = ([], record { apart = λ i j d l m. absurd (omega arith); from = λ x i. i; old = λ x i. i })
 once {X = X} same (x ∷ xs) = (let r = once same xs in elim (is_in same x r.0) [
-  | inl i ↦ (r.0, record { apart = r.1.apart; from = λ y j. inr (r.1.from y j); old = λ y j. elim j [ inl e ↦ subst (λ (z : X). IsIn z r.0) e i | inr k ↦ r.1.old y k ] })
+  | inl i ↦ (
+    r.0,
+    record {
+      apart = r.1.apart;
+      from = λ y j. inr (r.1.from y j);
+      old = λ y j. elim j
+          [ inl e ↦ subst (λ (z : X). IsIn z r.0) e i | inr k ↦ r.1.old y k ];
+    },
+  )
   | inr new ↦ (
     x ∷ r.0,
     record {
@@ -53,7 +64,8 @@ once {X = X} same (x ∷ xs) = (let r = once same xs in elim (is_in same x r.0) 
 ])
 
 -- so what is decided and stands in a list can be counted
-count_listed : {X : Type 0} → ((x y : X) → IsDecided (x ≡ y)) → (P : X → Type 0) → ((x : X) → IsDecided (P x)) → (xs : List X) → ((x : X) → P x → IsIn x xs) → (n : ℕ) × IsCount P n
+count_listed : {X : Type 0} → ((x y : X) → IsDecided (x ≡ y)) → (P : X → Type 0) → ((x : X) → IsDecided (P x)) → (xs : List X) → ((x : X) → P x → IsIn x xs)
+    → (n : ℕ) × IsCount P n
 count_listed same P d xs here =
     let r = keep P d xs in
     let s = once same r.kept in (
@@ -67,7 +79,8 @@ count_listed same P d xs here =
     )
 
 same_try_decided : (a b : Rep × List ℕ) → IsDecided (a ≡ b)
-same_try_decided a b = along (both (same_rep_decided a.0 b.0) (λ _. equal_lists equal a.1 b.1)) (λ w i. (w.0 i, w.1 i)) (λ e. (ap (λ (t : Rep × List ℕ). t.0) e, ap (λ (t : Rep × List ℕ). t.1) e))
+same_try_decided a b = along (both (same_rep_decided a.0 b.0) (λ _. equal_lists equal a.1 b.1)) (λ w i. (w.0 i, w.1 i))
+    (λ e. (ap (λ (t : Rep × List ℕ). t.0) e, ap (λ (t : Rep × List ℕ). t.1) e))
 
 try_listed : (q : Family) (n : ℕ) (try : Rep × List ℕ) → IsTry q n try → IsIn try (pairs (all_reps q.factors q.rank (n - 1)) (all_columns q.factors q.rank))
 try_listed q n try t =
@@ -78,7 +91,9 @@ try_listed q n try t =
     let r = member.representation in
     let orders = subst (λ (fs : List ℕ). (f : ℕ) → f < length fs → IsOrder (slice_index fs f)) member.same_factors r.shaped.orders in
     in_pairs (all_reps q.factors q.rank (n - 1)) (all_columns q.factors q.rank) try.0 try.1
-    (in_all_of try.0 (shape_of q (n - 1)) r.shaped (member_shape q (size try.0) try.0 member ∙ ap (shape_of q) before)) (in_columns q.factors q.rank try.1 orders t.column.is_column)
+    (in_all_of try.0 (shape_of q (n - 1)) r.shaped (member_shape q (size try.0) try.0 member ∙ ap (shape_of q) before))
+    (in_columns q.factors q.rank try.1 orders t.column.is_column)
 
 pub tries_exist : (q : Family) (n : ℕ) → (tried : ℕ) × IsCount (IsTry q n) tried
-tries_exist q n = count_listed same_try_decided (IsTry q n) (try_decided q n) (pairs (all_reps q.factors q.rank (n - 1)) (all_columns q.factors q.rank)) (try_listed q n)
+tries_exist q n = count_listed same_try_decided (IsTry q n) (try_decided q n) (pairs (all_reps q.factors q.rank (n - 1)) (all_columns q.factors q.rank))
+    (try_listed q n)

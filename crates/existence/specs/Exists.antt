@@ -1,12 +1,13 @@
 -- What there is: forms of classes, levels, tries, and matroids that are given.
-use Rattle.std.specs.Prelude.{ℕ, ◌<◌, List, length}
+use Rattle.std.specs.Prelude.{ℕ, ◌<◌, ◌≡◌, List, length}
+use Rattle.std.specs.List.{Contains}
 use Rattle.matroid_theory.specs.declared.Mode.{Mode}
 use Rattle.matroid_theory.specs.Rep.{Rep}
 use Rattle.matroid_theory.specs.Move.{AreEquivalent}
 use Rattle.matroid_theory.specs.Order.{IsForm}
 use Rattle.matroid_theory.specs.Minor.{Matroid}
 use Rattle.matroid_theory.specs.Given.{Given, IsGivenBy, column_length, matrix_of_lists}
-use Rattle.matroid_theory.specs.Level.{Family, Filters, IsLevel, IsListed, IsTry, IsTryFor, IsCount}
+use Rattle.matroid_theory.specs.Level.{Family, Filters, IsMember, IsLevel, IsListed, IsTry, IsTryFor, IsCount}
 
 -- a form of the class of M
 abbrev pub HasForm : Mode → Rep → Type 0
@@ -18,6 +19,12 @@ HasLevel q n = (forms : List Rep) × IsLevel q n forms
 
 abbrev pub HasListedForms : Family → ℕ → Filters → Type 0
 HasListedForms q n filters = (forms : List Rep) × IsListed q n filters forms
+
+-- one member of size n from each class of equivalent members
+pub record HasOneOfEachClass (q : Family) (n : ℕ) (forms : List Rep) : Type 0 where
+  pub members : (M : Rep) → Contains forms M → IsMember q n M
+  pub each : (M : Rep) → IsMember q n M → (N : Rep) × Contains forms N × AreEquivalent q.mode M N
+  pub one : (M N : Rep) → Contains forms M → Contains forms N → AreEquivalent q.mode M N → M ≡ N
 
 -- the number of the tries of a size
 abbrev pub HasTryCount : Family → ℕ → Type 0

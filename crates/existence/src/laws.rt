@@ -8,9 +8,9 @@ ghost use Rattle.matroid_theory.specs.Move.{AreEquivalent};
 ghost use Rattle.matroid_theory.specs.Order.{IsForm};
 ghost use Rattle.matroid_theory.specs.Minor.{Matroid, IsMinor};
 ghost use Rattle.matroid_theory.specs.Given.{AllSets, ColumnsOver, DualOfColumns};
-ghost use Rattle.matroid_theory.specs.Level.{Family, Filters, IsMember, IsLevelForm, Passes, IsTry, IsTryFor, followed_by};
+ghost use Rattle.matroid_theory.specs.Level.{Family, Filters, IsMember, IsLevelForm, IsLevel, Passes, IsTry, IsTryFor, followed_by};
 ghost use Rattle.existence.specs.Decided.{IsDecided};
-ghost use Rattle.existence.specs.Exists.{HasForm, HasLevel, HasListedForms, HasTryCount, HasTry, HasMatroid, AreCodes};
+ghost use Rattle.existence.specs.Exists.{HasForm, HasLevel, HasListedForms, HasOneOfEachClass, HasTryCount, HasTry, HasMatroid, AreCodes};
 
 /// Each question that the definitions ask of representations has an answer, since finitely many moves, representations
 /// and embeddings count.
@@ -34,6 +34,11 @@ pub fn each_size_has_a_level()
     ensures level { (q : Family) (n : ℕ) → HasLevel q n }
     ensures listed { (q : Family) (n : ℕ) (filters : Filters) → HasListedForms q n filters }
     ensures tries { (q : Family) (n : ℕ) → HasTryCount q n }
+{}
+
+/// A level has one of each class: its forms are members, each member is equivalent to one of them, and to one alone.
+pub fn levels_have_one_of_each_class()
+    ensures { (q : Family) (n : ℕ) (forms : List Rep) → IsLevel q n forms → HasOneOfEachClass q n forms }
 {}
 
 /// Equivalent representations have the same minors, and are members of a family together.

@@ -23,7 +23,18 @@ use Rattle.request_laws.proofs.Listings.{listing_exists}
 -- ---- rank 3 over GF(2), of size 3 alone
 
 abbrev small : Request
-small = record { factors = 2 ∷ []; rank = 3; size = 3; forbid = []; connected = false; three_connected = false; cosimple = false; distinct = false; has = None; print = Forms }
+small = record {
+  factors = 2 ∷ [];
+  rank = 3;
+  size = 3;
+  forbid = [];
+  connected = false;
+  three_connected = false;
+  cosimple = false;
+  distinct = false;
+  has = None;
+  print = Forms;
+}
 
 small_text : List ℕ
 small_text = text_of_statements (FieldIs (2 ∷ []) ∷ RankIs 3 ∷ SizeIs 3 ∷ [])
@@ -42,7 +53,10 @@ no_filters = record { connected = false; three = false; cosimple = false; distin
 listed3 : IsListed binary3 3 no_filters (unit3 ∷ [])
 listed3 = record {
   rising = level3.rising;
-  exact = λ M. (let e = level3.exact M in ((λ c. (e.0 c, record { connected = λ t. cc; three = λ t. cc; cosimple = λ t. cc; has = tt; distinct = λ t. cc })), (λ w. e.1 w.0)));
+  exact = λ M. (let e = level3.exact M in (
+    (λ c. (e.0 c, record { connected = λ t. cc; three = λ t. cc; cosimple = λ t. cc; has = tt; distinct = λ t. cc })),
+    (λ w. e.1 w.0),
+  ));
 }
 
 abbrev entry3 : LevelEntry
@@ -96,7 +110,11 @@ lone_refused : HasRefusal all_forms (codes "rank 3\n") (refusal.Missing Field)
 unfolding digits
 lone_refused = (
   lone,
-  record { short = lit≤ tt; said = record { may = (lit< tt, tt); are_read = (refl, tt); spelled = refl }; in_order = record { not_often = lone_often; not_big = (lit≤ tt, tt) } },
+  record {
+    short = lit≤ tt;
+    said = record { may = (lit< tt, tt); are_read = (refl, tt); spelled = refl };
+    in_order = record { not_often = lone_often; not_big = (lit≤ tt, tt) };
+  },
   ((λ e. cc), refl),
 )
 

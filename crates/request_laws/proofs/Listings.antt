@@ -40,14 +40,17 @@ matroids_exist : (ms : List MinorName) → AllByRecursion IsMinorName ms → (Ns
 matroids_exist [] all = ([], tt)
 matroids_exist (m ∷ ms) all = let N = minor_exists m all.0 in let rest = matroids_exist ms all.1 in (N.0 ∷ rest.0, (N.1, rest.1))
 
-wanted_exists : (o : Option MinorName) → AllByRecursion IsMinorName (option_to_list o) → (N : Option Matroid) × AreGivenBy (map given_as (option_to_list o)) (option_to_list N)
+wanted_exists : (o : Option MinorName) → AllByRecursion IsMinorName (option_to_list o)
+    → (N : Option Matroid) × AreGivenBy (map given_as (option_to_list o)) (option_to_list N)
 wanted_exists None all = (None, tt)
 wanted_exists (Some m) all = let N = minor_exists m all.0 in (Some N.0, (N.1, tt))
 
 pub family_exists : (q : Request) → NamesMinors q → (family : Family) × Grows q family
 family_exists q names =
-    let Ns = matroids_exist q.forbid names.forbid in
-    (record { factors = q.factors; rank = q.rank; mode = Linear; forbidden = Ns.0 }, record { factors_are = refl; rank_is = refl; linear = refl; forbids = Ns.1 })
+    let Ns = matroids_exist q.forbid names.forbid in (
+      record { factors = q.factors; rank = q.rank; mode = Linear; forbidden = Ns.0 },
+      record { factors_are = refl; rank_is = refl; linear = refl; forbids = Ns.1 },
+    )
 
 pub filters_exist : (q : Request) → NamesMinors q → (filters : Filters) × Keeps q filters
 filters_exist q names =
@@ -106,7 +109,11 @@ module _ (q : Request) (names : NamesMinors q) where
       let w = entries_exist (level_count q) q.rank in (
         w.0,
         record {
-          are_first = record { sizes = w.1.sizes ∙ ap (range_with_len q.rank) (sym w.1.number); at_most = (let e : length w.0 ≡ level_count q = w.1.number in omega arith); each = w.1.each };
+          are_first = record {
+            sizes = w.1.sizes ∙ ap (range_with_len q.rank) (sym w.1.number);
+            at_most = (let e : length w.0 ≡ level_count q = w.1.number in omega arith);
+            each = w.1.each;
+          };
           are_all = w.1.number;
         },
       )
@@ -116,8 +123,10 @@ listing_exists forms text q s =
     let w = levels_exist q (stands_names forms text q s) in
     (text_of_blocks (listing_blocks q w.0), record { levels = w.0; are = w.1; is = refl })
 
-pub cut_is_front_of_listing : (forms : Statement → Bool) (text : List ℕ) (q : Request) (whole : ℕ) (written : List ℕ) → StandsFor forms text q → IsListingCutOff q whole written → IsFrontOfListing q written
+pub cut_is_front_of_listing : (forms : Statement → Bool) (text : List ℕ) (q : Request) (whole : ℕ) (written : List ℕ) → StandsFor forms text q
+    → IsListingCutOff q whole written → IsFrontOfListing q written
 cut_is_front_of_listing forms text q whole written s c = let w = listing_exists forms text q s in (w.0, w.1, cut_is_front q w.0 written whole w.1 c)
 
-pub up_to_is_front_of_listing : (forms : Statement → Bool) (text : List ℕ) (q : Request) (whole : ℕ) (written : List ℕ) → StandsFor forms text q → IsListingUpTo q whole written → IsFrontOfListing q written
+pub up_to_is_front_of_listing : (forms : Statement → Bool) (text : List ℕ) (q : Request) (whole : ℕ) (written : List ℕ) → StandsFor forms text q
+    → IsListingUpTo q whole written → IsFrontOfListing q written
 up_to_is_front_of_listing forms text q whole written s c = let w = listing_exists forms text q s in (w.0, w.1, up_to_is_front q w.0 written whole w.1 c)

@@ -16,7 +16,8 @@ column_code q pos [] all i = pos
 column_code q pos (x ∷ xs) all zero = all.0
 column_code q pos (x ∷ xs) all (suc i) = column_code q pos xs all.1 i
 
-columns_codes : (q : ℕ) → 0 < q → (columns : List (List ℕ)) → AllByRecursion (λ column. AllByRecursion (λ code. code < q) column) columns → (i j : ℕ) → matrix_of_lists columns i j < q
+columns_codes : (q : ℕ) → 0 < q → (columns : List (List ℕ)) → AllByRecursion (λ column. AllByRecursion (λ code. code < q) column) columns → (i j : ℕ)
+    → matrix_of_lists columns i j < q
 columns_codes q pos [] all i j = pos
 columns_codes q pos (c ∷ cs) all i zero = column_code q pos c all.0 i
 columns_codes q pos (c ∷ cs) all i (suc j) = columns_codes q pos cs all.1 i j
@@ -25,7 +26,8 @@ codes_tested : (q : ℕ) (column : List ℕ) → list_all (λ code. nat_lt code 
 codes_tested q [] t = tt
 codes_tested q (x ∷ xs) t = (ltb-true x q (both_left _ _ t), codes_tested q xs (both_right (nat_lt x q) _ t))
 
-columns_tested : (q : ℕ) (columns : List (List ℕ)) → list_all (λ column. list_all (λ code. nat_lt code q) column) columns ≡ true → AllByRecursion (λ column. AllByRecursion (λ code. code < q) column) columns
+columns_tested : (q : ℕ) (columns : List (List ℕ)) → list_all (λ column. list_all (λ code. nat_lt code q) column) columns ≡ true
+    → AllByRecursion (λ column. AllByRecursion (λ code. code < q) column) columns
 columns_tested q [] t = tt
 columns_tested q (c ∷ cs) t = (codes_tested q c (both_left _ _ t), columns_tested q cs (both_right (list_all (λ code. nat_lt code q) c) _ t))
 
@@ -38,7 +40,8 @@ three = record { listed = (1, omega arith, refl) }
 positive : (q : ℕ) → IsOrder q → 0 < q
 positive q o = let F = field_laws q o in let t = F.two in omega arith
 
-over_order : (q : ℕ) (o : IsOrder q) (columns : List (List ℕ)) → AllByRecursion (λ column. AllByRecursion (λ code. code < q) column) columns → (i j : ℕ) → i < column_length columns → j < length columns → matrix_of_lists columns i j < q
+over_order : (q : ℕ) (o : IsOrder q) (columns : List (List ℕ)) → AllByRecursion (λ column. AllByRecursion (λ code. code < q) column) columns → (i j : ℕ)
+    → i < column_length columns → j < length columns → matrix_of_lists columns i j < q
 over_order q o columns all i j _ _ = columns_codes q (positive q o) columns all i j
 
 pub minor_exists : (minor : MinorName) → IsMinorName minor → (N : Matroid) × IsGivenBy (given_as minor) N

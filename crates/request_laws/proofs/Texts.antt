@@ -9,7 +9,8 @@ use Rattle.formats.specs.declared.refusal.Refusal.{Refusal}
 use Rattle.formats.specs.declared.refusal.Refusal.TheVariants as refusal
 use Rattle.formats.specs.Lines.{lines_of}
 use Rattle.formats.specs.Statement.{MinorName, Statement, RankIs, FieldIs, SizeIs, ListsConnected, ListsThreeConnected, ListsCosimple, ListsDistinct, ListsWith}
-use Rattle.formats.specs.Request.{Request, count_of_kind, rank_in, field_in, size_in, forbidden_in, wanted_in, has_kind, prints_counts, column_count, most_bytes, most_columns, StandsFor}
+use Rattle.formats.specs.Request.{Request, count_of_kind, rank_in, field_in, size_in, forbidden_in}
+use Rattle.formats.specs.Request.{wanted_in, has_kind, prints_counts, column_count, most_bytes, most_columns, StandsFor}
 use Rattle.formats.specs.Refusal.{Fault, NoForm, Again, NinthForbid, TooBig, FirstFault, NoFault, AreValues, HasValues, HasRefusal}
 use Rattle.existence.proofs.Deciding.{both, at_most}
 use Rattle.request_laws.proofs.Walks.{AtFault, lines_walked, count_cons}
@@ -53,7 +54,8 @@ module _ (forms : Statement → Bool) (text : List ℕ) where
   abbrev Answered : Type 0
   Answered = ((q : Request) × StandsFor forms text q) ⊎ ((why : Refusal) × HasRefusal forms text why)
 
-  at_line : (short : length text ≤ most_bytes) (w : AtFault forms (lines_of text)) → (fault : Fault) → FirstFault forms text (length w.before + 1) fault → Answered
+  at_line : (short : length text ≤ most_bytes) (w : AtFault forms (lines_of text)) → (fault : Fault) → FirstFault forms text (length w.before + 1) fault
+      → Answered
   at_line short w NoForm f = inr (refusal.BadLine (length w.before + 1), f)
   at_line short w Again f = inr (refusal.Twice (length w.before + 1), f)
   at_line short w NinthForbid f = inr (refusal.TooManyForbidden (length w.before + 1), f)

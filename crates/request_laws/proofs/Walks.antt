@@ -1,5 +1,6 @@
 -- The lines of a text are in order, or one of them is the first at fault.
-use Rattle.std.proofs.Common.{◌≡◌, ℕ, ◌+◌, ◌<◌, ◌≤◌, ◌==◌, refl, sym, ◌∙◌, ap, subst, arith, Bool, true, false, cond, List, [], ◌∷◌, ◌++◌, map, inl, inr, ◌⊎◌, not, append_assoc}
+use Rattle.std.proofs.Common.{◌≡◌, ℕ, ◌+◌, ◌<◌, ◌≤◌, ◌==◌, refl, sym, ◌∙◌, ap, subst, arith, Bool}
+use Rattle.std.proofs.Common.{true, false, cond, List, [], ◌∷◌, ◌++◌, map, inl, inr, ◌⊎◌, not, append_assoc}
 use Rattle.std.specs.Prelude.{IsTrue, filter}
 use Rattle.std.specs.List.{AllByRecursion}
 use Rattle.std.proofs.lemmas.Bool.{cases_lt, cases_eq, cases_Bool}
@@ -33,7 +34,8 @@ all_end : (P : Statement → Type 0) (es : List Statement) (e : Statement) → A
 all_end P [] e all p = (p, tt)
 all_end P (x ∷ es) e all p = (all.0, all_end P es e all.1 p)
 
-order_end : (es : List Statement) (e : Statement) → AreInOrder es → named_elements e ≤ 10 → count_of_kind (kind_number e) es < most_of_kind (kind_number e) → AreInOrder (es ++ e ∷ [])
+order_end : (es : List Statement) (e : Statement) → AreInOrder es → named_elements e ≤ 10 → count_of_kind (kind_number e) es < most_of_kind (kind_number e)
+    → AreInOrder (es ++ e ∷ [])
 order_end es e order small fewer = record {
   not_often = λ kind. often kind;
   not_big = all_end (λ x. named_elements x ≤ 10) es e order.not_big small;
@@ -54,20 +56,24 @@ order_end es e order small fewer = record {
 -- ---- one more line
 
 statements_append : (xs ys : List (List ℕ)) → statements_of (xs ++ ys) ≡ statements_of xs ++ statements_of ys
-statements_append xs ys = ap (filter (λ words. not (is_skipped words))) (map-append words_of xs ys) ∙ filter-append (λ words. not (is_skipped words)) (map words_of xs) (map words_of ys)
+statements_append xs ys = ap (filter (λ words. not (is_skipped words))) (map-append words_of xs ys)
+    ∙ filter-append (λ words. not (is_skipped words)) (map words_of xs) (map words_of ys)
 
 skipped_line : (line : List ℕ) → is_skipped (words_of line) ≡ true → statements_of (line ∷ []) ≡ []
 skipped_line line s = ap (λ (b : Bool). cond (not b) (words_of line ∷ []) []) s
 
 module _ (forms : Statement → Bool) where
-  skips : (before : List (List ℕ)) (line : List ℕ) (said : List Statement) → is_skipped (words_of line) ≡ true → SayInTurn forms before said → SayInTurn forms (before ++ line ∷ []) said
+  skips : (before : List (List ℕ)) (line : List ℕ) (said : List Statement) → is_skipped (words_of line) ≡ true → SayInTurn forms before said
+      → SayInTurn forms (before ++ line ∷ []) said
   skips before line said s t = record {
     may = t.may;
     are_read = t.are_read;
-    spelled = statements_append before (line ∷ []) ∙ ap (λ (l : List (List (List ℕ))). statements_of before ++ l) (skipped_line line s) ∙ append-nil (statements_of before) ∙ t.spelled;
+    spelled = statements_append before (line ∷ []) ∙ ap (λ (l : List (List (List ℕ))). statements_of before ++ l) (skipped_line line s)
+        ∙ append-nil (statements_of before) ∙ t.spelled;
   }
 
-  says_more : (before : List (List ℕ)) (line : List ℕ) (said : List Statement) (e : Statement) → is_skipped (words_of line) ≡ false → SayInTurn forms before said → Says forms (words_of line) e → SayInTurn forms (before ++ line ∷ []) (said ++ e ∷ [])
+  says_more : (before : List (List ℕ)) (line : List ℕ) (said : List Statement) (e : Statement) → is_skipped (words_of line) ≡ false
+      → SayInTurn forms before said → Says forms (words_of line) e → SayInTurn forms (before ++ line ∷ []) (said ++ e ∷ [])
   says_more before line said e s t w = record {
     may = all_end IsStatement said e t.may w.may;
     are_read = all_end (λ x. IsTrue (forms x)) said e t.are_read w.is_read;
@@ -80,7 +86,8 @@ module _ (forms : Statement → Bool) where
   SomeFault said words = (fault : Fault) × HasFault forms said words fault
 
   -- a line that isn't skipped says one more statement in order, or it has a fault
-  next_line : (said : List Statement) (words : List (List ℕ)) → AreInOrder said → ((e : Statement) × Says forms words e × AreInOrder (said ++ e ∷ [])) ⊎ SomeFault said words
+  next_line : (said : List Statement) (words : List (List ℕ)) → AreInOrder said → ((e : Statement) × Says forms words e × AreInOrder
+      (said ++ e ∷ [])) ⊎ SomeFault said words
   next_line said words order = elim (said_decided forms words) [
     | inr none ↦ inr (NoForm, λ e s. none (e, s))
     | inl w ↦ elim (less (count_of_kind (kind_number w.0) said) (most_of_kind (kind_number w.0))) [
@@ -120,17 +127,30 @@ module _ (forms : Statement → Bool) where
     pub fault : Fault
     pub wrong : HasFault forms said (words_of line) fault
 
-  walk : (before rest : List (List ℕ)) (said : List Statement) → SayInTurn forms before said → AreInOrder said → InOrder (before ++ rest) ⊎ AtFault (before ++ rest)
+  walk : (before rest : List (List ℕ)) (said : List Statement) → SayInTurn forms before said → AreInOrder said
+      → InOrder (before ++ rest) ⊎ AtFault (before ++ rest)
   walk before [] said t o = inl (subst InOrder (sym (append-nil before)) (record { said = said; says = t; in_order = o }))
   walk before (line ∷ rest) said t o = elim (cases_Bool (is_skipped (words_of line))) [
     | inl s ↦ onward (walk (before ++ line ∷ []) rest said (skips before line said s t) o)
     | inr s ↦ elim (next_line said (words_of line) o) [
       | inl w ↦ onward (walk (before ++ line ∷ []) rest (said ++ w.0 ∷ []) (says_more before line said w.0 s t w.1) w.2)
-      | inr f ↦ inr (record { before = before; line = line; after = rest; split = refl; said = said; says = t; in_order = o; counts = s; fault = f.0; wrong = f.1 })
+      | inr f ↦ inr (record {
+        before = before;
+        line = line;
+        after = rest;
+        split = refl;
+        said = said;
+        says = t;
+        in_order = o;
+        counts = s;
+        fault = f.0;
+        wrong = f.1;
+      })
     ]
   ]
     where
-      onward : InOrder ((before ++ line ∷ []) ++ rest) ⊎ AtFault ((before ++ line ∷ []) ++ rest) → InOrder (before ++ line ∷ rest) ⊎ AtFault (before ++ line ∷ rest)
+      onward : InOrder ((before ++ line ∷ []) ++ rest) ⊎ AtFault ((before ++ line ∷ []) ++ rest)
+          → InOrder (before ++ line ∷ rest) ⊎ AtFault (before ++ line ∷ rest)
       onward w = subst (λ (ls : List (List ℕ)). InOrder ls ⊎ AtFault ls) (append_assoc before (line ∷ []) rest) w
 
   none_too_often : (kind : ℕ) → 0 ≤ most_of_kind kind
