@@ -42,7 +42,7 @@ not_above_itself M h = at (rep_cmp M M) (rep_cmp-reversed M M) h
     at Greater e g = cc
 
 -- the first of a rising list that isn't empty is not above any of it
-first_least : (P : Rep → Type 0) (forms : List Rep) → IsRisingList P forms → ((N : Rep) × P N) → (N : Rep) × P N × ((L : Rep) → P L → rep_cmp N L ≢ Greater)
+pub first_least : (P : Rep → Type 0) (forms : List Rep) → IsRisingList P forms → ((N : Rep) × P N) → (N : Rep) × P N × ((L : Rep) → P L → rep_cmp N L ≢ Greater)
 first_least P [] r w = (let e = r.exact w.0 in let c = e.1 w.1 in absurd (let l = c.1 in omega arith))
 first_least P (N ∷ Ns) r w = (
   N,

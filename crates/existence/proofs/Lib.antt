@@ -11,4 +11,5 @@ pub mod Filters
 pub mod Tries
 pub mod Givens
 pub mod Classes
+pub mod Matroids
 pub mod Examples

@@ -1,11 +1,11 @@
 -- What there is: forms of classes, levels, tries, and matroids that are given.
-use Rattle.std.specs.Prelude.{ℕ, ◌<◌, ◌≡◌, List, length}
+use Rattle.std.specs.Prelude.{ℕ, ◌<◌, ◌≡◌, List, length, true, false, None}
 use Rattle.std.specs.List.{Contains}
 use Rattle.matroid_theory.specs.declared.Mode.{Mode}
 use Rattle.matroid_theory.specs.Rep.{Rep}
 use Rattle.matroid_theory.specs.Move.{AreEquivalent}
 use Rattle.matroid_theory.specs.Order.{IsForm}
-use Rattle.matroid_theory.specs.Minor.{Matroid}
+use Rattle.matroid_theory.specs.Minor.{Matroid, HaveSameMatroid}
 use Rattle.matroid_theory.specs.Given.{Given, IsGivenBy, column_length, matrix_of_lists}
 use Rattle.matroid_theory.specs.Level.{Family, Filters, IsMember, IsLevel, IsListed, IsTry, IsTryFor, IsCount}
 
@@ -25,6 +25,16 @@ pub record HasOneOfEachClass (q : Family) (n : ℕ) (forms : List Rep) : Type 0 
   pub members : (M : Rep) → Contains forms M → IsMember q n M
   pub each : (M : Rep) → IsMember q n M → (N : Rep) × Contains forms N × AreEquivalent q.mode M N
   pub one : (M N : Rep) → Contains forms M → Contains forms N → AreEquivalent q.mode M N → M ≡ N
+
+-- the filter for distinct matroids, and no other
+abbrev pub distinct_alone : Filters
+distinct_alone = record { connected = false; three = false; cosimple = false; distinct = true; has = None }
+
+-- one member of size n for each matroid of members, up to relabelling
+pub record HasOneOfEachMatroid (q : Family) (n : ℕ) (forms : List Rep) : Type 0 where
+  pub members : (M : Rep) → Contains forms M → IsMember q n M
+  pub each : (M : Rep) → IsMember q n M → (N : Rep) × Contains forms N × HaveSameMatroid N M
+  pub one : (M N : Rep) → Contains forms M → Contains forms N → HaveSameMatroid M N → M ≡ N
 
 -- the number of the tries of a size
 abbrev pub HasTryCount : Family → ℕ → Type 0

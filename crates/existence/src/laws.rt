@@ -6,11 +6,11 @@ ghost use Rattle.matroid_theory.specs.Rep.{Rep};
 ghost use Rattle.matroid_theory.specs.Matroid.{IsRepresentation};
 ghost use Rattle.matroid_theory.specs.Move.{AreEquivalent};
 ghost use Rattle.matroid_theory.specs.Order.{IsForm};
-ghost use Rattle.matroid_theory.specs.Minor.{Matroid, IsMinor};
+ghost use Rattle.matroid_theory.specs.Minor.{Matroid, IsMinor, HaveSameMatroid};
 ghost use Rattle.matroid_theory.specs.Given.{AllSets, ColumnsOver, DualOfColumns};
-ghost use Rattle.matroid_theory.specs.Level.{Family, Filters, IsMember, IsLevelForm, IsLevel, Passes, IsTry, IsTryFor, followed_by};
+ghost use Rattle.matroid_theory.specs.Level.{Family, Filters, IsMember, IsLevelForm, IsLevel, IsListed, Passes, IsTry, IsTryFor, followed_by};
 ghost use Rattle.existence.specs.Decided.{IsDecided};
-ghost use Rattle.existence.specs.Exists.{HasForm, HasLevel, HasListedForms, HasOneOfEachClass, HasTryCount, HasTry, HasMatroid, AreCodes};
+ghost use Rattle.existence.specs.Exists.{HasForm, HasLevel, HasListedForms, HasOneOfEachClass, distinct_alone, HasOneOfEachMatroid, HasTryCount, HasTry, HasMatroid, AreCodes};
 
 /// Each question that the definitions ask of representations has an answer, since finitely many moves, representations
 /// and embeddings count.
@@ -39,6 +39,16 @@ pub fn each_size_has_a_level()
 /// A level has one of each class: its forms are members, each member is equivalent to one of them, and to one alone.
 pub fn levels_have_one_of_each_class()
     ensures { (q : Family) (n : ℕ) (forms : List Rep) → IsLevel q n forms → HasOneOfEachClass q n forms }
+{}
+
+/// Having the same matroid is symmetric and transitive, and equivalent representations have it. What is listed of a level
+/// with the filter for distinct matroids alone has one of each matroid.
+pub fn distinct_lists_have_one_of_each_matroid()
+    ensures equivalent { (mode : Mode) (M N : Rep) → IsRepresentation M → AreEquivalent mode M N → HaveSameMatroid M N }
+    ensures symmetric { (M N : Rep) → HaveSameMatroid M N → HaveSameMatroid N M }
+    ensures transitive { (M N L : Rep) → HaveSameMatroid M N → HaveSameMatroid N L → HaveSameMatroid M L }
+    ensures lists { (q : Family) (n : ℕ) (forms : List Rep) → IsListed q n distinct_alone forms →
+        HasOneOfEachMatroid q n forms }
 {}
 
 /// Equivalent representations have the same minors, and are members of a family together.

@@ -78,7 +78,11 @@ told = record {
 }
 
 -- its listing, to the byte
-listing : IsListing small (codes "macek listing 1\nversion 1\nfield 2\nrank 3\nsize 3\nprint forms\nlevel 3 classes 1 listed 1 tried 0\n100 010 001\nend\n")
+abbrev small_listing : List ℕ
+small_listing =
+    codes "macek listing 1\nversion 1\nfield 2\nrank 3\nsize 3\nprint forms\nlevel 3 classes 1 listed 1 tried 0\n100 010 001\nend\n"
+
+listing : IsListing small small_listing
 unfolding head_text level_text form_text end_text digits
 listing = record {
   levels = entry3 ∷ [];
@@ -87,7 +91,7 @@ listing = record {
 }
 
 -- is the one that the law gives
-listing_of_law : (w : HasListing small) → w.0 ≡ codes "macek listing 1\nversion 1\nfield 2\nrank 3\nsize 3\nprint forms\nlevel 3 classes 1 listed 1 tried 0\n100 010 001\nend\n"
+listing_of_law : (w : HasListing small) → w.0 ≡ small_listing
 listing_of_law w = listing_same small w.0 _ w.1 listing
 
 small_has_listing : HasListing small

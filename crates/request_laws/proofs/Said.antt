@@ -6,7 +6,8 @@ use Rattle.std.proofs.lemmas.List.{length-map}
 use Rattle.matroid_theory.specs.Field.{orders, IsOrder, IsFactors}
 use Rattle.formats.specs.declared.refusal.PrintMode.TheVariants.{Forms, Counts}
 use Rattle.formats.specs.Statement.{MinorName, Uniform, Fano, FanoDual, NonFano, KFour, KFive, ByMatrix, IsNumber, IsUniform, IsMatrix, IsMinorName}
-use Rattle.formats.specs.Statement.{Statement, Version, RankIs, FieldIs, SizeIs, Forbids, ListsConnected, ListsThreeConnected, ListsCosimple, ListsDistinct, ListsWith, Prints}
+use Rattle.formats.specs.Statement.{Statement, Version, RankIs, FieldIs, SizeIs, Forbids}
+use Rattle.formats.specs.Statement.{ListsConnected, ListsThreeConnected, ListsCosimple, ListsDistinct, ListsWith, Prints}
 use Rattle.formats.specs.Statement.{IsStatement, column_word, spelling, Says}
 use Rattle.existence.specs.Decided.{IsDecided}
 use Rattle.existence.proofs.Deciding.{IsIn, along, both, less, at_most, equal, equal_lists, is_set, some_below, each_below, some_in, from_contains, place_of}
