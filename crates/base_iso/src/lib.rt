@@ -10,6 +10,3 @@ pub use search::isomorphism;
 
 /// Labels of at most 16 elements: where each goes.
 pub type Labels = ArrayVec<u8, 16>;
-
-#[cfg(test)]
-mod tests;

@@ -12,6 +12,7 @@ use bases::BaseList;
 /// A relabelling that carries the bases of the one matroid exactly to those of the other; none where there is none.
 pub fn isomorphism(a: &BaseList, b: &BaseList) -> Option<Labels>
     ensures found { IfSome result (λ labels. (u : ℕ → ℕ) × AreIsomorphicBy a.now b.now (slice_index labels.items) u) }
+    ensures all { IfSome result (λ labels. length labels.items ≡ a.now.size) }
     ensures none { IsNone result → (p u : ℕ → ℕ) → ¬ (AreIsomorphicBy a.now b.now p u) }
 {
     if !may_be_isomorphic(a, b) {
@@ -39,6 +40,7 @@ fn try_labels(a: &BaseList, b: &BaseList, counts: &Counts, labels: Labels) -> Op
     requires labels { AreLabels a.now.size labels.items }
     requires bases { CarriesBases a.now b.now labels.items }
     ensures found { IfSome result (λ found. (u : ℕ → ℕ) × AreIsomorphicBy a.now b.now (slice_index found.items) u) }
+    ensures all { IfSome result (λ found. length found.items ≡ a.now.size) }
     ensures none { IsNone result → NoneBegins a.now b.now labels.items }
 {
     if labels.len() == usize::from(a.size()) {

@@ -24,6 +24,7 @@ use Rattle.matroid_theory.proofs.Steps.{Independent, all_coefficients}
 use Rattle.matroid_theory.proofs.Standard.{standard_basis, ordered_independent}
 use Rattle.matroid_theory.proofs.Built.{standard_exists}
 use Rattle.matroid_theory.proofs.Equivalence.{equivalent-transitive}
+use Rattle.matroid_theory.proofs.Carried.{agrees_carried}
 use Rattle.matroid_theory.proofs.Levels.{columns_total}
 use Rattle.matroid_theory.proofs.First.{row_below, whole}
 use Rattle.matroid_theory.proofs.Prefix.{slice_cmp-append}
@@ -192,12 +193,13 @@ same_later N P p s t s' t' e d =
     ∙ take-append-drop N.rank N.columns)
 
 -- a member of the class whose later columns are not above those of any standard member is its form
-pub class_form : (M N : Rep) (columns : List (List ℕ)) → KeepsLimits M → IsShaped N → shape N ≡ shape M → IsStandard N → later N ≡ columns → AreOfClass M columns
+pub class_form : (M N : Rep) (columns : List (List ℕ)) → KeepsLimits M → Agrees M → IsShaped N → shape N ≡ shape M → IsStandard N → later N ≡ columns
+    → AreOfClass M columns
     → ((m : Move) (L : Rep) → Reaches M m L → columns_cmp columns (later L) ≢ Greater)
     → IsForm Linear N × AreEquivalent Linear M N
-class_form M N columns h s e t d c least = (
+class_form M N columns h a s e t d c least = (
   record {
-    shaped = s;
+    representation = record { some = some; shaped = s; agrees = (agrees_carried Linear M N equivalent).0 a };
     standard = t;
     least = λ P u x g.
         let y : AreEquivalent Linear M P = equivalent-transitive Linear M N P equivalent x in

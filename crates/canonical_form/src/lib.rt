@@ -11,6 +11,3 @@ mod scalars;
 mod search;
 
 pub use form::least_form;
-
-#[cfg(test)]
-mod tests;

@@ -8,6 +8,3 @@ mod side;
 
 pub use cosimplicity::cosimple;
 pub use separations::{connected, three_connected};
-
-#[cfg(test)]
-mod tests;

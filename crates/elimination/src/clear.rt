@@ -6,6 +6,7 @@ ghost use Rattle.elimination.specs.Cleared.{IsClearedBy, AreClearedBy};
 
 use arrayvec::ArrayVec;
 use field_tables::{Column, Field};
+use small_lists::list_of;
 
 /// The number of rows, which is that of the first column.
 pub fn height(columns: &[Column]) -> usize
@@ -66,18 +67,6 @@ pub fn clear_all(field: Field, columns: &mut [Column], last: &Column, row: usize
     }
 }
 
-/// The same column.
-pub fn copied(column: &Column) -> Column
-    ensures codes { result.items ≡ column.now.items }
-    ensures fits { length column.now.items ≤ 6 }
-{
-    let mut copy = ArrayVec::new();
-    for code in column.as_slice() {
-        copy.push(*code);
-    }
-    copy
-}
-
 /// The same columns.
 pub fn copies(columns: &[Column]) -> ArrayVec<Column, 16>
     requires { length columns.now ≤ 16 }
@@ -85,7 +74,7 @@ pub fn copies(columns: &[Column]) -> ArrayVec<Column, 16>
 {
     let mut list = ArrayVec::new();
     for column in columns {
-        list.push(copied(column));
+        list.push(list_of(column.as_slice()));
     }
     list
 }

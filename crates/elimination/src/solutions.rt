@@ -4,9 +4,10 @@ ghost use Rattle.matroid_theory.specs.Matrix.{combination};
 ghost use Rattle.elimination.specs.Columns.{column, matrix_of, AreColumns, AreIndependent, IsColumn};
 ghost use Rattle.elimination.specs.Equations.{sum_of_products, IsEquation, AreTriangle, Meets};
 
-use crate::clear::{clear, clear_all, copied, copies, pivot};
+use crate::clear::{clear, clear_all, copies, pivot};
 use arrayvec::ArrayVec;
 use field_tables::{Column, Field};
+use small_lists::list_of;
 
 /// The coefficients whose combination of the columns of `basis` is `column`.
 ///
@@ -22,7 +23,7 @@ pub fn solve(field: Field, basis: &[Column], column: &Column) -> Column
     ensures only { (a : ℕ → ℕ) → ((j : ℕ) → j < length basis.now → a j < field) → ((i : ℕ) → i < length column.now.items → combination field (length basis.now) (matrix_of basis.now) a i ≡ slice_index column.now.items i) → (j : ℕ) → j < length basis.now → a j ≡ slice_index result.items j }
 {
     field.laws();
-    let mut target = copied(column);
+    let mut target: Column = list_of(column.as_slice());
     let mut rest = copies(basis);
     let mut equations: ArrayVec<Column, 6> = ArrayVec::new();
     let mut sides = ArrayVec::new();
@@ -80,23 +81,7 @@ fn value(field: Field, equation: &Column, side: u8, values: &Column) -> u8
     ensures only { (a : ℕ → ℕ) → ((j : ℕ) → j < length values.now.items → a j ≡ slice_index values.now.items j) → a (length values.now.items) < field → sum_of_products field (suc (length values.now.items)) equation.now.items a ≡ side → a (length values.now.items) ≡ result }
 {
     field.laws();
-    let known = sum_of_products(field, equation, values);
+    let known = field.sum_of_products(equation.as_slice(), values.as_slice());
     let rest = field.add(side, field.neg(known));
     field.mul(rest, field.inv(equation[values.len()]))
-}
-
-/// The sum of the first coefficients times the values.
-fn sum_of_products(field: Field, coefficients: &Column, values: &Column) -> u8
-    requires count { length values.now.items ≤ length coefficients.now.items }
-    requires coefficients { (j : ℕ) → j < length coefficients.now.items → slice_index coefficients.now.items j < field }
-    requires values { (j : ℕ) → j < length values.now.items → slice_index values.now.items j < field }
-    ensures sum { result ≡ sum_of_products field (length values.now.items) coefficients.now.items (slice_index values.now.items) }
-    ensures code { result < field }
-{
-    field.laws();
-    let mut sum = 0;
-    for j in 0..values.len() {
-        sum = field.add(sum, field.mul(coefficients[j], values[j]));
-    }
-    sum
 }

@@ -12,6 +12,3 @@ mod normalised;
 mod with_column;
 
 pub use columns::Columns;
-
-#[cfg(test)]
-mod tests;

@@ -1,5 +1,6 @@
-ghost use Rattle.std.specs.Prelude.{◌≡◌, ◌≢◌, ◌<◌, ◌↔◌, IsSome, IfSome};
+ghost use Rattle.std.specs.Prelude.{◌≡◌, ◌≢◌, ◌<◌, ◌≤◌, ◌↔◌, ℕ, length, slice_index, IsSome, IfSome};
 ghost use Rattle.matroid_theory.specs.Field.{IsOrder, IsField, degree, plus, times, negative, inverse, frobenius};
+ghost use Rattle.matroid_theory.specs.Matrix.{sum_below};
 
 use crate::tables::{DEGREES, INVERSES, NEGATIVES, POWERS, PRODUCTS, SUMS};
 use std::marker::Model;
@@ -103,6 +104,22 @@ impl Field {
         ensures code { result < self }
     {
         INVERSES[self.order as usize][a as usize]
+    }
+
+    /// The sum of the products of the codes at the same places, as far as the second list goes.
+    pub fn sum_of_products(self, left: &[u8], right: &[u8]) -> u8
+        requires count { length right.now ≤ length left.now }
+        requires left_codes { (k : ℕ) → k < length right.now → slice_index left.now k < self }
+        requires right_codes { (k : ℕ) → k < length right.now → slice_index right.now k < self }
+        ensures sum { result ≡ sum_below self (length right.now) (λ k. times self (slice_index left.now k) (slice_index right.now k)) }
+        ensures code { result < self }
+    {
+        self.laws();
+        let mut sum = 0;
+        for k in 0..right.len() {
+            sum = self.add(sum, self.mul(left[k], right[k]));
+        }
+        sum
     }
 
     /// The Frobenius map: `a` to the power of the characteristic, the p of the order p^k.

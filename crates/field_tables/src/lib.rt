@@ -13,6 +13,3 @@ pub type Mask = u16;
 
 /// One column of one factor, from the top row: at most 6 codes.
 pub type Column = ArrayVec<u8, 6>;
-
-#[cfg(test)]
-mod tests;

@@ -85,4 +85,5 @@ form_agrees q forbidden given n forms level i M at =
     let rising : IsLevel family n forms = level family (record { factors_are = refl; rank_is = refl; linear = refl; forbids = given }) in
     let form = (rising.exact M).0 (i, slice_get_within forms i M at, get_or_from_slice_get forms i M M at) in
     let member = form.member in
-    member.agrees
+    let w = member.representation in
+    w.agrees

@@ -33,7 +33,8 @@ module _ (q : Request) (family : Family) (grows : Grows q family) (n : ℕ) wher
   level_parent P l h =
       let f = h.form in
       let m = h.member in
-      record { standard = f.standard; simple = m.simple; agrees = m.agrees; room = let s : size P ≡ n = m.sizes in omega arith }
+      let w = m.representation in
+      record { standard = f.standard; simple = m.simple; agrees = w.agrees; room = let s : size P ≡ n = m.sizes in omega arith }
 
   extension_member : (P : Rep) (v : List ℕ) → IsLevelForm family n P → IsCandidate family.forbidden P v → IsMember family (n + 1) (followed_by P v)
   extension_member P v h candidate =
@@ -43,18 +44,18 @@ module _ (q : Request) (family : Family) (grows : Grows q family) (n : ℕ) wher
         same_factors = m.same_factors;
         ranks = m.ranks;
         sizes = (let s : size P ≡ n = m.sizes in let k : size (followed_by P v) ≡ suc (size P) = size_followed P v in omega arith);
-        shaped = (let b = a.normalised in shaped_pushed P v m.shaped b.is_column);
-        agrees = a.agrees;
+        representation = (let w = m.representation in let b = a.normalised in
+            record { some = w.some; shaped = shaped_pushed P v w.shaped b.is_column; agrees = a.agrees });
         simple = a.simple;
         avoids = candidate.avoids;
       }
 
   module _ (parents : List Rep) (level : IsLevel family n parents) where
     -- the tries are the extensions of the parents
-    tries_are : (try : Rep × List ℕ) → IsExtension family.forbidden parents try ↔ IsTry family n try
+    tries_are : (try : Rep × List ℕ) → IsExtension family.forbidden parents try ↔ IsTry family (n + 1) try
     tries_are try = (there, back)
       where
-        there : IsExtension family.forbidden parents try → IsTry family n try
+        there : IsExtension family.forbidden parents try → IsTry family (n + 1) try
         there e =
             let x = level.exact try.0 in
             let parent = x.0 e.0 in
@@ -62,31 +63,35 @@ module _ (q : Request) (family : Family) (grows : Grows q family) (n : ℕ) wher
             let candidate = e.1 in
             let a = candidate.admissible in
             record {
-              parent = parent;
+              parent = subst (λ (k : ℕ). IsLevelForm family k try.0) (sym m.sizes) parent;
               column = subst (λ fs. IsNormalised fs family.rank try.1) m.same_factors (subst (λ r. IsNormalised (try.0).factors r try.1) m.ranks a.normalised);
               member = extension_member try.0 try.1 parent candidate;
             }
 
-        back : IsTry family n try → IsExtension family.forbidden parents try
+        back : IsTry family (n + 1) try → IsExtension family.forbidden parents try
         back t =
             let x = level.exact try.0 in
-            let p = t.parent in
+            let w = t.member in
+            let whole : size (followed_by try.0 try.1) ≡ n + 1 = w.sizes in
+            let one_more : size (followed_by try.0 try.1) ≡ suc (size try.0) = size_followed try.0 try.1 in
+            let before : size try.0 ≡ n = omega arith in
+            let p = subst (λ (k : ℕ). IsLevelForm family k try.0) before t.parent in
             let m = p.member in
-            let w = t.member in (
+            let r = w.representation in (
               x.1 p,
               record {
                 admissible = record {
                   normalised = subst (λ fs. IsNormalised fs (try.0).rank try.1) (sym m.same_factors) (subst (λ r. IsNormalised family.factors r try.1) (sym m.ranks) t.column);
                   simple = w.simple;
-                  agrees = w.agrees;
+                  agrees = r.agrees;
                 };
                 avoids = w.avoids;
               },
             )
 
     module _ (tried : ℕ) (found : List (List (List ℕ))) (h : HasGrown family.forbidden parents tried found) (some : 0 < length q.factors) where
-      pub next_tries : IsCount (IsTry family n) tried
-      next_tries = count_same (IsExtension family.forbidden parents) (IsTry family n) tried tries_are h.count
+      pub next_tries : IsCount (IsTry family (n + 1)) tried
+      next_tries = count_same (IsExtension family.forbidden parents) (IsTry family (n + 1)) tried tries_are h.count
 
       of_request : (P : Rep) (cs : List (List ℕ)) → IsLevelForm family n P → rep_of P.factors P.rank cs ≡ rep_of q.factors q.rank cs
       of_request P cs f = let m = f.member in λ i. rep_of ((m.same_factors ∙ grows.factors_are) i) ((m.ranks ∙ grows.rank_is) i) cs
@@ -107,8 +112,11 @@ module _ (q : Request) (family : Family) (grows : Grows q family) (n : ℕ) wher
               same_factors = w.same_factors;
               ranks = w.ranks;
               sizes = ap (λ s. s.size) t.same_shape ∙ w.sizes;
-              shaped = t.shaped;
-              agrees = (agrees_carried Linear (followed_by P v) N e).0 a.agrees;
+              representation = (let r = w.representation in record {
+                some = subst (λ s. 0 < length s.factors) (sym t.same_shape) r.some;
+                shaped = t.shaped;
+                agrees = (agrees_carried Linear (followed_by P v) N e).0 a.agrees;
+              });
               simple = (simple_carried Linear (followed_by P v) N e).0 a.simple;
               avoids = avoids_over Linear (followed_by P v) N e (subst (λ (fs : List ℕ). 0 < length fs) (sym (m.same_factors ∙ grows.factors_are)) some) family.forbidden candidate.avoids;
             };
@@ -138,7 +146,7 @@ module _ (q : Request) (family : Family) (grows : Grows q family) (n : ℕ) wher
 
           try : IsExtension family.forbidden parents (record M { columns = take n M.columns }, get_or M.columns n [])
           try = (tries_are (record M { columns = take n M.columns }, get_or M.columns n [])).1
-              (last_try family n (record M { columns = take n M.columns }) (get_or M.columns n []) (subst (λ fs. 0 < length fs) (sym grows.factors_are) some) (subst (λ r. r ≤ n) (sym grows.rank_is) room) (subst (IsLevelForm family (n + 1)) split f))
+              (last_try family (n + 1) (record M { columns = take n M.columns }) (get_or M.columns n []) (let r : family.rank ≡ q.rank = grows.rank_is in let d : q.rank ≤ n = room in omega arith) (subst (IsLevelForm family (n + 1)) split f))
 
           made : (cs : List (List ℕ)) × Contains found cs × IsChild (record M { columns = take n M.columns }) (get_or M.columns n []) cs
           made = h.complete (record M { columns = take n M.columns }, get_or M.columns n []) try
@@ -173,7 +181,7 @@ module _ (q : Request) (family : Family) (grows : Grows q family) (n : ℕ) wher
             rank_positive = (let r = rank.0 in omega arith);
             rank_most = rank.1;
             size_most = (let r = most.1 in omega arith);
-            shaped = w.shaped;
+            shaped = (let r = w.representation in r.shaped);
           }
 
 -- what a request grows that forbids these matroids
@@ -211,6 +219,5 @@ module _ (q : Request) (Ns : List Matroid) (given : AreGivenBy (map given_as q.f
     pub tries_grown : AreTriesOf q (n + 1) tried
     tries_grown family grows = record {
       first = λ e. let r : family.rank ≡ q.rank = grows.rank_is in let l : q.rank ≤ n = h.at_least in absurd (omega arith);
-      later = λ m e l.
-          subst (λ n. IsCount (IsTry family n) tried) (let same : n ≡ m = omega arith in same) (next_tries q family grows n parents (h.level family grows) tried found (of_family family grows) fields.some);
+      later = λ l. next_tries q family grows n parents (h.level family grows) tried found (of_family family grows) fields.some;
     }

@@ -1,7 +1,7 @@
 -- The first level of a request: the unit columns alone, where they avoid what is forbidden.
-use Rattle.std.proofs.Common.{◌≡◌, ◌∙◌, ℕ, zero, suc, List, [], ◌∷◌, map, sym, ap, subst, arith}
+use Rattle.std.proofs.Common.{◌≡◌, ◌<◌, ◌∙◌, ℕ, zero, suc, List, [], ◌∷◌, map, sym, ap, subst, arith}
 use Rattle.std.specs.List.{Contains}
-use Rattle.matroid_theory.specs.Rep.{Rep, shape, size, KeepsLimits, IsStandard}
+use Rattle.matroid_theory.specs.Rep.{Rep, shape, count, size, KeepsLimits, IsStandard}
 use Rattle.matroid_theory.specs.Matroid.{Agrees}
 use Rattle.matroid_theory.specs.Minor.{Matroid}
 use Rattle.matroid_theory.specs.Level.{Family, IsLevel, IsLevelForm}
@@ -20,6 +20,9 @@ module _ (q : Request) (U : Rep) (is_rep : KeepsLimits U) (standard : IsStandard
   square : size U ≡ U.rank
   square = ap (λ s. s.size) shape_is ∙ sym (ap (λ s. s.rank) shape_is)
 
+  some : 0 < count U
+  some = let fields = is_rep.fields in fields.some
+
   pub agrees_unit : Agrees U
   agrees_unit = unit_agrees U is_rep.shaped standard square
 
@@ -28,7 +31,7 @@ module _ (q : Request) (U : Rep) (is_rep : KeepsLimits U) (standard : IsStandard
     pub unit_is_level : Avoids Ns U → IsLevel family q.rank (U ∷ [])
     unit_is_level avoids =
         subst (λ (n : ℕ). IsLevel family n (U ∷ [])) grows.rank_is
-        (first_level U is_rep.shaped standard square family (ap (λ s. s.factors) shape_is ∙ sym grows.factors_are) (ap (λ s. s.rank) shape_is ∙ sym grows.rank_is) (subst (λ (Ns : List Matroid). Avoids Ns U) (forbidden_are q Ns family given grows) avoids))
+        (first_level U is_rep.shaped standard square some family (ap (λ s. s.factors) shape_is ∙ sym grows.factors_are) (ap (λ s. s.rank) shape_is ∙ sym grows.rank_is) (subst (λ (Ns : List Matroid). Avoids Ns U) (forbidden_are q Ns family given grows) avoids))
 
     -- where nothing is forbidden they are
     unforbidden : Family
@@ -42,8 +45,7 @@ module _ (q : Request) (U : Rep) (is_rep : KeepsLimits U) (standard : IsStandard
         same_factors = m.same_factors;
         ranks = m.ranks;
         sizes = m.sizes;
-        shaped = m.shaped;
-        agrees = m.agrees;
+        representation = m.representation;
         simple = m.simple;
         avoids = λ k d l. absurd (omega arith);
       });
@@ -52,7 +54,7 @@ module _ (q : Request) (U : Rep) (is_rep : KeepsLimits U) (standard : IsStandard
     only_unit : (M : Rep) → IsLevelForm family q.rank M → M ≡ U
     unfolding unforbidden
     only_unit M h =
-        let level = first_level U is_rep.shaped standard square unforbidden (ap (λ s. s.factors) shape_is ∙ sym grows.factors_are) (ap (λ s. s.rank) shape_is ∙ sym grows.rank_is) (λ k d l. absurd (omega arith)) in
+        let level = first_level U is_rep.shaped standard square some unforbidden (ap (λ s. s.factors) shape_is ∙ sym grows.factors_are) (ap (λ s. s.rank) shape_is ∙ sym grows.rank_is) (λ k d l. absurd (omega arith)) in
         one M ((level.exact M).1 (subst (λ (n : ℕ). IsLevelForm unforbidden n M) (sym grows.rank_is) (in_unforbidden M h)))
       where
         one : (M : Rep) → Contains (U ∷ []) M → M ≡ U

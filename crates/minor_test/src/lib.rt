@@ -11,6 +11,3 @@ mod test;
 mod twins;
 
 pub use test::{Embedding, has_minor};
-
-#[cfg(test)]
-mod tests;

@@ -19,17 +19,17 @@ column_codes columns j = get_or-map (λ (c : ArrayVec ℕ). c.items) columns j (
 pub length_codes : (columns : List (ArrayVec ℕ)) → length (codes_of columns) ≡ length columns
 length_codes columns = length-map columns (λ (c : ArrayVec ℕ). c.items)
 
-pub same_matrix : (columns : List (ArrayVec ℕ)) → given.matrix_of (codes_of columns) ≡ matrix_of columns
+pub same_matrix : (columns : List (ArrayVec ℕ)) → given.matrix_of_lists (codes_of columns) ≡ matrix_of columns
 same_matrix columns = λ t i j. slice_index (column_codes columns j t) i
 
-pub same_height : (columns : List (ArrayVec ℕ)) → given.height (codes_of columns) ≡ height columns
+pub same_height : (columns : List (ArrayVec ℕ)) → given.column_length (codes_of columns) ≡ height columns
 same_height columns = ap (λ (c : List ℕ). length c) (column_codes columns 0)
 
 -- what is given by the codes is what the columns are
-pub independent_codes : (q : ℕ) (columns : List (ArrayVec ℕ)) (S : ℕ → Bool) → IsIndependent q (given.height (codes_of columns)) (length (codes_of columns)) (given.matrix_of (codes_of columns)) S ≡ IsIndependent q (height columns) (length columns) (matrix_of columns) S
+pub independent_codes : (q : ℕ) (columns : List (ArrayVec ℕ)) (S : ℕ → Bool) → IsIndependent q (given.column_length (codes_of columns)) (length (codes_of columns)) (given.matrix_of_lists (codes_of columns)) S ≡ IsIndependent q (height columns) (length columns) (matrix_of columns) S
 independent_codes q columns S = λ t. IsIndependent q (same_height columns t) (length_codes columns t) (same_matrix columns t) S
 
-pub rank_codes : (q : ℕ) (columns : List (ArrayVec ℕ)) (S : ℕ → Bool) (k : ℕ) → IsRankOf q (given.height (codes_of columns)) (length (codes_of columns)) (given.matrix_of (codes_of columns)) S k ≡ IsRankOf q (height columns) (length columns) (matrix_of columns) S k
+pub rank_codes : (q : ℕ) (columns : List (ArrayVec ℕ)) (S : ℕ → Bool) (k : ℕ) → IsRankOf q (given.column_length (codes_of columns)) (length (codes_of columns)) (given.matrix_of_lists (codes_of columns)) S k ≡ IsRankOf q (height columns) (length columns) (matrix_of columns) S k
 rank_codes q columns S k = λ t. IsRankOf q (same_height columns t) (length_codes columns t) (same_matrix columns t) S k
 
 each : {X : Type 0} (p : X → Bool) (xs : List X) (d : X) → list_all p xs ≡ true → (j : ℕ) → j < length xs → p (slice_index_or xs j d) ≡ true

@@ -50,7 +50,7 @@ module _ (q : ℕ) (columns : List (ArrayVec ℕ)) (k : ℕ) (rank : IsRankOfCol
   column_basis S e d = record {
     independent = subst (λ (T : Type 0). T) (sym (independent_codes q columns S)) d;
     greatest =
-        subst (λ (m : ℕ). IsRankOf q (given.height (codes_of columns)) (length (codes_of columns)) (given.matrix_of (codes_of columns)) (λ _. true) m)
+        subst (λ (m : ℕ). IsRankOf q (given.column_length (codes_of columns)) (length (codes_of columns)) (given.matrix_of_lists (codes_of columns)) (λ _. true) m)
         (sym (ap (λ n. size_below n S) (length_codes columns) ∙ e)) (subst (λ (T : Type 0). T) (sym (rank_codes q columns (λ _. true) k)) rank);
   }
 
@@ -86,8 +86,8 @@ module _ (q : ℕ) (columns : List (ArrayVec ℕ)) (k : ℕ) (rank : IsRankOfCol
 -- a basis is one by its columns alone
 basis_same : (q : ℕ) (columns : List (List ℕ)) (S T : ℕ → Bool) → ((j : ℕ) → j < length columns → S j ≡ T j) → IsColumnBasis q columns S → IsColumnBasis q columns T
 basis_same q columns S T e b = record {
-  independent = IsIndependent-same q (given.height columns) (length columns) (given.matrix_of columns) S T e b.independent;
-  greatest = subst (λ (m : ℕ). IsRankOf q (given.height columns) (length columns) (given.matrix_of columns) (λ _. true) m) (size-same (length columns) S T e) b.greatest;
+  independent = IsIndependent-same q (given.column_length columns) (length columns) (given.matrix_of_lists columns) S T e b.independent;
+  greatest = subst (λ (m : ℕ). IsRankOf q (given.column_length columns) (length columns) (given.matrix_of_lists columns) (λ _. true) m) (size-same (length columns) S T e) b.greatest;
 }
 
 module _ (N : Matroid) (small : IsSmallMatroid N) where

@@ -1,7 +1,7 @@
 -- Names of matroids.
 use Rattle.std.specs.Prelude.{ℕ, ◌<◌, ◌≤◌, ◌≡◌, List, [], ◌∷◌}
 use Rattle.matroid_theory.specs.Minor.{Matroid}
-use Rattle.formats.specs.Entry as line
+use Rattle.formats.specs.Statement as line
 use Rattle.formats.specs.Statement.{minor_words, elements_of, IsUniform}
 use Rattle.named_matroids.specs.declared.spelling.Spelling.{Spelling}
 use Rattle.named_matroids.specs.declared.spelling.Spelling.TheVariants.{Uniform, Fano, FanoDual, NonFano, KFour, KFive}
@@ -14,7 +14,7 @@ pub record NamedMatroid : Type 0 where
   pub matroid : Matroid
 
 -- what is spelled, as a line names it
-abbrev pub named_by : Spelling → line.Minor
+abbrev pub named_by : Spelling → line.MinorName
 named_by (Uniform rank size) = line.Uniform rank size
 named_by Fano = line.Fano
 named_by FanoDual = line.FanoDual
@@ -23,8 +23,8 @@ named_by KFour = line.KFour
 named_by KFive = line.KFive
 
 -- it names a matroid of at most 10 elements
-pub record IsSmallName (minor : line.Minor) : Type 0 where
-  pub is_minor : line.IsMinor minor
+pub record IsSmallName (minor : line.MinorName) : Type 0 where
+  pub is_minor : line.IsMinorName minor
   pub few : elements_of minor ≤ 10
 
 -- the text names a uniform matroid of more than 10 elements
@@ -33,7 +33,7 @@ NamesTooBig text = (rank : ℕ) × (size : ℕ) × IsUniform rank size × (10 < 
 
 -- the text names no matroid
 abbrev pub NamesNone : List ℕ → Type 0
-NamesNone text = (minor : line.Minor) → line.IsMinor minor → ¬ (minor_words minor ≡ text ∷ [])
+NamesNone text = (minor : line.MinorName) → line.IsMinorName minor → ¬ (minor_words minor ≡ text ∷ [])
 
 -- what is wrong with the text
 abbrev pub IsNameFault : List ℕ → NameFault → Type 0

@@ -9,8 +9,6 @@ mod minor;
 mod number;
 mod spelling;
 mod tables;
-#[cfg(test)]
-mod tests;
 mod uniform;
 
 pub use item::{MinorItem, named};

@@ -1,4 +1,4 @@
-use Rattle.std.proofs.Common.{◌≡◌, ℕ, sym, ◌∙◌, ap, subst, arith, ◌+◌, ◌<◌, length, refl, inl, inr, true, false, List, [], ◌∷◌, ◌++◌}
+use Rattle.std.proofs.Common.{◌≡◌, ℕ, sym, ◌∙◌, ap, subst, arith, ◌+◌, ◌<◌, ◌≤◌, length, refl, inl, inr, true, false, List, [], ◌∷◌, ◌++◌}
 use Rattle.std.specs.List.{slice_index, refill}
 use Rattle.std.proofs.lemmas.Bool.{false≢true, cases_lt}
 use Rattle.arrayvec.specs.ArrayVec.{ArrayVec}
@@ -10,16 +10,16 @@ use Rattle.elimination.proofs.solutions.solve.Goals as goal
 
 pub loop-last-init : goal.loop-last-init
 loop-last-init c =
-    reduced_start c.args.field (length c.args.column.now.items) c.args.basis.now c.args.column.now.items c.copies-rest.result.items c.copied-target.result.items c.new-equations.result.items c.new-sides.result.items
-    c.copies-rest.ensures c.copied-target.ensures.codes c.new-equations.ensures c.new-sides.ensures c.requires.square c.copied-target.ensures.fits c.requires.basis c.requires.column c.requires.independent
+    reduced_start c.args.field (length c.args.column.now.items) c.args.basis.now c.args.column.now.items c.copies-rest.result.items c.list_of-target.result.items c.new-equations.result.items c.new-sides.result.items
+    c.copies-rest.ensures (c.list_of-target.ensures ∙ c.as_slice.ensures.value) c.new-equations.ensures c.new-sides.ensures c.requires.square (subst (λ (w : List ℕ). length w ≤ 6) c.as_slice.ensures.value c.as_slice.ensures.fits) c.requires.basis c.requires.column c.requires.independent
 
 pub unreachable-requires : goal.unreachable-requires
 unreachable-requires c = dependent c.args.field c.laws.ensures (length c.args.column.now.items) c.loop-last.rest.items c.pop.new.self.items c.in-Some.last c.in-Some.ensures.items c.in_default-pivot.ensures c.loop-last.invariant.independent
 
 pub equation-requires-clause-columns : goal.equation-requires-clause-columns
 equation-requires-clause-columns c = λ j l.
-    let x = other_columns c.laws.ensures c.loop-last.invariant c.pop.new.self.items c.in-Some.last c.in-Some.ensures.items j (subst (λ (w : List (ArrayVec ℕ)). j < length w) c.as_slice.ensures.value l) in
-    subst (λ (w : List (ArrayVec ℕ)). c.in-Some-pivot.row < length (column w j)) (sym c.as_slice.ensures.value) (subst (λ n. c.in-Some-pivot.row < n) (sym x.rows) c.in-Some-pivot.ensures.0)
+    let x = other_columns c.laws.ensures c.loop-last.invariant c.pop.new.self.items c.in-Some.last c.in-Some.ensures.items j (subst (λ (w : List (ArrayVec ℕ)). j < length w) c.as_slice-in-Some.ensures.value l) in
+    subst (λ (w : List (ArrayVec ℕ)). c.in-Some-pivot.row < length (column w j)) (sym c.as_slice-in-Some.ensures.value) (subst (λ n. c.in-Some-pivot.row < n) (sym x.rows) c.in-Some-pivot.ensures.0)
 
 pub bounds-deref-row : goal.bounds-deref-row
 bounds-deref-row c =
@@ -47,7 +47,7 @@ loop-last-preserved c =
     let e : refill (length c.pop.new.self.items) c.pop.new.self.items c.clear_all.new.columns ≡ c.clear_all.new.columns = refill_whole _ _ _ refl k in
     let h : AreClearedBy c.args.field c.in-Some-pivot.row c.in-Some.last.items c.pop.new.self.items c.clear_all.new.columns =
     subst (λ w. AreClearedBy c.args.field c.in-Some-pivot.row c.in-Some.last.items w c.clear_all.new.columns) c.as_mut_slice.ensures.value c.clear_all.ensures.cleared in
-    let v : c.as_slice.result.now ≡ c.pop.new.self.items = c.as_slice.ensures.value in
+    let v : c.as_slice-in-Some.result.now ≡ c.pop.new.self.items = c.as_slice-in-Some.ensures.value in
     subst (λ w. IsReduced c.args.field (length c.args.column.now.items) c.args.basis.now c.args.column.now.items w c.clear.new.column.items c.push.new.self.items c.push-in-Some.new.self.items) (sym e)
     (reduced_step c.args.field c.laws.ensures (length c.args.column.now.items) c.args.basis.now c.args.column.now.items c.loop-last.rest.items c.loop-last.target.items c.loop-last.equations.items c.loop-last.sides.items c.loop-last.invariant
     c.pop.new.self.items c.clear_all.new.columns c.in-Some.last c.in-Some-pivot.row c.in-Some.ensures.items (subst (λ r. c.in-Some-pivot.row < r) y.rows c.in-Some-pivot.ensures.0) c.in-Some-pivot.ensures.1 k h

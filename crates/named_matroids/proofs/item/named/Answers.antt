@@ -1,6 +1,6 @@
 use Rattle.std.proofs.Common.{◌≡◌, ◌↔◌, ℕ, List, [], ◌∷◌, Err, refl, sym, ◌∙◌, ap, arith}
 use Rattle.std.specs.Prelude.{IsErrOf}
-use Rattle.formats.specs.Entry as line
+use Rattle.formats.specs.Statement as line
 use Rattle.formats.specs.Statement.{minor_words, elements_of}
 use Rattle.formats.proofs.Unique.{minor_same}
 use Rattle.named_matroids.specs.declared.spelling.NameFault.{NameFault}
@@ -9,7 +9,7 @@ use Rattle.named_matroids.specs.Names.{named_by, IsSmallName, NamesTooBig, Names
 use Rattle.named_matroids.proofs.item.named.Goals as goal
 
 -- a text that names a matroid of few elements names no larger one
-small_only : (text : List ℕ) (minor : line.Minor) → IsSmallName minor → minor_words minor ≡ text ∷ [] → NamesTooBig text → ⊥
+small_only : (text : List ℕ) (minor : line.MinorName) → IsSmallName minor → minor_words minor ≡ text ∷ [] → NamesTooBig text → ⊥
 small_only text minor h e w =
     let s : minor ≡ line.Uniform w.0 w.1 = minor_same minor (line.Uniform w.0 w.1) h.is_minor w.2 (e ∙ sym w.4) in
     let n : elements_of minor ≡ w.1 = ap elements_of s in

@@ -1,0 +1,4 @@
+pub mod Complements
+pub mod Counted
+pub mod SetLemmas
+pub mod PickedColumns

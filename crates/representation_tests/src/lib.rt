@@ -1,0 +1,5 @@
+//! Tests of the crates.
+#![tactic(auto)]
+
+#[cfg(test)]
+mod fields;
