@@ -10,9 +10,11 @@ use Rattle.matroid_theory.proofs.First.{row_below, whole}
 use Rattle.existence.proofs.Deciding.{IsIn, place_of}
 use Rattle.existence.proofs.Covers.{words, in_words, in_map, in_range}
 
+-- each order is below 16
 pub small : (q : ℕ) → IsOrder q → q < 16
 small = by_order (λ q. q < 16) (lit< tt) (lit< tt) (lit< tt) (lit< tt) (lit< tt) (lit< tt) (lit< tt)
 
+-- where there is a place in a column there is a factor
 columns_positive : (k r c : ℕ) → k < r * c → 0 < c
 columns_positive k r c l = elim (cases_lt 0 c) [
   | inl b ↦ b
@@ -24,6 +26,7 @@ columns_positive k r c l = elim (cases_lt 0 c) [
 pub all_columns : List ℕ → ℕ → List (List ℕ)
 all_columns factors rank = words (range_with_len 0 16) (rank * length factors)
 
+-- each code of a column is below 16
 code_small : (factors : List ℕ) (rank : ℕ) (v : List ℕ) → ((f : ℕ) → f < length factors → IsOrder (slice_index factors f)) → IsProductColumn factors rank v
     → (c : ℕ) → IsIn c v → c < 16
 code_small factors rank v orders column c i =
@@ -37,6 +40,7 @@ code_small factors rank v orders column c i =
     let o : slice_index factors (at.0 % length factors) < 16 = small (slice_index factors (at.0 % length factors)) (orders (at.0 % length factors) f) in
     omega arith
 
+-- a column of the rank is in the list
 pub in_columns : (factors : List ℕ) (rank : ℕ) (v : List ℕ) → ((f : ℕ) → f < length factors → IsOrder (slice_index factors f))
     → IsProductColumn factors rank v → IsIn v (all_columns factors rank)
 unfolding all_columns
@@ -44,12 +48,15 @@ in_columns factors rank v orders column =
     in_words (range_with_len 0 16) (rank * length factors) v column.rows (λ c i. in_range 16 0 c (omega arith)
     (let b : c < 16 = code_small factors rank v orders column c i in omega arith))
 
+-- the representation of these columns
 abbrev pub rep_of : List ℕ → ℕ → List (List ℕ) → Rep
 rep_of factors rank columns = record { factors = factors; rank = rank; columns = columns }
 
+-- the representations of a shape, and more
 pub all_reps : List ℕ → ℕ → ℕ → List Rep
 all_reps factors rank n = map (rep_of factors rank) (words (all_columns factors rank) n)
 
+-- a shaped representation is in the list of its shape
 in_all : (M : Rep) → IsShaped M → IsIn M (all_reps M.factors M.rank (size M))
 unfolding all_reps
 in_all M s =

@@ -17,6 +17,7 @@ use Rattle.existence.proofs.Deciding.{each_two, each_three, some_set, each_set, 
 use Rattle.existence.proofs.Shaped.{shaped_decided}
 use Rattle.existence.proofs.Covers.{some_covered, number_cover, truth_cover, function_cover, pair_cover}
 
+-- a set of columns is independent, or has a relation
 pub independent_decided : (q : ℕ) → IsField q → (r n : ℕ) (A : Matrix) → ((i j : ℕ) → i < r → j < n → A i j < q) → (S : ℕ → Bool)
     → IsDecided (IsIndependent q r n A S)
 independent_decided q F r n A codes S = elim (decided q F r n A codes S) [ inl h ↦ inl h | inr w ↦ inr (related_dependent q F r n A S w) ]
@@ -64,6 +65,7 @@ injection_decided n m f =
     (λ x y _ _. implied (equal (f x) (f y)) (λ _. equal x y))))
     (λ w. record { below = w.0; apart = w.1 }) (λ w. (w.below, w.apart))
 
+-- tests that are the same below n pass at some number below n together
 pub any_below-same : (n : ℕ) (p p' : ℕ → Bool) → ((x : ℕ) → x < n → p x ≡ p' x) → any_below n p ≡ any_below n p'
 any_below-same zero p p' h = refl
 any_below-same (suc n) p p' h = λ i. any_below-same n p p' (λ x l. h x (omega arith)) i || h n (omega arith) i
@@ -87,6 +89,7 @@ module _ (N : Matroid) (M : Rep) where
       near X k m t = any_below-same N.size (λ x. members X x && (f x == k)) (λ x. members X x && (g x == k))
           (λ x l s. members X x && (a x l s == k)) t || b k m t
 
+  -- the embeddings and the contracted sets are finitely many, up to what counts of them
   pub minor_decided : IsShaped M → 0 < count M → IsDecided (IsMinor N M)
   minor_decided s some =
       along

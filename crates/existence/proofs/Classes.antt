@@ -33,6 +33,7 @@ use Rattle.existence.proofs.Bases.{any_below-same}
 
 -- ---- the form of a class
 
+-- no representation is above itself
 not_above_itself : (M : Rep) → rep_cmp M M ≢ Greater
 not_above_itself M h = at (rep_cmp M M) (rep_cmp-reversed M M) h
   where
@@ -54,6 +55,7 @@ first_least P (N ∷ Ns) r w = (
     at L (zero, l, e) g = not_above_itself N (ap (rep_cmp N) e ∙ g)
     at L (suc k, l, e) g = (let h : rep_cmp N L ≡ Less = ap (rep_cmp N) (sym e) ∙ r.rising 0 (suc k) L (omega arith) l in cc)
 
+-- the first of the standard representations equivalent to M, in rising order
 pub form_exists : (mode : Mode) (M : Rep) → IsRepresentation M → (N : Rep) × IsForm mode N × AreEquivalent mode M N
 form_exists mode M r =
     let all = rising_list (shape M) (λ N. IsStandard N × AreEquivalent mode M N) (λ N w. (w.1.takes.shaped, w.1.takes.same_shape))
@@ -76,6 +78,7 @@ form_exists mode M r =
 
 -- ---- members
 
+-- labels are equal where their places are
 same_label : (n : ℕ) (p u : ℕ → ℕ) → ArePermutation n p u → (k i : ℕ) → k < n → i < n → (p k == p i) ≡ (k == i)
 same_label n p u v k i l m =
     elim (cases_eq k i) [
@@ -91,9 +94,11 @@ module _ (mode : Mode) (M N : Rep) (some : 0 < count M) (e : AreEquivalent mode 
   abbrev u : ℕ → ℕ
   u = e.move.place
 
+  -- a move keeps the size
   sizes : size N ≡ size M
   sizes = ap (λ S. S.size) e.takes.same_shape
 
+  -- each image is a column of M
   in_M : (x : ℕ) → x < K.size → f x < size M
   in_M x l = subst (λ (n : ℕ). f x < n) sizes (w.injection.below x l)
 
@@ -101,6 +106,7 @@ module _ (mode : Mode) (M N : Rep) (some : 0 < count M) (e : AreEquivalent mode 
   abbrev before : ℕ → ℕ → Bool
   before X k = image K.size (λ x. p (f x)) (members X) k || C (u k)
 
+  -- the move takes these columns to the images of the set, with what is contracted
   carried : (X j : ℕ) → j < size N → before X (p j) ≡ (image K.size f (members X) j || C j)
   carried X j l i =
       let l' : j < size M = subst (λ (n : ℕ). j < n) sizes l in
@@ -108,6 +114,7 @@ module _ (mode : Mode) (M N : Rep) (some : 0 < count M) (e : AreEquivalent mode 
       (λ x m t. members X x && same_label (size M) p u e.valid.labels (f x) j (in_M x m) l' t) i
       || C (e.valid.labels.there j l' i)
 
+  -- the embedding before the move
   minor_before : IsMinor K M
   minor_before = (
     (λ x. p (f x)),
@@ -132,12 +139,14 @@ module _ (mode : Mode) (M N : Rep) (some : 0 < count M) (e : AreEquivalent mode 
     },
   )
 
+-- equivalent representations have the same minors
 pub minors_carried : (mode : Mode) (M N : Rep) (K : Matroid) → IsRepresentation M → AreEquivalent mode M N → IsMinor K M ↔ IsMinor K N
 minors_carried mode M N K r e = (
   (λ w. minor_before mode N M (subst (λ S. 0 < length S.factors) (sym e.takes.same_shape) r.some) (equivalent-symmetric mode M N e) K w.0 w.1 w.2),
   (λ w. minor_before mode M N r.some e K w.0 w.1 w.2),
 )
 
+-- what is equivalent to a member is one
 pub member_carried : (q : Family) (mode : Mode) (n : ℕ) (M N : Rep) → AreEquivalent mode M N → IsMember q n M → IsMember q n N
 member_carried q mode n M N e m =
     let r = m.representation in
@@ -171,6 +180,7 @@ one_of_each_class q n forms level = record {
 
 -- ---- tries
 
+-- a try has a form
 pub try_has_form : (q : Family) (n : ℕ) (try : Rep × List ℕ) → IsTry q n try → (N : Rep) × IsTryFor q n N try
 try_has_form q n try t =
     let w = form_exists q.mode (followed_by try.0 try.1) (let m = t.member in m.representation) in
@@ -193,6 +203,7 @@ split_last N l = at N.columns l refl
     at [] l e = absurd (omega arith)
     at (c ∷ cs) l e = (let w = last_of c cs in (record N { columns = w.0 }, w.1, λ i. record N { columns = (e ∙ w.2) i }))
 
+-- a form of size above the rank is its front, which is a form, followed by its last column, and that is a try for it
 pub form_has_try : (q : Family) (n : ℕ) (N : Rep) → q.rank < n → IsLevelForm q n N → (P : Rep) × (v : List ℕ) × (N ≡ followed_by P v) × IsTryFor q n N (P, v)
 form_has_try q n N room h =
     let s : size N ≡ n = (let m = h.member in m.sizes) in

@@ -11,11 +11,13 @@ use Rattle.existence.proofs.Deciding.{IsIn, some_in, along}
 pub record IsCover {X : Type 0} (V : X → Type 0) (R : X → X → Type 0) (xs : List X) : Type 0 where
   pub near : (x : X) → V x → (y : X) × IsIn y xs × R x y
 
+-- so there is a value with a property, or none, where the property goes over to what is as good
 pub some_covered : {X : Type 0} (V : X → Type 0) (R : X → X → Type 0) (xs : List X) → IsCover V R xs → (P : X → Type 0) → ((x : X) → P x → V x)
     → ((x y : X) → R x y → P x → P y) → ((x : X) → IsDecided (P x)) → IsDecided ((x : X) × P x)
 some_covered V R xs c P valid same d =
     along (some_in xs P d) (λ w. (w.0, w.2)) (λ w. (let n = c.near w.0 (valid w.0 w.1) in (n.0, n.1, same w.0 n.0 n.2 w.1)))
 
+-- elements of lists that are made of lists
 pub in_map : {X Y : Type 0} (f : X → Y) (x : X) (xs : List X) → IsIn x xs → IsIn (f x) (map f xs)
 in_map f x [] i = absurd i
 in_map f x (y ∷ ys) i = elim i [ inl e ↦ inl (ap f e) | inr j ↦ inr (in_map f x ys j) ]
@@ -45,6 +47,7 @@ pub words : {X : Type 0} → List X → ℕ → List (List X)
 words B zero = [] ∷ []
 words B (suc n) = flat_map (λ x. map (λ w. x ∷ w) (words B n)) B
 
+-- a list of n elements is among them
 pub in_words : {X : Type 0} (B : List X) (n : ℕ) (w : List X) → length w ≡ n → ((x : X) → IsIn x w → IsIn x B) → IsIn w (words B n)
 unfolding words
 in_words B zero [] l h = inl refl
@@ -56,9 +59,11 @@ in_words B (suc n) (x ∷ w) l h =
 
 -- ---- numbers, functions and pairs
 
+-- the numbers below n
 pub number_cover : (n : ℕ) → IsCover (λ x. x < n) (λ x y. x ≡ y) (range_with_len 0 n)
 number_cover n = record { near = λ x l. (x, in_range n 0 x (omega arith) (omega arith), refl) }
 
+-- true and false
 pub truth_cover : IsCover (λ (b : Bool). Unit {0}) (λ a b. a ≡ b) (true ∷ false ∷ [])
 truth_cover = record { near = λ b _. (b, (elim b as (λ b. IsIn b (true ∷ false ∷ [])) [ true ↦ inl refl | false ↦ inr (inl refl) ]), refl) }
 
@@ -86,6 +91,7 @@ module _ {X : Type 0} (V : X → Type 0) (R : X → X → Type 0) (xs : List X) 
         );
   }
 
+-- the pairs of elements of two lists
 pub pairs : {X Y : Type 0} → List X → List Y → List (X × Y)
 pairs xs ys = flat_map (λ x. map (λ y. (x, y)) ys) xs
 
@@ -93,6 +99,7 @@ pub in_pairs : {X Y : Type 0} (xs : List X) (ys : List Y) (x : X) (y : Y) → Is
 unfolding pairs
 in_pairs xs ys x y i j = in_flat (λ x. map (λ y. (x, y)) ys) x (x, y) xs i (in_map (λ y. (x, y)) y ys j)
 
+-- pairs are covered where their parts are
 pub pair_cover : {X Y : Type 0} (V : X → Type 0) (R : X → X → Type 0) (xs : List X) (W : Y → Type 0) (S : Y → Y → Type 0) (ys : List Y) → IsCover V R xs
     → IsCover W S ys
     → IsCover (λ (p : X × Y). V p.0 × W p.1) (λ p q. R p.0 q.0 × S p.1 q.1) (pairs xs ys)

@@ -11,9 +11,11 @@ use Rattle.matroid_theory.proofs.Masks.{mask, mask-below, members-mask, by_masks
 use Rattle.matroid_theory.proofs.Bases.{search_below}
 use Rattle.existence.specs.Decided.{IsDecided}
 
+-- an answer goes over to what holds together with it
 pub along : {P Q : Type 0} → IsDecided P → (P → Q) → (Q → P) → IsDecided Q
 along d to from = elim d [ inl p ↦ inl (to p) | inr n ↦ inr (λ q. n (from q)) ]
 
+-- the second needs an answer only where the first holds
 pub both : {P Q : Type 0} → IsDecided P → (P → IsDecided Q) → IsDecided (P × Q)
 both p q = elim p [ inl a ↦ elim (q a) [ inl b ↦ inl (a, b) | inr n ↦ inr (λ w. n w.1) ] | inr n ↦ inr (λ w. n w.0) ]
 
@@ -62,13 +64,16 @@ is_not_greater Greater = inr (λ n. n refl)
 
 -- ---- bounded numbers
 
+-- some number below n has the property, or none
 pub some_below : (n : ℕ) (P : ℕ → Type 0) → ((j : ℕ) → j < n → IsDecided (P j)) → IsDecided ((j : ℕ) × (j < n) × P j)
 some_below n P d = elim (search_below n P (λ j. ¬ (P j)) d) [ inl w ↦ inl w | inr none ↦ inr (λ w. none w.0 w.1 w.2) ]
 
+-- each number below n has it, or not
 pub each_below : (n : ℕ) (P : ℕ → Type 0) → ((j : ℕ) → j < n → IsDecided (P j)) → IsDecided ((j : ℕ) → j < n → P j)
 each_below n P d = elim (search_below n (λ j. ¬ (P j)) P (λ j l. elim (d j l) [ inl p ↦ inr p | inr never ↦ inl never ]))
     [ inl w ↦ inr (λ all. w.2 (all w.0 w.1)) | inr all ↦ inl all ]
 
+-- the same for two and for three numbers
 pub each_two : (a b : ℕ) (P : ℕ → ℕ → Type 0) → ((i j : ℕ) → i < a → j < b → IsDecided (P i j)) → IsDecided ((i j : ℕ) → i < a → j < b → P i j)
 each_two a b P d =
     along (each_below a (λ i. (j : ℕ) → j < b → P i j) (λ i l. each_below b (P i) (λ j m. d i j l m)))
@@ -82,6 +87,7 @@ each_three a b c P d =
 
 -- ---- sets of numbers below n
 
+-- sets of numbers below n are searched by their masks, where only those numbers count
 pub some_set : (n : ℕ) (P : (ℕ → Bool) → Type 0) → ((S T : ℕ → Bool) → ((j : ℕ) → j < n → S j ≡ T j) → P S → P T) → ((S : ℕ → Bool) → IsDecided (P S))
     → IsDecided ((S : ℕ → Bool) × P S)
 some_set n P same d =
@@ -99,10 +105,12 @@ abbrev pub IsIn : {X : Type 0} → X → List X → Type 0
 IsIn x [] = ⊥
 IsIn x (y ∷ ys) = (y ≡ x) ⊎ IsIn x ys
 
+-- the two ways to say that a list has an element
 pub to_contains : {X : Type 0} (x : X) (xs : List X) → IsIn x xs → Contains xs x
 to_contains x [] i = absurd i
 to_contains x (y ∷ ys) i = elim i [ inl e ↦ (0, omega arith, e) | inr j ↦ (let c = to_contains x ys j in (suc c.0, (let l = c.1 in omega arith), c.2)) ]
 
+-- the element at a place
 pub at_place : {X : Type 0} (xs : List X) (k : ℕ) (d : X) → k < length xs → IsIn (slice_index_or xs k d) xs
 at_place [] k d l = absurd (omega arith)
 at_place (x ∷ xs) zero d l = inl refl
@@ -111,16 +119,19 @@ at_place (x ∷ xs) (suc k) d l = inr (at_place xs k d (omega arith))
 pub from_contains : {X : Type 0} (x : X) (xs : List X) → Contains xs x → IsIn x xs
 from_contains x xs c = subst (λ y. IsIn y xs) c.2 (at_place xs c.0 x c.1)
 
+-- the place of an element
 pub place_of : {X : Type 0} (x d : X) (xs : List X) → IsIn x xs → (k : ℕ) × (k < length xs) × (slice_index_or xs k d ≡ x)
 place_of x d [] i = absurd i
 place_of x d (y ∷ ys) i = elim i [ inl e ↦ (0, omega arith, e) | inr j ↦ (let c = place_of x d ys j in (suc c.0, (let l = c.1 in omega arith), c.2)) ]
 
+-- each element has the property, or not
 pub each_in : {X : Type 0} (xs : List X) (P : X → Type 0) → ((x : X) → IsDecided (P x)) → IsDecided ((x : X) → IsIn x xs → P x)
 each_in [] P d = inl (λ x i. absurd i)
 each_in (y ∷ ys) P d =
     along (both (d y) (λ _. each_in ys P d))
     (λ w x i. elim i [ inl e ↦ subst P e w.0 | inr j ↦ w.1 x j ]) (λ w. (w y (inl refl), λ x j. w x (inr j)))
 
+-- some element has it, or none
 pub some_in : {X : Type 0} (xs : List X) (P : X → Type 0) → ((x : X) → IsDecided (P x)) → IsDecided ((x : X) × IsIn x xs × P x)
 some_in [] P d = inr (λ w. w.1)
 some_in (y ∷ ys) P d = elim (d y) [

@@ -35,6 +35,7 @@ rank_near q r n A S T k h w = record {
     part : (S T : ℕ → Bool) → ((j : ℕ) → j < n → S j ≡ T j) → (m : ℕ) (I : ℕ → Bool) → IsIndependentPart q r n A S m I → IsIndependentPart q r n A T m I
     part S T h m I p = record { within = λ j l t. sym (h j l) ∙ p.within j l t; elements = p.elements; independent = p.independent }
 
+-- sets with the same numbers are separations together
 separation_near : (M : Rep) (k : ℕ) (S T : ℕ → Bool) → ((j : ℕ) → j < size M → S j ≡ T j) → IsSeparation M k S → IsSeparation M k T
 separation_near M k S T h w = record {
   large = subst (λ (n : ℕ). k ≤ n) (size-same (size M) S T h) w.large;
@@ -50,6 +51,7 @@ module _ (M : Rep) (r : IsRepresentation M) where
   rank_of : (S : ℕ → Bool) → (k : ℕ) × IsRank M S k
   rank_of S = rank_exists (order M 0) (field_laws (order M 0) (r.shaped.orders 0 r.some)) M.rank (size M) (matrix M 0) (λ i j. r.shaped.codes 0 i j r.some) S
 
+  -- a set has one rank
   one_rank : (S : ℕ → Bool) (k l : ℕ) → IsRank M S k → IsRank M S l → k ≡ l
   one_rank S = rank_unique (order M 0) M.rank (size M) (matrix M 0) S
 
@@ -141,6 +143,7 @@ passes_decided q n filters M r =
     })
     (λ p. (p.connected, (p.three, (p.cosimple, (p.has, λ t N i. p.distinct t N)))))
 
+-- the forms of the level that pass, in rising order
 pub listed_exists : (q : Family) (n : ℕ) (filters : Filters) → (forms : List Rep) × IsListed q n filters forms
 listed_exists q n filters =
     rising_list (shape_of q n) (λ M. IsLevelForm q n M × Passes q n filters M) (λ M w. (

@@ -19,17 +19,20 @@ use Rattle.existence.proofs.Bases.{independent_decided}
 
 -- ---- the numbers of a range with a property, in rising order
 
+-- the list of the numbers from a on, n of them, that P holds of
 record Numbers (P : ℕ → Type 0) (a n : ℕ) (xs : List ℕ) : Type 0 where
   rising : IsStrictlyIncreasing xs
   sound : (x : ℕ) → IsIn x xs → (a ≤ x) × (x < a + n) × P x
   complete : (x : ℕ) → a ≤ x → x < a + n → P x → IsIn x xs
 
+-- a list rises that begins with a number below all of a rising list
 rises_cons : (x : ℕ) (xs : List ℕ) → ((y : ℕ) → IsIn y xs → x < y) → IsStrictlyIncreasing xs → IsStrictlyIncreasing (x ∷ xs)
 rises_cons x [] above r k l = absurd (omega arith)
 rises_cons x (y ∷ ys) above r zero l = above y (inl refl)
 rises_cons x (y ∷ ys) above r (suc k) l = (let e : suc (k + 1) ≡ suc k + 1 = omega arith in
     subst (λ i. slice_index (y ∷ ys) k < slice_index (x ∷ y ∷ ys) i) e (r k (omega arith)))
 
+-- there is such a list where P is decided
 numbers : (P : ℕ → Type 0) → ((x : ℕ) → IsDecided (P x)) → (n a : ℕ) → (xs : List ℕ) × Numbers P a n xs
 numbers P d zero a = ([], record { rising = λ k l. absurd (omega arith); sound = λ x i. absurd i; complete = λ x l m p. absurd (omega arith) })
 numbers P d (suc n) a = (let r = numbers P d n (a + 1) in elim (d a) [
@@ -82,6 +85,7 @@ module _ (given : Given) (rank : ℕ) (same : (S T : ℕ → Bool) → ((j : ℕ
 
 -- ---- all sets of one size
 
+-- the first numbers are one basis
 pub uniform_given : (rank size : ℕ) → rank ≤ size → (N : Matroid) × IsGivenBy (AllSets rank size) N
 uniform_given rank size l =
     matroid_of (AllSets rank size) rank (λ S T h e. sym (size-same size S T h) ∙ e) (λ S. equal (size_below size S) rank) (λ j. nat_lt j rank)
@@ -89,6 +93,7 @@ uniform_given rank size l =
 
 -- ---- columns and duals
 
+-- a set and its complement have n numbers together
 size_both : (n : ℕ) (S : ℕ → Bool) → size_below n S + size_below n (λ j. not (S j)) ≡ n
 size_both zero S = refl
 size_both (suc n) S =
@@ -100,21 +105,26 @@ module _ (q : ℕ) (o : IsOrder q) (columns : List (List ℕ)) (codes : (i j : �
   abbrev n : ℕ
   n = length columns
 
+  -- the number of rows
   abbrev r : ℕ
   r = column_length columns
 
+  -- the rank of all columns
   abbrev HasRank : ℕ → Type 0
   HasRank k = IsRankOf q r n (matrix_of_lists columns) (λ _. true) k
 
+  -- the columns have a rank
   column_rank : (k : ℕ) × HasRank k
   column_rank = rank_exists q (field_laws q o) r n (matrix_of_lists columns) codes (λ _. true)
 
+  -- sets with the same columns are bases together
   basis_same : (S T : ℕ → Bool) → ((j : ℕ) → j < n → S j ≡ T j) → IsColumnBasis q columns S → IsColumnBasis q columns T
   basis_same S T h b = record {
     independent = IsIndependent-same q r n (matrix_of_lists columns) S T h b.independent;
     greatest = subst HasRank (size-same n S T h) b.greatest;
   }
 
+  -- each basis has as many columns as the rank is
   basis_rank : (S : ℕ → Bool) → IsColumnBasis q columns S → size_below n S ≡ column_rank.0
   basis_rank S b = rank_unique q r n (matrix_of_lists columns) (λ _. true) (size_below n S) column_rank.0 b.greatest column_rank.1
 
@@ -123,6 +133,7 @@ module _ (q : ℕ) (o : IsOrder q) (columns : List (List ℕ)) (codes : (i j : �
       along (both (independent_decided q (field_laws q o) r n (matrix_of_lists columns) codes S) (λ _. equal column_rank.0 (size_below n S)))
       (λ w. record { independent = w.0; greatest = subst HasRank w.1 column_rank.1 }) (λ b. (b.independent, sym (basis_rank S b)))
 
+  -- there is a basis
   first_basis : (S : ℕ → Bool) × IsColumnBasis q columns S
   first_basis = (let h = column_rank.1 in let p = h.reached in (
     p.0,
@@ -132,9 +143,11 @@ module _ (q : ℕ) (o : IsOrder q) (columns : List (List ℕ)) (codes : (i j : �
     },
   ))
 
+  -- the bases of the columns are those of a matroid
   pub columns_given : (N : Matroid) × IsGivenBy (ColumnsOver q columns) N
   columns_given = matroid_of (ColumnsOver q columns) column_rank.0 basis_same column_basis_decided first_basis.0 first_basis.1 basis_rank
 
+  -- and so are their complements
   pub dual_given : (N : Matroid) × IsGivenBy (DualOfColumns q columns) N
   dual_given =
       matroid_of (DualOfColumns q columns) (n - column_rank.0) (λ S T h b. basis_same (λ j. not (S j)) (λ j. not (T j)) (λ j l. ap not (h j l)) b)

@@ -29,9 +29,11 @@ level_form_decided q n M = along (both (member_decided q n M) (λ _. form_decide
 abbrev pub shape_of : Family → ℕ → Shape
 shape_of q n = record { factors = q.factors; rank = q.rank; size = n }
 
+-- a member has that shape
 pub member_shape : (q : Family) (n : ℕ) (M : Rep) → IsMember q n M → shape M ≡ shape_of q n
 member_shape q n M m i = record { factors = m.same_factors i; rank = m.ranks i; size = m.sizes i }
 
+-- the forms among all representations of the shape, in rising order
 pub level_exists : (q : Family) (n : ℕ) → (forms : List Rep) × IsLevel q n forms
 level_exists q n = rising_list (shape_of q n) (IsLevelForm q n) (λ M f. (let r = f.form.representation in r.shaped, member_shape q n M f.member))
     (level_form_decided q n)

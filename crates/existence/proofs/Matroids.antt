@@ -112,6 +112,7 @@ module _ (q : Family) (n : ℕ) (forms : List Rep) (listed : IsListed q n distin
         least.1.1,
       )
 
+  -- of two that are listed with the same matroid the greater one would not be listed
   one_listed : (M N : Rep) → Contains forms M → Contains forms N → HaveSameMatroid M N → M ≡ N
   one_listed M N c d same = by (rep_cmp M N) refl
     where

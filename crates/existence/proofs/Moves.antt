@@ -44,6 +44,7 @@ inverse_decided q r G H =
     (λ _. each_two r r (λ i j. matrix_product q r H G i j ≡ unit i j) (λ i j _ _. equal _ _)))
     (λ w. record { right = w.0; left = w.1 }) (λ w. (w.right, w.left))
 
+-- matrices that are the same in what counts are inverse together
 inverse_near : (q : ℕ) → IsField q → (r : ℕ) (G H G' H' : Matrix) → ((i j : ℕ) → i < r → j < r → G i j ≡ G' i j)
     → ((i j : ℕ) → i < r → j < r → H i j ≡ H' i j) → AreInverse q r G H → AreInverse q r G' H'
 inverse_near q F r G H G' H' a b w = record {
@@ -109,6 +110,7 @@ module _ (mode : Mode) (S : Shape) (orders : (f : ℕ) → f < length S.factors 
     labels = permutation_near S.size m.label m.place k.label k.place n.label n.place w.labels;
   }
 
+  -- they give the same codes
   moved_near : (A : ℕ → Matrix) (f i j : ℕ) → f < length S.factors → i < S.rank → j < S.size → moved S A m f i j ≡ moved S A k f i j
   moved_near A f i j l a b =
       let q = slice_index S.factors f in
@@ -117,6 +119,7 @@ module _ (mode : Mode) (S : Shape) (orders : (f : ℕ) → f < length S.factors 
       (λ c. times q (k.rows f i c) (raised q (k.power f) (A f c (k.label j))))
       (λ c d s. times q (n.rows f l i a c d s) (raised q (n.power f l s) (A f c (n.label j b s)))) t)
 
+-- and take M to the same representation
 takes_near : (M N : Rep) (m k : Move) → IsShaped M → IsNear (shape M) m k → TakesTo M m N → TakesTo M k N
 takes_near M N m k s n w = record {
   same_shape = w.same_shape;
@@ -126,12 +129,14 @@ takes_near M N m k s n w = record {
 
 -- ---- a list of moves that comes near each
 
+-- the parts of a move, as pairs
 abbrev Tables : Type 0
 Tables = ((ℕ → ℕ) × (ℕ → ℕ → ℕ)) × (((ℕ → ℕ → ℕ → ℕ) × (ℕ → ℕ → ℕ → ℕ)) × ((ℕ → ℕ) × (ℕ → ℕ)))
 
 move_of_tables : Tables → Move
 move_of_tables t = record { power = t.0.0; scalar = t.0.1; rows = t.1.0.0; back = t.1.0.1; label = t.1.1.0; place = t.1.1.1 }
 
+-- each degree is below 16
 degree_small : (q : ℕ) → IsOrder q → degree q < 16
 unfolding degree
 degree_small = by_order (λ q. degree q < 16) (lit< tt) (lit< tt) (lit< tt) (lit< tt) (lit< tt) (lit< tt) (lit< tt)
@@ -140,23 +145,29 @@ module _ (S : Shape) (orders : (f : ℕ) → f < length S.factors → IsOrder (s
   abbrev codes16 : List ℕ
   codes16 = range_with_len 0 16
 
+  -- functions on the numbers below n with values below a bound
   abbrev number_functions : ℕ → ℕ → List (ℕ → ℕ)
   number_functions bound n = functions 0 (range_with_len 0 bound) n
 
+  -- a matrix for each factor
   abbrev matrices : List (ℕ → ℕ → ℕ → ℕ)
   matrices = functions (λ _ _. 0) (functions (λ _. 0) (functions 0 codes16 S.rank) S.rank) (length S.factors)
 
+  -- all parts of moves for the shape, with codes below 16
   all_tables : List Tables
   all_tables =
       pairs (pairs (number_functions 16 (length S.factors)) (functions (λ _. 0) (number_functions 16 S.size) (length S.factors)))
       (pairs (pairs matrices matrices) (pairs (number_functions S.size S.size) (number_functions S.size S.size)))
 
+  -- the moves of these parts
   all_moves : List Move
   all_moves = map move_of_tables all_tables
 
+  -- a code of a factor is below 16
   below16 : (f : ℕ) → f < length S.factors → (x : ℕ) → x < slice_index S.factors f → x < 16
   below16 f l x h = let b : slice_index S.factors f < 16 = small (slice_index S.factors f) (orders f l) in omega arith
 
+  -- some move of the list is as good as each move of the mode
   moves_cover : (mode : Mode) → IsCover (IsMove mode S) (IsNear S) all_moves
   unfolding all_moves all_tables move_of_tables
   moves_cover mode = record {
@@ -194,6 +205,7 @@ module _ (S : Shape) (orders : (f : ℕ) → f < length S.factors → IsOrder (s
         );
   }
 
+-- so a search through the list decides equivalence
 pub equivalent_decided : (mode : Mode) (M N : Rep) → IsDecided (AreEquivalent mode M N)
 equivalent_decided mode M N =
     along

@@ -19,6 +19,7 @@ pub record Kept {X : Type 0} (P : X → Type 0) (xs : List X) : Type 0 where
   pub sound : (x : X) → IsIn x kept → P x
   pub complete : (x : X) → IsIn x xs → P x → IsIn x kept
 
+-- there is such a list where the property is decided
 pub keep : {X : Type 0} (P : X → Type 0) → ((x : X) → IsDecided (P x)) → (xs : List X) → Kept P xs
 keep P d [] = record { kept = []; sound = λ x i. absurd i; complete = λ x i p. i }
 keep P d (x ∷ xs) = (let r = keep P d xs in elim (d x) [
@@ -40,19 +41,23 @@ abbrev Rises : List Rep → Type 0
 Rises [] = Unit {0}
 Rises (M ∷ Ms) = ((N : Rep) → IsIn N Ms → rep_cmp M N ≡ Less) × Rises Ms
 
+-- each is below all later ones
 to_pairs : (Ms : List Rep) → Rises Ms → AllPairs (λ M N. rep_cmp M N ≡ Less) Ms
 to_pairs [] r = λ i j d l m. absurd (omega arith)
 to_pairs (M ∷ Ms) r = AllPairs-cons (λ M N. rep_cmp M N ≡ Less) M Ms (λ k d l. r.0 (slice_index_or Ms k d) (at_place Ms k d l)) (to_pairs Ms r.1)
 
+-- a rising list with one representation more
 record With (M : Rep) (Ms Ns : List Rep) : Type 0 where
   rises : Rises Ns
   from : (N : Rep) → IsIn N Ns → (M ≡ N) ⊎ IsIn N Ms
   new : IsIn M Ns
   old : (N : Rep) → IsIn N Ms → IsIn N Ns
 
+-- all of the list have the shape of M
 abbrev IsOneShape : Rep → List Rep → Type 0
 IsOneShape M Ms = (N : Rep) → IsIn N Ms → shape M ≡ shape N
 
+-- M is put in its place
 with : (M : Rep) (Ms : List Rep) → Rises Ms → IsOneShape M Ms → (Ns : List Rep) × With M Ms Ns
 with M [] r s = (M ∷ [], record { rises = ((λ N i. absurd i), tt); from = λ N i. i; new = inl refl; old = λ N i. absurd i })
 with M (L ∷ Ms) r s = by (with M Ms r.1 (λ N i. s N (inr i))) (rep_cmp M L) refl
@@ -87,11 +92,13 @@ with M (L ∷ Ms) r s = by (with M Ms r.1 (λ N i. s N (inr i))) (rep_cmp M L) r
           },
         )
 
+-- a rising list of the same representations
 record InOrder (Ms Ns : List Rep) : Type 0 where
   rises : Rises Ns
   from : (N : Rep) → IsIn N Ns → IsIn N Ms
   old : (N : Rep) → IsIn N Ms → IsIn N Ns
 
+-- a list of one shape can be put in order
 in_order : (Ms : List Rep) → ((M N : Rep) → IsIn M Ms → IsIn N Ms → shape M ≡ shape N) → (Ns : List Rep) × InOrder Ms Ns
 in_order [] s = ([], record { rises = tt; from = λ N i. i; old = λ N i. i })
 in_order (M ∷ Ms) s =
@@ -105,6 +112,7 @@ in_order (M ∷ Ms) s =
       },
     )
 
+-- so what is decided and has one shape has a rising list
 pub rising_list : (S : Shape) (P : Rep → Type 0) → ((M : Rep) → P M → IsShaped M × (shape M ≡ S)) → ((M : Rep) → IsDecided (P M))
     → (forms : List Rep) × IsRisingList P forms
 rising_list S P of d =

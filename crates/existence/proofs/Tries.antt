@@ -41,6 +41,7 @@ record Once {X : Type 0} (xs ys : List X) : Type 0 where
   from : (x : X) → IsIn x ys → IsIn x xs
   old : (x : X) → IsIn x xs → IsIn x ys
 
+-- there is such a list where equality is decided
 once : {X : Type 0} → ((x y : X) → IsDecided (x ≡ y)) → (xs : List X) → (ys : List X) × Once xs ys
 once same [] = ([], record { apart = λ i j d l m. absurd (omega arith); from = λ x i. i; old = λ x i. i })
 once {X = X} same (x ∷ xs) = (let r = once same xs in elim (is_in same x r.0) [
@@ -82,6 +83,7 @@ same_try_decided : (a b : Rep × List ℕ) → IsDecided (a ≡ b)
 same_try_decided a b = along (both (same_rep_decided a.0 b.0) (λ _. equal_lists equal a.1 b.1)) (λ w i. (w.0 i, w.1 i))
     (λ e. (ap (λ (t : Rep × List ℕ). t.0) e, ap (λ (t : Rep × List ℕ). t.1) e))
 
+-- each try of a size is a pair of two lists
 try_listed : (q : Family) (n : ℕ) (try : Rep × List ℕ) → IsTry q n try → IsIn try (pairs (all_reps q.factors q.rank (n - 1)) (all_columns q.factors q.rank))
 try_listed q n try t =
     let member = t.parent.member in
@@ -94,6 +96,7 @@ try_listed q n try t =
     (in_all_of try.0 (shape_of q (n - 1)) r.shaped (member_shape q (size try.0) try.0 member ∙ ap (shape_of q) before))
     (in_columns q.factors q.rank try.1 orders t.column.is_column)
 
+-- so the tries can be counted
 pub tries_exist : (q : Family) (n : ℕ) → (tried : ℕ) × IsCount (IsTry q n) tried
 tries_exist q n = count_listed same_try_decided (IsTry q n) (try_decided q n) (pairs (all_reps q.factors q.rank (n - 1)) (all_columns q.factors q.rank))
     (try_listed q n)

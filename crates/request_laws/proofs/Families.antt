@@ -9,6 +9,7 @@ use Rattle.formats.specs.Request.{Request}
 use Rattle.formats.specs.Minors.{given_as}
 use Rattle.formats.specs.Levels.{AreGivenBy, Grows, Keeps}
 
+-- matroids that are given so are one list
 given_same : (gs : List Given) (xs ys : List Matroid) → AreGivenBy gs xs → AreGivenBy gs ys → xs ≡ ys
 given_same [] [] [] h g = refl
 given_same [] [] (y ∷ ys) h g = absurd g
@@ -23,6 +24,7 @@ matroid_same None (Some y) e = cc (e)
 matroid_same (Some x) None e = cc (e)
 matroid_same (Some x) (Some y) e = cc (e)
 
+-- a request grows one family
 pub one_family : (q : Request) (F G : Family) → Grows q F → Grows q G → F ≡ G
 one_family q F G a b i = record {
   factors = (a.factors_are ∙ sym b.factors_are) i;
@@ -31,6 +33,7 @@ one_family q F G a b i = record {
   forbidden = given_same (map given_as q.forbid) F.forbidden G.forbidden a.forbids b.forbids i;
 }
 
+-- and has one list of filters
 pub one_filters : (q : Request) (f g : Filters) → Keeps q f → Keeps q g → f ≡ g
 one_filters q f g a b i = record {
   connected = (a.connected ∙ sym b.connected) i;

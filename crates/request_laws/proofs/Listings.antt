@@ -20,6 +20,7 @@ use Rattle.request_laws.proofs.Minors.{minor_exists}
 
 -- ---- the minors of a request
 
+-- what a statement may name, its values may name
 forbidden_may : (es : List Statement) → AllByRecursion IsStatement es → AllByRecursion IsMinorName (filter_map forbidden_in es)
 forbidden_may [] all = tt
 forbidden_may (Forbids m ∷ es) all = (all.0, forbidden_may es all.1)
@@ -30,12 +31,14 @@ wanted_may [] all = tt
 wanted_may (ListsWith m ∷ es) all = (all.0, wanted_may es all.1)
 wanted_may (_ ∷ es) all = wanted_may es all.1
 
+-- so the minors of a request that a text stands for are names of matroids
 pub stands_names : (forms : Statement → Bool) (text : List ℕ) (q : Request) → StandsFor forms text q → NamesMinors q
 stands_names forms text q s = record {
   forbid = subst (AllByRecursion IsMinorName) s.asked.forbid (forbidden_may s.entries s.said.may);
   has = subst (AllByRecursion IsMinorName) s.asked.has (wanted_may s.entries s.said.may);
 }
 
+-- the matroids of a list of names
 matroids_exist : (ms : List MinorName) → AllByRecursion IsMinorName ms → (Ns : List Matroid) × AreGivenBy (map given_as ms) Ns
 matroids_exist [] all = ([], tt)
 matroids_exist (m ∷ ms) all = let N = minor_exists m all.0 in let rest = matroids_exist ms all.1 in (N.0 ∷ rest.0, (N.1, rest.1))
@@ -45,6 +48,7 @@ wanted_exists : (o : Option MinorName) → AllByRecursion IsMinorName (option_to
 wanted_exists None all = (None, tt)
 wanted_exists (Some m) all = let N = minor_exists m all.0 in (Some N.0, (N.1, tt))
 
+-- so there is a family, and there are filters
 pub family_exists : (q : Request) → NamesMinors q → (family : Family) × Grows q family
 family_exists q names =
     let Ns = matroids_exist q.forbid names.forbid in (
@@ -61,6 +65,7 @@ filters_exist q names =
 
 -- ---- its levels
 
+-- a size has a number of tries
 pub has_tries : (family : Family) (n : ℕ) → (tried : ℕ) × HasTries family n tried
 has_tries family n = elim (cases_lt family.rank n) [
   | inl l ↦ (let w = tries_exist family n in (w.0, record { first = λ e. absurd (omega arith); later = λ _. w.1 }))
@@ -92,11 +97,13 @@ module _ (q : Request) (names : NamesMinors q) where
         },
       )
 
+  -- the entries of n sizes from a on
   record Entries (a n : ℕ) (levels : List LevelEntry) : Type 0 where
     sizes : map (λ l. l.size) levels ≡ range_with_len a n
     number : length levels ≡ n
     each : AllByRecursion (IsLevelEntry q) levels
 
+  -- there are such entries
   entries_exist : (n a : ℕ) → (levels : List LevelEntry) × Entries a n levels
   entries_exist zero a = ([], record { sizes = refl; number = refl; each = tt })
   entries_exist (suc n) a =
@@ -104,6 +111,7 @@ module _ (q : Request) (names : NamesMinors q) where
       let rest = entries_exist n (a + 1) in
       (first.0 ∷ rest.0, record { sizes = λ i. first.1 i ∷ rest.1.sizes i; number = ap (λ k. suc k) rest.1.number; each = (first.2, rest.1.each) })
 
+  -- those of all sizes of the request
   pub levels_exist : (levels : List LevelEntry) × AreLevels q levels
   levels_exist =
       let w = entries_exist (level_count q) q.rank in (
@@ -118,11 +126,13 @@ module _ (q : Request) (names : NamesMinors q) where
         },
       )
 
+-- so there is a listing
 pub listing_exists : (forms : Statement → Bool) (text : List ℕ) (q : Request) → StandsFor forms text q → (listing : List ℕ) × IsListing q listing
 listing_exists forms text q s =
     let w = levels_exist q (stands_names forms text q s) in
     (text_of_blocks (listing_blocks q w.0), record { levels = w.0; are = w.1; is = refl })
 
+-- and what is less than it is a front of it
 pub cut_is_front_of_listing : (forms : Statement → Bool) (text : List ℕ) (q : Request) (whole : ℕ) (written : List ℕ) → StandsFor forms text q
     → IsListingCutOff q whole written → IsFrontOfListing q written
 cut_is_front_of_listing forms text q whole written s c = let w = listing_exists forms text q s in (w.0, w.1, cut_is_front q w.0 written whole w.1 c)

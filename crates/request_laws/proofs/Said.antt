@@ -58,13 +58,16 @@ statement_decided _ = inl tt
 
 -- ---- lists of columns
 
+-- the columns of at most 6 entries below 16
 short_columns : List (List ℕ)
 short_columns = flat_map (words (range_with_len 0 16)) (range_with_len 0 7)
 
+-- what holds of all holds of an element
 all_at : {X : Type 0} (P : X → Type 0) (xs : List X) → AllByRecursion P xs → (x : X) → IsIn x xs → P x
 all_at P [] all x i = absurd i
 all_at P (y ∷ ys) all x i = elim i [ inl e ↦ subst P e all.0 | inr j ↦ all_at P ys all.1 x j ]
 
+-- each column of a matrix that may be named is among them
 in_short : (order : ℕ) (columns : List (List ℕ)) → IsMatrix order columns → (column : List ℕ) → IsIn column columns → IsIn column short_columns
 unfolding short_columns
 in_short order columns w column i =
@@ -165,11 +168,13 @@ module _ (forms : Statement → Bool) (line : List (List ℕ)) where
 
   -- ---- the other lines
 
+  -- the lines of one number
   number_said : (made : ℕ → Statement) → ((n : ℕ) → IsStatement (made n) → IsNumber n) → IsDecided ((n : ℕ) × Says forms line (made n))
   number_said made small =
       along (some_below (10 ^ 9) (λ n. Says forms line (made n)) (λ n _. one_said (made n))) (λ w. (w.0, w.2))
       (λ w. (w.0, small w.0 (let s = w.1 in s.may), w.1))
 
+  -- the lines of one to three orders
   field_said : IsDecided ((fs : List ℕ) × Says forms line (FieldIs fs))
   field_said =
       along (some_below 4 (λ n. (fs : List ℕ) × IsIn fs (words orders n) × Says forms line (FieldIs fs))
@@ -186,6 +191,7 @@ module _ (forms : Statement → Bool) (line : List (List ℕ)) where
         ),
       )))
 
+  -- the words say no statement of any kind
   record NoneSaid : Type 0 where
     version : ¬ (Says forms line Version)
     rank : ¬ ((n : ℕ) × Says forms line (RankIs n))
@@ -200,6 +206,7 @@ module _ (forms : Statement → Bool) (line : List (List ℕ)) where
     prints_forms : ¬ (Says forms line (Prints Forms))
     prints_counts : ¬ (Says forms line (Prints Counts))
 
+  -- so they say nothing
   nothing_said : NoneSaid → (e : Statement) → ¬ (Says forms line e)
   nothing_said w Version s = w.version s
   nothing_said w (RankIs n) s = w.rank (n, s)
@@ -214,6 +221,7 @@ module _ (forms : Statement → Bool) (line : List (List ℕ)) where
   nothing_said w (Prints Forms) s = w.prints_forms s
   nothing_said w (Prints Counts) s = w.prints_counts s
 
+  -- kind by kind
   pub said_decided : IsDecided ((e : Statement) × Says forms line e)
   said_decided = elim (one_said Version) [
     | inl s ↦ inl (Version, s)

@@ -42,9 +42,11 @@ one_or_none [] l = inl refl
 one_or_none (x ∷ []) l = inr (x, refl)
 one_or_none (x ∷ y ∷ xs) l = absurd (omega arith)
 
+-- a list of one element is not empty
 not_empty : {X : Type 0} (xs : List X) (x : X) → xs ≡ x ∷ [] → ¬ (xs ≡ [])
 not_empty xs x e f = cc
 
+-- a list of at most one element, as an option
 as_option : {X : Type 0} (xs : List X) → length xs ≤ 1 → (o : Option X) × (xs ≡ option_to_list o)
 as_option [] l = (None, refl)
 as_option (x ∷ []) l = (Some x, refl)
@@ -54,6 +56,7 @@ module _ (forms : Statement → Bool) (text : List ℕ) where
   abbrev Answered : Type 0
   Answered = ((q : Request) × StandsFor forms text q) ⊎ ((why : Refusal) × HasRefusal forms text why)
 
+  -- the refusal of a line at fault
   at_line : (short : length text ≤ most_bytes) (w : AtFault forms (lines_of text)) → (fault : Fault) → FirstFault forms text (length w.before + 1) fault
       → Answered
   at_line short w NoForm f = inr (refusal.BadLine (length w.before + 1), f)
@@ -61,6 +64,7 @@ module _ (forms : Statement → Bool) (text : List ℕ) where
   at_line short w NinthForbid f = inr (refusal.TooManyForbidden (length w.before + 1), f)
   at_line short w TooBig f = inr (refusal.ForbidTooBig (length w.before + 1), f)
 
+  -- a text with a line at fault is refused
   faulty : length text ≤ most_bytes → AtFault forms (lines_of text) → Answered
   faulty short w = at_line short w w.fault (record {
     short = short;
@@ -144,6 +148,7 @@ module _ (forms : Statement → Bool) (text : List ℕ) where
           ]
         ]
 
+  -- each text
   pub answered : Answered
   answered = elim (cases_lt most_bytes (length text)) [
     | inl long ↦ inr (refusal.TooLong, long)

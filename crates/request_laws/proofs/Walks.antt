@@ -18,6 +18,7 @@ use Rattle.request_laws.proofs.Said.{said_decided}
 
 -- ---- one more statement
 
+-- a statement is one of a kind, or not
 abbrev of_kind : ℕ → Statement → ℕ
 of_kind kind e = cond (kind_number e == kind) 1 0
 
@@ -30,10 +31,12 @@ count_end kind es e = sum_by-append (of_kind kind) es (e ∷ []) ∙ ap (λ (n :
     add : of_kind kind e + 0 ≡ of_kind kind e
     add = omega arith
 
+-- what holds of all and of one more
 all_end : (P : Statement → Type 0) (es : List Statement) (e : Statement) → AllByRecursion P es → P e → AllByRecursion P (es ++ e ∷ [])
 all_end P [] e all p = (p, tt)
 all_end P (x ∷ es) e all p = (all.0, all_end P es e all.1 p)
 
+-- statements stay in order by one of a kind of which there were fewer than may be
 order_end : (es : List Statement) (e : Statement) → AreInOrder es → named_elements e ≤ 10 → count_of_kind (kind_number e) es < most_of_kind (kind_number e)
     → AreInOrder (es ++ e ∷ [])
 order_end es e order small fewer = record {
@@ -55,10 +58,12 @@ order_end es e order small fewer = record {
 
 -- ---- one more line
 
+-- the statements of lines one after another
 statements_append : (xs ys : List (List ℕ)) → statements_of (xs ++ ys) ≡ statements_of xs ++ statements_of ys
 statements_append xs ys = ap (filter (λ words. not (is_skipped words))) (map-append words_of xs ys)
     ∙ filter-append (λ words. not (is_skipped words)) (map words_of xs) (map words_of ys)
 
+-- a line that is skipped has none
 skipped_line : (line : List ℕ) → is_skipped (words_of line) ≡ true → statements_of (line ∷ []) ≡ []
 skipped_line line s = ap (λ (b : Bool). cond (not b) (words_of line ∷ []) []) s
 
@@ -72,6 +77,7 @@ module _ (forms : Statement → Bool) where
         ∙ append-nil (statements_of before) ∙ t.spelled;
   }
 
+  -- a line that says one more statement
   says_more : (before : List (List ℕ)) (line : List ℕ) (said : List Statement) (e : Statement) → is_skipped (words_of line) ≡ false
       → SayInTurn forms before said → Says forms (words_of line) e → SayInTurn forms (before ++ line ∷ []) (said ++ e ∷ [])
   says_more before line said e s t w = record {
@@ -82,6 +88,7 @@ module _ (forms : Statement → Bool) where
 
   -- ---- a fault of one line
 
+  -- the words have some fault
   abbrev SomeFault : List Statement → List (List ℕ) → Type 0
   SomeFault said words = (fault : Fault) × HasFault forms said words fault
 
@@ -110,11 +117,13 @@ module _ (forms : Statement → Bool) where
 
   -- ---- all lines
 
+  -- the lines say statements in order
   pub record InOrder (lines : List (List ℕ)) : Type 0 where
     pub said : List Statement
     pub says : SayInTurn forms lines said
     pub in_order : AreInOrder said
 
+  -- a line is the first at fault
   pub record AtFault (lines : List (List ℕ)) : Type 0 where
     pub before : List (List ℕ)
     pub line : List ℕ
@@ -127,6 +136,7 @@ module _ (forms : Statement → Bool) where
     pub fault : Fault
     pub wrong : HasFault forms said (words_of line) fault
 
+  -- line by line, after those that are in order
   walk : (before rest : List (List ℕ)) (said : List Statement) → SayInTurn forms before said → AreInOrder said
       → InOrder (before ++ rest) ⊎ AtFault (before ++ rest)
   walk before [] said t o = inl (subst InOrder (sym (append-nil before)) (record { said = said; says = t; in_order = o }))
@@ -156,5 +166,6 @@ module _ (forms : Statement → Bool) where
   none_too_often : (kind : ℕ) → 0 ≤ most_of_kind kind
   none_too_often kind = omega arith
 
+  -- from the first line on
   pub lines_walked : (lines : List (List ℕ)) → InOrder lines ⊎ AtFault lines
   lines_walked lines = walk [] lines [] (record { may = tt; are_read = tt; spelled = refl }) (record { not_often = none_too_often; not_big = tt })
