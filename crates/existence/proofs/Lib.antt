@@ -1,0 +1,15 @@
+pub mod Deciding
+pub mod Covers
+pub mod AllReps
+pub mod RisingLists
+pub mod Shaped
+pub mod Moves
+pub mod Bases
+pub mod Forms
+pub mod Levels
+pub mod Filters
+pub mod Tries
+pub mod Givens
+pub mod Classes
+pub mod Matroids
+pub mod Examples

@@ -1,0 +1,7 @@
+pub mod Minors
+pub mod Families
+pub mod Listings
+pub mod Said
+pub mod Walks
+pub mod Texts
+pub mod Examples
