@@ -16,9 +16,8 @@ use Rattle.request_reader.specs.Filters.{wanted_matroid}
 use Rattle.level_driver.specs.Asked.{filters_of}
 use Rattle.level_driver.specs.Grown.{IsLevelOf, TellsPassing}
 use Rattle.level_driver.specs.Listed.{PassesAlone, AreMatroidsOf, IsFirst}
-use Rattle.level_driver.proofs.MinorsCarried.{given_same}
 use Rattle.level_driver.proofs.Earlier.{IsEarliest, earliest, first, passes_all, passes_alone, is_earliest}
-use Rattle.formats.proofs.OneListing.{matroid_same}
+use Rattle.formats.proofs.OneListing.{given_same, matroid_same}
 
 -- these are the filters of the request, and the wanted minor is that of its name
 pub record AreAsked (q : Request) (f : Filters) : Type 0 where

@@ -1,5 +1,5 @@
 -- Independence by trying all coefficients, for examples that the checker computes.
-use Rattle.std.proofs.Common.{◌≡◌, ◌≢◌, ℕ, zero, suc, ◌<◌, refl, sym, ◌∙◌, ap, arith, cond, Bool, true, false, ◌&&◌, ◌||◌, not, inl, inr, eqb-true, eq-eqb, List}
+use Rattle.std.proofs.Common.{◌≡◌, ◌≢◌, ℕ, zero, suc, ◌<◌, refl, sym, ◌∙◌, ap, arith, cond, Bool, true, ◌&&◌, ◌||◌, not, inl, inr, eqb-true, eq-eqb, List}
 use Rattle.std.specs.Bool.{◌==◌, nat_lt}
 use Rattle.std.specs.List.{slice_index}
 use mathlib.Core.Bool.{true≢false}

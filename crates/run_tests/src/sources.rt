@@ -1,6 +1,7 @@
 // Sources and sinks.
 use outside::{
-    Failed, MemorySink, MemorySource, ReadFrom, Sink, Source, SureSink, SureSource, TakeFault, WriteTo, put, take,
+    Failed, MemorySink, MemorySource, ReadFrom, Sink, Source, SureSink, SureSource, TakeFault,
+    WriteTo, put, take,
 };
 use std::alloc::Global;
 use std::io;
