@@ -46,7 +46,8 @@ impl Minor {
 
     /// The number of elements, from 1 to 10.
     pub fn size(&self) -> usize
-        ensures { result ≡ self.now.size }
+        ensures value { result ≡ self.now.size }
+        ensures is_small { IsSmallMatroid self.now }
     {
         self.size as usize
     }
@@ -58,7 +59,7 @@ impl Minor {
         self.bases.as_slice()
     }
 
-    /// What the type keeps.
+    /// What the type keeps, for the proofs of callers: 1 to 10 elements, and rising masks of rank many of them, at least one.
     pub fn laws(&self)
         ensures { IsSmallMatroid self.now }
     {
