@@ -1,7 +1,7 @@
 use Rattle.std.proofs.Common.{◌∙◌}
 use Rattle.canonical_form.specs.Search.{columns_cmp}
 use Rattle.canonical_form.proofs.Orders.{lists_cmp}
-use Rattle.canonical_form.proofs.columns.Columns.compare.Goals as goal
+use Rattle.canonical_form.proofs.columns.ColumnList.compare.Goals as goal
 
 pub returns : goal.returns
 returns c =

@@ -6,9 +6,9 @@ use Rattle.std.specs.Ordering.{nat_cmp}
 use Rattle.std.proofs.lemmas.List.Sorted.{IsPermutation-map}
 use Rattle.arrayvec.specs.ArrayVec.{ArrayVec}
 use Rattle.elimination.proofs.Lists.{refill_whole}
-use Rattle.canonical_form.specs.Found.{lists}
+use Rattle.small_lists.specs.Lists.{lists}
 use Rattle.canonical_form.proofs.Orders.{lists_sorted}
-use Rattle.canonical_form.proofs.columns.Columns.sort.Goals as goal
+use Rattle.canonical_form.proofs.columns.ColumnList.sort.Goals as goal
 
 pub returns-clause-permutation : goal.returns-clause-permutation
 returns-clause-permutation c =
