@@ -1,6 +1,7 @@
 -- The rising list of the sets that a test takes, mask by mask.
-use Rattle.std.proofs.Common.{◌≡◌, ℕ, ◌+◌, ◌^◌, ◌<◌, sym, subst, arith, ◌↔◌, ◌⊎◌, Bool, true, false, inl, inr, List, [], ◌∷◌, ◌++◌, IsTrue, refl}
+use Rattle.std.proofs.Common.{◌≡◌, ℕ, ◌+◌, ◌^◌, ◌<◌, sym, subst, arith, ◌↔◌, ◌⊎◌, Bool, true, false, inl, inr, List, [], ◌∷◌, ◌++◌, IsTrue, refl, ◌∙◌, Option, Some, None, is_some, is_none}
 use Rattle.std.specs.List.{Contains}
+use Rattle.std.specs.Option.{MatchOption}
 use Rattle.std.specs.List.Sorted.{IsStrictlyIncreasing}
 use Rattle.std.proofs.lemmas.Bool.{cases_lt, false≢true}
 use Rattle.std.proofs.lemmas.List.Elements.{Contains-get_or, Contains-append_left, Contains-push, Contains-push_cases}
@@ -53,6 +54,18 @@ module _ (m n k : ℕ) (answers : ℕ → Bool → Type 0) (masks : List ℕ) (h
   -- after the last
   pub all_taken : m ≡ 2 ^ n → AreTaken n k answers masks
   all_taken e = record { rising = h.rising; taken = h.taken; complete = λ X d. h.complete X (let b : X < 2 ^ n = d.below in omega arith) d }
+
+-- whether a set with P was found, where the answers say whether it holds
+pub set_found : (D : ℕ → Type 0) (answers : ℕ → Bool → Type 0) (P : ℕ → Type 0) (r : Option ℕ) (b : Bool) → b ≡ is_some r → ((X : ℕ) → D X → answers X true → P X) → ((X : ℕ) → D X → answers X false → ¬ (P X))
+    → MatchOption r ((X : ℕ) → D X → answers X false) (λ X. D X × answers X true) → IsTrue b ↔ ((X : ℕ) × D X × P X)
+set_found D answers P None b e holds fails m = (λ t. absurd (false≢true (sym e ∙ t)), λ w. absurd (fails w.0 w.1 (m w.0 w.1) w.2))
+set_found D answers P (Some X) b e holds fails m = (λ _. (X, m.0, holds X m.0 m.1), λ _. e)
+
+-- whether all sets have Q, where the answers say whether one doesn't
+pub no_set_found : (D : ℕ → Type 0) (answers : ℕ → Bool → Type 0) (Q : ℕ → Type 0) (r : Option ℕ) (b : Bool) → b ≡ is_none r → ((X : ℕ) → D X → answers X false → Q X) → ((X : ℕ) → D X → answers X true → ¬ (Q X))
+    → MatchOption r ((X : ℕ) → D X → answers X false) (λ X. D X × answers X true) → IsTrue b ↔ ((X : ℕ) → D X → Q X)
+no_set_found D answers Q None b e holds fails m = (λ _ X d. holds X d (m X d), λ _. e)
+no_set_found D answers Q (Some X) b e holds fails m = (λ t. absurd (false≢true (sym e ∙ t)), λ h. absurd (fails X m.0 m.1 (h X m.0)))
 
 -- where the answers say whether P holds, the list has exactly the sets with P
 pub masks_of_taken : (n k : ℕ) (answers : ℕ → Bool → Type 0) (P : ℕ → Type 0) (masks : List ℕ) → ((X : ℕ) → IsSetOfSize n k X → (b : Bool) → answers X b → IsTrue b ↔ P X) → AreTaken n k answers masks
