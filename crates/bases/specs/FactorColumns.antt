@@ -9,4 +9,4 @@ pub record IsFactorOf (M : Rep) (f q : ℕ) (columns : List (ArrayVec ℕ)) : Ty
   pub below : f < count M
   pub order : q ≡ order M f
   pub count : length columns ≡ size M
-  pub columns : (j : ℕ) → j < size M → column columns j ≡ column_of M f j
+  pub same : (j : ℕ) → j < size M → column columns j ≡ column_of M f j

@@ -58,7 +58,7 @@ fn is_alike(rep: &Rep, first: &FactorColumns, factor: usize) -> bool
 {
     rep.laws();
     let other = FactorColumns::of(rep, factor);
-    first_of_size(rep.size(), rep.rank(), |set| !first.is_alike(&other, set)).is_none()
+    first_of_size(rep.size(), rep.rank(), |set| first.differs(&other, set)).is_none()
 }
 
 /// Whether the set, which lies within the size, has as many elements as the rank.

@@ -1,5 +1,5 @@
 //! One factor of a representation.
-ghost use Rattle.std.specs.Prelude.{◌≡◌, ◌<◌, ◌≤◌, ◌↔◌, length, IsTrue};
+ghost use Rattle.std.specs.Prelude.{◌≡◌, ◌<◌, ◌≤◌, ◌↔◌, length, IsTrue, IsFalse};
 ghost use Rattle.matroid_theory.specs.Rep.{size, count, column_of, KeepsLimits};
 ghost use Rattle.matroid_theory.specs.Matroid.{members};
 ghost use Rattle.column_sets.specs.Picked.{ArePicked, IsIndependentSet};
@@ -60,12 +60,12 @@ impl FactorColumns {
         independent_in(self.field, self.columns(), set)
     }
 
-    /// Whether the set is independent in both factors or in none.
-    pub fn is_alike(&self, other: &FactorColumns, set: Mask) -> bool
-        ensures { IsTrue result ↔ (IsIndependentSet self.now.field self.now.columns.items (members set) ↔
+    /// Whether the set is independent in one of the two factors alone.
+    pub fn differs(&self, other: &FactorColumns, set: Mask) -> bool
+        ensures { IsFalse result ↔ (IsIndependentSet self.now.field self.now.columns.items (members set) ↔
             IsIndependentSet other.now.field other.now.columns.items (members set)) }
     {
-        self.is_independent(set) == other.is_independent(set)
+        self.is_independent(set) != other.is_independent(set)
     }
 }
 
