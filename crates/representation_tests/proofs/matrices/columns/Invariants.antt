@@ -1,6 +1,6 @@
 use Rattle.std.proofs.Common.{◌≡◌, ◌<◌, ℕ, length}
 use Rattle.elimination.specs.Columns.{column, IsColumn}
-use Rattle.elimination.proofs.tests.columns.Given as goal
+use Rattle.representation_tests.proofs.matrices.columns.Given as goal
 
 abbrev pub invariant-loop-codes : goal.invariant-loop-codes
 invariant-loop-codes g l =

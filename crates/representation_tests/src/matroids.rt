@@ -1,19 +1,7 @@
-use super::*;
+//! Bases, agreement and simple representations.
+use bases::{BaseList, agree, is_basis, is_simple};
 use product_rep::{Factors, ProductColumn, Rep};
 use std::test::Fail;
-
-// The unit columns over these fields, and then these columns, each row by row and factor by factor within a row.
-macro_rules! unit_and {
-    ($orders:expr, $rank:expr $(, $codes:expr)*) => {{
-        let mut rep = Rep::unit(Factors::of(&$orders).ok_or("no factors")?, $rank);
-        $(
-            let mut column = ProductColumn::new();
-            column.try_extend_from_slice(&$codes)?;
-            rep.push_column(&column);
-        )*
-        rep
-    }};
-}
 
 #[test]
 fn bases_of_the_first_factor(rt: HostRuntime) -> Result<(), Fail> {

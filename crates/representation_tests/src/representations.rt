@@ -1,8 +1,9 @@
+//! Representations and moves.
 ghost use Rattle.std.specs.Prelude.{◌≡◌, IfOk, IfSome};
 ghost use Rattle.matroid_theory.specs.Rep.{shape};
 
-use super::*;
 use arrayvec::CapacityError;
+use product_rep::{Factors, Move, ProductColumn, Rep, act, compare, place};
 use std::cmp::Ordering;
 use std::test::Fail;
 
@@ -45,6 +46,7 @@ fn columns_of_representations(rt: HostRuntime) -> Result<(), Fail> {
     assert_eq!(rt; rep.size(), 4);
     assert_eq!(rt; rep.column(3).as_slice(), [1, 1, 1, 1, 1, 2].as_slice());
     assert_eq!(rt; rep.factor_column(1, 3).as_slice(), [1, 1, 2].as_slice());
+    assert_eq!(rt; place(2, 2, 1), 5);
     Ok(())
 }
 

@@ -1,8 +1,9 @@
+//! Ranks, independence and coefficients of columns.
 ghost use Rattle.std.specs.Prelude.{◌≤◌, ◌≡◌, length, IsTrue, IfSome};
 ghost use Rattle.elimination.specs.Columns.{height, AreColumns, IsColumn};
 
-use super::*;
 use arrayvec::ArrayVec;
+use elimination::{independent, rank, solve};
 use field_tables::{Column, Field};
 
 /// The column of these numbers, each taken modulo the order.
