@@ -2,7 +2,7 @@ use Rattle.std.proofs.Common.{◌≡◌, map}
 use Rattle.std.specs.List.{range_with_len}
 use Rattle.matroid_theory.specs.Rep.{size, matrix}
 use Rattle.matroid_theory.specs.Level.{followed_by}
-use Rattle.extension.proofs.with_column.part.Given as goal
+use Rattle.extension.proofs.admissible.part.Given as goal
 
 -- the rows before this one
 abbrev pub invariant-loop-i : goal.invariant-loop-i

@@ -4,7 +4,7 @@ use Rattle.std.proofs.lemmas.List.FromFn.{length-map-range_with_len, map-range_w
 use Rattle.matroid_theory.specs.Rep.{Rep, size, count, matrix}
 use Rattle.matroid_theory.specs.Level.{followed_by}
 use Rattle.matroid_theory.proofs.Followed.{matrix_last}
-use Rattle.extension.proofs.with_column.part.Goals as goal
+use Rattle.extension.proofs.admissible.part.Goals as goal
 
 -- there is room for one more code
 room : (f : ℕ → ℕ) (i r : ℕ) (part : List ℕ) → part ≡ map f (range_with_len 0 i) → i < r → r ≤ 6 → length part < 6
