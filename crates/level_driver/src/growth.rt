@@ -32,6 +32,7 @@ pub fn grow_alone(alloc: Global, request: &Request, parents: &FormList) -> Resul
     ensures tried { IfOk result (λ level. (n : ℕ) →
         IsParentLevel request.now n parents.now → AreTriesOf request.now (n + 1) level.tried) }
 {
+    request.laws();
     let rank = request.rank();
     let forbidden = request.forbid();
     let mut found = Found::new(alloc);
@@ -50,8 +51,7 @@ fn add_children(parent: &Rep, forbidden: &[MinorItem], found: &mut Found) -> Res
     ensures count { IfOk result (λ tried. IsCount (IsCandidate (matroids_of forbidden.now) parent.now) tried) }
     ensures forms { OnOk result (AddsChildren (matroids_of forbidden.now) parent.now found.old found.new) }
 {
-    // The proof learns here what every representation keeps.
-    parent.size();
+    parent.laws();
     let mut tried = 0;
     for column in Columns::of(parent) {
         if let Some(child) = child(parent, forbidden, &column) {

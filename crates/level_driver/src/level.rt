@@ -28,8 +28,7 @@ pub fn first_level(alloc: Global, request: &Request) -> Result<Level, AllocError
     ensures tried { IfOk result (λ level. AreTriesOf request.now request.now.rank level.tried) }
 {
     let unit = Rep::unit(request.factors(), request.rank());
-    // The proof learns here what every representation keeps.
-    unit.size();
+    unit.laws();
     let mut forms = FormList::new(alloc);
     if !avoids(&unit, request.forbid()) {
         return Ok(Level { forms, tried: 0 });

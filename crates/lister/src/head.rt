@@ -131,6 +131,7 @@ fn first_lines(factors: &Factors, rank: u8, size: u8) -> Head
 pub fn head_text(request: &Request) -> Head
     ensures { result.items ≡ listing.head_text request.now }
 {
+    request.laws();
     let mut head = first_lines(&request.factors(), request.rank(), request.size());
     push_forbid_lines(&mut head, request.forbid());
     let filters = request.filters();

@@ -30,6 +30,7 @@ fn write_levels<K: Sink>(alloc: Global, request: &Request, sink: &mut K) -> Resu
     ensures err { IfErr result (λ cut. Gains (K.held sink.old) (K.held sink.new) (IsLess cut.why request.now cut.whole)) }
     ensures rose { IfErr result (λ cut. cut.why ≡ Stop.Failed → Rose (K.faults sink.old) (K.faults sink.new)) }
 {
+    request.laws();
     let rank = request.rank();
     let no_memory = Stop::NoMemory;
     let Ok(mut level) = first_level(alloc, request) else {
@@ -70,6 +71,7 @@ pub fn write_listing<K: Sink>(alloc: Global, request: &Request, sink: &mut K) ->
         Gains (K.held sink.old) (K.held sink.new) (IsListingUpTo request.now result.levels) }
     ensures only { (result.status ≡ Status.Done) ⊎ (result.status ≡ Status.WriteFault) ⊎ (result.status ≡ Status.NoMemory) }
 {
+    request.laws();
     let (status, levels) = match write_levels(alloc, request, sink) {
         Ok(()) => {
             let levels = u64::from(request.size() - request.rank()) + 1;

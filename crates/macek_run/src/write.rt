@@ -94,8 +94,8 @@ pub fn write_level<K: Sink>(
     ensures rose { IsErrOf result Stop.Failed → Rose (K.faults sink.old) (K.faults sink.new) }
     ensures kept { OnOk result (K.faults sink.new ≡ K.faults sink.old) }
 {
-    // The proof learns here that forms are printed, which matroids are forbidden, and which one is wanted.
-    request.rank();
+    request.laws();
+    // The proof learns here which matroids are forbidden, and which one is wanted.
     request.forbid();
     request.filters();
     let Ok(shown) = listed(alloc, request, &level.forms) else {

@@ -53,12 +53,18 @@ impl Request {
         self.factors.copy()
     }
 
-    /// The rank, from 1 to 6.
-    pub fn rank(&self) -> u8
-        ensures rank { result ≡ self.now.rank }
+    /// What every request keeps, for a caller's proof.
+    pub fn laws(&self)
         ensures limits { IsWithinLimits self.now }
         ensures factors { IsFactors self.now.factors }
         ensures plain { self.now.print ≡ Forms }
+    {
+        let _filters = &self.filters;
+    }
+
+    /// The rank, from 1 to 6.
+    pub fn rank(&self) -> u8
+        ensures { result ≡ self.now.rank }
     {
         self.rank
     }

@@ -13,7 +13,7 @@ loop-column-init c =
     let start : c.into_iter-column-iterator.result ≡ record { parent = c.args.parent.now; last = [] } = c.into_iter-column-iterator.ensures.into_iter_gives ∙ c.of-column-items.ensures in
     record {
       same = ap (λ (columns : ColumnsAfter). columns.parent) start;
-      so_far = tried_none (matroids_of c.args.forbidden.now) c.args.found.now c.args.parent.now c.size.ensures.is_rep.fields.some c.into_iter-column-iterator.result start;
+      so_far = tried_none (matroids_of c.args.forbidden.now) c.args.found.now c.args.parent.now c.laws.ensures.fields.some c.into_iter-column-iterator.result start;
     }
 
 pub loop-column-preserved : goal.loop-column-preserved

@@ -21,7 +21,7 @@ returns c =
     let es5 : List Statement = es4 ++ where_set q.distinct ListsDistinct in
     let es6 : List Statement = es5 ++ map ListsWith (option_to_list q.has) in
     let h0 : c.first_lines-head.result.items ≡ title ++ text_of_statements es0 =
-    c.first_lines-head.ensures.bytes ∙ (λ i. title ++ text_of_statements (first_entries (c.factors.ensures i) (c.rank.ensures.rank i) (c.size.ensures i))) in
+    c.first_lines-head.ensures.bytes ∙ (λ i. title ++ text_of_statements (first_entries (c.factors.ensures i) (c.rank.ensures i) (c.size.ensures i))) in
     let h1 = more_text title _ c.push_forbid_lines.new.head.items es0 (map Forbids q.forbid) h0 (c.push_forbid_lines.ensures.bytes ∙ ap (λ (ms : List MinorName). c.first_lines-head.result.items ++ text_of_statements (map Forbids ms)) c.forbid.ensures.names) in
     let h2 = more_text title _ c.push_flag_line.new.head.items es1 (where_set q.connected ListsConnected) h1 (flag_text _ _ _ q.connected ListsConnected (codes "connected") refl c.filters-filters.ensures.connected c.push_flag_line.ensures.set c.push_flag_line.ensures.unset) in
     let h3 = more_text title _ c.push_flag_line-2.new.head.items es2 (where_set q.three_connected ListsThreeConnected) h2 (flag_text _ _ _ q.three_connected ListsThreeConnected (codes "3conn") refl c.filters-filters.ensures.three c.push_flag_line-2.ensures.set c.push_flag_line-2.ensures.unset) in
@@ -32,5 +32,5 @@ returns c =
     c.push_line.ensures
     ∙ ap (λ (w : List ℕ). c.push_has_line.new.head.items ++ line_of_words (w ∷ codes "forms" ∷ [])) c.as_slice.ensures
     ∙ ap (λ (t : List ℕ). c.push_has_line.new.head.items ++ t) (sym (one_text (Prints Forms)))
-    ∙ ap (λ (print : PrintMode). c.push_has_line.new.head.items ++ text_of_statements (Prints print ∷ [])) (sym c.rank.ensures.plain) in
+    ∙ ap (λ (print : PrintMode). c.push_has_line.new.head.items ++ text_of_statements (Prints print ∷ [])) (sym c.laws.ensures.plain) in
     more_text title _ c.push_line.new.head.items es6 (Prints q.print ∷ []) h6 end

@@ -6,17 +6,17 @@ use Rattle.macek_run.proofs.Begun.{none_begun, first_begun, first_stopped, next_
 use Rattle.macek_run.proofs.listing.write_levels.Goals as goal
 
 pub returns-in_default-clause-err : goal.returns-in_default-clause-err
-returns-in_default-clause-err g c = none_begun c.args.request.now (g.K.Sink.held c.args.sink.now) (g.K.Sink.held c.args.sink.now) (omega (arith, c.rank-rank.ensures.limits.size))
+returns-in_default-clause-err g c = none_begun c.args.request.now (g.K.Sink.held c.args.sink.now) (g.K.Sink.held c.args.sink.now) (omega (arith, c.laws.ensures.limits.size))
 
 pub returns-in-Err-clause-err : goal.returns-in-Err-clause-err
 returns-in-Err-clause-err g c =
-    first_stopped c.args.request.now (g.K.Sink.held c.args.sink.now) (g.K.Sink.held c.write_level.new.sink) (omega (arith, c.rank-rank.ensures.limits.size)) c.rank-rank.result c.rank-rank.ensures.rank c.as_slice.result.now (c.as_slice.ensures.value ∙ c.head_text-head.ensures)
+    first_stopped c.args.request.now (g.K.Sink.held c.args.sink.now) (g.K.Sink.held c.write_level.new.sink) (omega (arith, c.laws.ensures.limits.size)) c.rank-rank.result c.rank-rank.ensures c.as_slice.result.now (c.as_slice.ensures.value ∙ c.head_text-head.ensures)
     c.in-Err.why (λ is. c.in-Err.ensures.failed (ap Err is)) (λ is. ap g.K.Sink.held (c.in-Err.ensures.no_memory (ap Err is)))
 
 pub loop-size-init : goal.loop-size-init
 loop-size-init g c = record {
-  begun = first_begun c.args.request.now (g.K.Sink.held c.args.sink.now) (g.K.Sink.held c.write_level.new.sink) (omega (arith, c.rank-rank.ensures.limits.size)) c.rank-rank.result c.rank-rank.ensures.rank c.as_slice.result.now (c.as_slice.ensures.value ∙ c.head_text-head.ensures) c.in_default-write_level.ensures.ok;
-  level = subst (λ n. IsLevelOf c.args.request.now n c.in-Ok.level.forms) (sym c.rank-rank.ensures.rank) c.in-Ok.ensures.forms;
+  begun = first_begun c.args.request.now (g.K.Sink.held c.args.sink.now) (g.K.Sink.held c.write_level.new.sink) (omega (arith, c.laws.ensures.limits.size)) c.rank-rank.result c.rank-rank.ensures c.as_slice.result.now (c.as_slice.ensures.value ∙ c.head_text-head.ensures) c.in_default-write_level.ensures.ok;
+  level = subst (λ n. IsLevelOf c.args.request.now n c.in-Ok.level.forms) (sym c.rank-rank.ensures) c.in-Ok.ensures.forms;
   kept = c.in_default-write_level.ensures.kept;
 }
 

@@ -4,8 +4,8 @@ use Rattle.run_tests.proofs.growth.counts.Goals as goal
 
 pub loop-init : goal.loop-init
 loop-init c = record {
-  at_least = (let e = c.rank-counter.ensures.rank in omega arith);
-  level = subst (λ (n : ℕ). IsLevelOf c.in_ok-request.request n c.in_ok-level.level.forms) (sym c.rank-counter.ensures.rank) c.in_ok-level.ensures.forms;
+  at_least = (let e = c.rank-counter.ensures in omega arith);
+  level = subst (λ (n : ℕ). IsLevelOf c.in_ok-request.request n c.in_ok-level.level.forms) (sym c.rank-counter.ensures) c.in_ok-level.ensures.forms;
 }
 
 pub grow_alone-requires : goal.grow_alone-requires
