@@ -1,3 +1,1 @@
-pub mod PickedColumns
-pub mod Rising
-pub mod Walk
+pub mod Factors

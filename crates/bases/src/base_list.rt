@@ -1,13 +1,15 @@
-// The bases of the first factor in a list.
+//! The bases of the first factor in a list.
 ghost use Rattle.std.specs.Prelude.{◌≡◌, IfOk};
 ghost use Rattle.matroid_theory.specs.Rep.{size};
 ghost use Rattle.matroid_theory.specs.Minor.{AreBases};
 ghost use Rattle.bases.specs.BaseLists.{IsBaseList};
 
-use crate::basis::is_basis;
+use crate::NoMemory;
+use crate::factor::FactorColumns;
+use column_sets::bases_of_columns;
 use field_tables::Mask;
 use product_rep::Rep;
-use std::alloc::{AllocError, Global};
+use std::alloc::Global;
 use std::marker::Model;
 
 /// The bases of the first factor of a representation, as a rising list of masks, with its rank and size. Contracts see a
@@ -35,8 +37,8 @@ impl BaseList {
     ///
     /// # Errors
     ///
-    /// `AllocError` where there was no memory for the list.
-    pub fn of(alloc: Global, rep: &Rep) -> Result<BaseList, AllocError>
+    /// `NoMemory` where there was no memory for the list.
+    pub fn of(alloc: Global, rep: &Rep) -> Result<BaseList, NoMemory>
         ensures rank { IfOk result (λ list. list.rank ≡ rep.now.rank) }
         ensures size { IfOk result (λ list. list.size ≡ size rep.now) }
         ensures bases { IfOk result (λ list. AreBases rep.now list.bases) }
@@ -47,6 +49,13 @@ impl BaseList {
             size: size as u8,
             bases: bases_of(alloc, rep)?,
         })
+    }
+
+    /// What the type keeps, for the proofs of callers: rank 1 to 6, at most 16 elements, and rising masks of rank many of them.
+    pub fn laws(&self)
+        ensures { IsBaseList self.now }
+    {
+        let _bases = &self.bases;
     }
 
     /// The rank, from 1 to 6.
@@ -73,15 +82,10 @@ impl BaseList {
 }
 
 /// The bases of the first factor, from the lowest mask up.
-fn bases_of(alloc: Global, rep: &Rep) -> Result<Vec<Mask>, AllocError>
+fn bases_of(alloc: Global, rep: &Rep) -> Result<Vec<Mask>, NoMemory>
     ensures { IfOk result (λ v. AreBases rep.now v.items) }
 {
-    let mut bases = Vec::new(alloc);
-    for set in 0..1u32 << rep.size() {
-        let set = set as Mask;
-        if is_basis(rep, set) {
-            bases.push(set)?;
-        }
-    }
-    Ok(bases)
+    rep.laws();
+    let first = FactorColumns::of(rep, 0);
+    bases_of_columns(alloc, first.field(), first.columns(), rep.rank())
 }

@@ -1,12 +1,13 @@
+//! Independent sets and bases of a representation.
 ghost use Rattle.std.specs.Prelude.{◌≡◌, ◌<◌, ◌^◌, ◌↔◌, ℕ, Bool, IsTrue};
 ghost use Rattle.matroid_theory.specs.Matrix.{size_below};
-ghost use Rattle.matroid_theory.specs.Rep.{size, count, KeepsLimits};
+ghost use Rattle.matroid_theory.specs.Rep.{size, count};
 ghost use Rattle.matroid_theory.specs.Matroid.{members, IsIndependentIn, IsBasis, Agrees};
-ghost use Rattle.bases.specs.Picked.{ArePicked};
+ghost use Rattle.bases.specs.FactorColumns.{IsFactorOf};
 
-use arrayvec::ArrayVec;
-use elimination::independent;
-use field_tables::{Column, Mask};
+use crate::factor::FactorColumns;
+use column_sets::first_of_size;
+use field_tables::Mask;
 use product_rep::Rep;
 
 /// Whether the set is a basis of the first factor. The set lies within the size: bit j stands for column j.
@@ -14,8 +15,7 @@ pub fn is_basis(rep: &Rep, set: Mask) -> bool
     requires { set < 2 ^ size rep.now }
     ensures { IsTrue result ↔ IsBasis rep.now 0 (members set) }
 {
-    // The proof learns here that there is a first factor.
-    rep.size();
+    rep.laws();
     has_rank_many(rep, set) && is_independent(rep, 0, set)
 }
 
@@ -23,47 +23,42 @@ pub fn is_basis(rep: &Rep, set: Mask) -> bool
 pub fn agree(rep: &Rep) -> bool
     ensures { IsTrue result ↔ Agrees rep.now }
 {
-    let count = rep.factors().count();
-    has_basis(rep) && (count == 1 || have_same_bases(rep))
+    rep.laws();
+    let first = FactorColumns::of(rep, 0);
+    has_basis(rep, &first) && have_same_bases(rep, &first)
 }
 
 /// Whether the first factor has a basis.
-fn has_basis(rep: &Rep) -> bool
+fn has_basis(rep: &Rep, first: &FactorColumns) -> bool
+    requires { IsFactorOf rep.now 0 first.now.field first.now.columns.items }
     ensures { IsTrue result ↔ ((S : ℕ → Bool) × IsBasis rep.now 0 S) }
 {
-    for set in 0..1u32 << rep.size() {
-        if is_basis(rep, set as Mask) {
-            return true;
-        }
-    }
-    false
+    rep.laws();
+    first_of_size(rep.size(), rep.rank(), |set| first.is_independent(set)).is_some()
 }
 
-/// Whether all factors have the same bases.
-fn have_same_bases(rep: &Rep) -> bool
+/// Whether all factors have the bases of the first.
+fn have_same_bases(rep: &Rep, first: &FactorColumns) -> bool
+    requires { IsFactorOf rep.now 0 first.now.field first.now.columns.items }
     ensures { IsTrue result ↔ ((f : ℕ) → f < count rep.now → (S : ℕ → Bool) → (IsBasis rep.now 0 S ↔ IsBasis rep.now f S)) }
 {
-    for set in 0..1u32 << rep.size() {
-        let set = set as Mask;
-        if has_rank_many(rep, set) && !is_alike(rep, set) {
+    for factor in 1..rep.factors().count() {
+        if !is_alike(rep, first, factor) {
             return false;
         }
     }
     true
 }
 
-/// Whether the set is independent in every factor, or in none.
-fn is_alike(rep: &Rep, set: Mask) -> bool
-    requires { 0 < count rep.now }
-    ensures { IsTrue result ↔ ((f : ℕ) → f < count rep.now → (IsIndependentIn rep.now 0 (members set) ↔ IsIndependentIn rep.now f (members set))) }
+/// Whether the factor has the bases of the first.
+fn is_alike(rep: &Rep, first: &FactorColumns, factor: usize) -> bool
+    requires first { IsFactorOf rep.now 0 first.now.field first.now.columns.items }
+    requires factor { factor < count rep.now }
+    ensures { IsTrue result ↔ ((S : ℕ → Bool) → (IsBasis rep.now 0 S ↔ IsBasis rep.now factor S)) }
 {
-    let of_first = is_independent(rep, 0, set);
-    for factor in 1..rep.factors().count() {
-        if is_independent(rep, factor, set) != of_first {
-            return false;
-        }
-    }
-    true
+    rep.laws();
+    let other = FactorColumns::of(rep, factor);
+    first_of_size(rep.size(), rep.rank(), |set| first.differs(&other, set)).is_none()
 }
 
 /// Whether the set, which lies within the size, has as many elements as the rank.
@@ -79,21 +74,6 @@ pub fn is_independent(rep: &Rep, factor: usize, set: Mask) -> bool
     requires { factor < count rep.now }
     ensures { IsTrue result ↔ IsIndependentIn rep.now factor (members set) }
 {
-    let columns = picked(rep, factor, set);
-    independent(rep.factors().field(factor), columns.as_slice())
-}
-
-/// The columns of one factor that are in the set, in their order.
-pub fn picked(rep: &Rep, factor: usize, set: Mask) -> ArrayVec<Column, 16>
-    requires { factor < count rep.now }
-    ensures picked { ArePicked rep.now factor (size rep.now) (members set) result.items }
-    ensures is_rep { KeepsLimits rep.now }
-{
-    let mut columns = ArrayVec::new();
-    for j in 0..rep.size() {
-        if set >> j & 1 == 1 {
-            columns.push(rep.factor_column(factor, j));
-        }
-    }
-    columns
+    rep.laws();
+    FactorColumns::of(rep, factor).is_independent(set)
 }

@@ -3,11 +3,12 @@
 
 mod base_list;
 mod basis;
+mod factor;
 mod simple;
 
 pub use base_list::BaseList;
-pub use basis::{agree, is_basis, is_independent, picked};
+pub use basis::{agree, is_basis, is_independent};
+pub use factor::{FactorColumns, picked};
 pub use simple::is_simple;
-
-#[cfg(test)]
-mod tests;
+/// Want of memory.
+pub use std::alloc::AllocError as NoMemory;

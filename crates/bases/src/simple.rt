@@ -1,8 +1,10 @@
+//! Simple representations.
 ghost use Rattle.std.specs.Prelude.{◌≡◌, ◌<◌, ◌≤◌, ◌↔◌, ◌==◌, ◌||◌, ℕ, IsTrue};
-ghost use Rattle.matroid_theory.specs.Rep.{size, count, KeepsLimits};
+ghost use Rattle.matroid_theory.specs.Rep.{size, count};
 ghost use Rattle.matroid_theory.specs.Matroid.{IsIndependentIn, IsSimple};
+ghost use Rattle.bases.specs.FactorColumns.{IsFactorOf};
 
-use crate::basis::is_independent;
+use crate::factor::FactorColumns;
 use product_rep::Rep;
 
 /// Whether in every factor no column is zero and no two columns are parallel.
@@ -22,23 +24,24 @@ fn is_simple_in(rep: &Rep, factor: usize) -> bool
     requires { factor < count rep.now }
     ensures { IsTrue result ↔ ((i j : ℕ) → i < size rep.now → j < size rep.now → IsIndependentIn rep.now factor (λ k. (k == i) || (k == j))) }
 {
+    let part = FactorColumns::of(rep, factor);
     for j in 0..rep.size() {
-        if !is_apart_from_earlier(rep, factor, j) {
+        if !is_apart_from_earlier(rep, factor, &part, j) {
             return false;
         }
     }
     true
 }
 
-/// Whether in one factor column `j` is nonzero and parallel to none before it.
-fn is_apart_from_earlier(rep: &Rep, factor: usize, j: usize) -> bool
-    requires factor { factor < count rep.now }
+/// Whether in one factor, of these columns, column `j` is nonzero and parallel to none before it.
+fn is_apart_from_earlier(rep: &Rep, factor: usize, part: &FactorColumns, j: usize) -> bool
+    requires part { IsFactorOf rep.now factor part.now.field part.now.columns.items }
     requires column { j < size rep.now }
-    requires is_rep { KeepsLimits rep.now }
     ensures { IsTrue result ↔ ((i : ℕ) → i ≤ j → IsIndependentIn rep.now factor (λ k. (k == i) || (k == j))) }
 {
+    rep.laws();
     for i in 0..=j {
-        if !is_independent(rep, factor, 1 << i | 1 << j) {
+        if !part.is_independent(1 << i | 1 << j) {
             return false;
         }
     }

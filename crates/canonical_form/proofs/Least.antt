@@ -20,7 +20,7 @@ use Rattle.matroid_theory.proofs.Sums.{sum_same}
 use Rattle.matroid_theory.proofs.Frobenius.{times_undone, times_nonzero, inverse_nonzero}
 use Rattle.matroid_theory.proofs.Lists.{distinct_length}
 use Rattle.matroid_theory.proofs.Standard.{standard_by}
-use Rattle.canonical_form.specs.Search.{Reaches, BeginsWith, HasScalars, row_scalar, later, columns_cmp, chosen, IsOrderedBasis, AreScalars, AreOthers, AreCoordinates, IsScaled, AreOtherCoordinates, IsCandidate}
+use Rattle.canonical_form.specs.Search.{Reaches, PicksFirst, HasScalars, row_scalar, later, columns_cmp, chosen, IsOrderedBasis, AreScalars, AreOthers, AreCoordinates, IsScaled, AreOtherCoordinates, IsCandidate}
 use Rattle.canonical_form.proofs.Sorted.{IsMatched, ArePlaces, sorted_least, permutation_places}
 use Rattle.canonical_form.proofs.Scaled.{scaled_least}
 
@@ -42,7 +42,7 @@ module _ (q : ℕ) (F : IsField q) where
       ∙ times_undone q F s (times q d x) m o (F.times_below d x))
 
 module _ (M : Rep) (basis scalars : List ℕ) (rep : KeepsLimits M) (b : IsOrderedBasis M basis) (m : Move) (N : Rep) (reach : Reaches M m N)
-    (begins : BeginsWith basis m) (long : length scalars ≡ M.rank * count M) (has : HasScalars M scalars m) where
+    (begins : PicksFirst basis m) (long : length scalars ≡ M.rank * count M) (has : HasScalars M scalars m) where
   shaped : IsShaped M
   shaped = rep.shaped
 
@@ -254,7 +254,7 @@ module _ (M : Rep) (basis scalars : List ℕ) (rep : KeepsLimits M) (b : IsOrder
     rows_least = sorted_least (slice_cmp nat_cmp) nat_list_cmp_total [] columns (later N) (λ t. pi (at t)) (subst (λ n. length columns ≤ n) (sym later_length) most) h.rising matched
 
 pub candidate_least : (M : Rep) (basis scalars : List ℕ) (columns : List (List ℕ)) → KeepsLimits M → IsOrderedBasis M basis → AreScalars M scalars → IsCandidate M basis scalars columns
-    → (m : Move) (N : Rep) → Reaches M m N → BeginsWith basis m → length scalars ≡ M.rank * count M → HasScalars M scalars m
+    → (m : Move) (N : Rep) → Reaches M m N → PicksFirst basis m → length scalars ≡ M.rank * count M → HasScalars M scalars m
     → columns_cmp columns (later N) ≢ Greater
 candidate_least M basis scalars columns rep b _ h m N reach begins long has =
     let places = permutation_places [] h.scaled columns h.permuted in

@@ -11,7 +11,7 @@ use Rattle.std.proofs.lemmas.List.{length-map}
 use Rattle.arrayvec.specs.ArrayVec.{ArrayVec}
 use Rattle.matroid_theory.proofs.Levels.{columns_total}
 use Rattle.canonical_form.specs.Search.{columns_cmp}
-use Rattle.canonical_form.specs.Found.{lists}
+use Rattle.small_lists.specs.Lists.{lists}
 
 -- the order of vectors, by their codes
 abbrev pub vector_cmp : ArrayVec ℕ → ArrayVec ℕ → Ordering

@@ -12,7 +12,7 @@ use Rattle.matroid_theory.proofs.Sums.{sum_same, combination-same}
 use Rattle.elimination.specs.Columns.{column, matrix_of, height, AreColumns, AreIndependent, IsColumn}
 use Rattle.product_rep.proofs.MoveLemmas.{column-entry, column-length, column_codes}
 use Rattle.canonical_form.specs.Search.{chosen, AreCoordinates}
-use Rattle.canonical_form.specs.Found.{lists}
+use Rattle.small_lists.specs.Lists.{lists}
 
 -- the columns of one factor that are picked out
 pub record ArePicks (M : Rep) (f : ℕ) (columns : List ℕ) (w : List (ArrayVec ℕ)) : Type 0 where

@@ -10,7 +10,7 @@ use Rattle.matroid_theory.specs.Rep.{Rep, Shape, count, order, size, KeepsLimits
 use Rattle.matroid_theory.specs.Move.{Move}
 use Rattle.matroid_theory.proofs.FieldLaws.{field_laws}
 use Rattle.product_rep.proofs.PiecesLemmas.{place_below}
-use Rattle.canonical_form.specs.Search.{Reaches, BeginsWith, HasScalars, row_scalar, AreScalars, AreIndependentColumns, IsOrderedBasis, IsCandidate, AreOfClass, IsNotAbove, columns_cmp, later}
+use Rattle.canonical_form.specs.Search.{Reaches, PicksFirst, HasScalars, row_scalar, AreScalars, AreIndependentColumns, IsOrderedBasis, IsCandidate, AreOfClass, IsNotAbove, columns_cmp, later}
 use Rattle.canonical_form.specs.Found.{IsAtMost, CoversBases, CoversScalars, AreFirstScalars}
 use Rattle.canonical_form.proofs.Least.{candidate_least}
 use Rattle.canonical_form.proofs.Made.{candidate_made}
@@ -26,12 +26,12 @@ pub record IsFound (M : Rep) (old new : Option (List (List ℕ))) : Type 0 where
 -- the scalars are tried with each next one below the code
 pub record IsTriedBelow (M : Rep) (basis scalars : List ℕ) (code : ℕ) (old new : Option (List (List ℕ))) : Type 0 where
   pub found : IsFound M old new
-  pub covers : (m : Move) (N : Rep) → Reaches M m N → BeginsWith basis m → HasScalars M scalars m → row_scalar M m (length scalars % count M) (length scalars / count M) < code → IsNotAbove new N
+  pub covers : (m : Move) (N : Rep) → Reaches M m N → PicksFirst basis m → HasScalars M scalars m → row_scalar M m (length scalars % count M) (length scalars / count M) < code → IsNotAbove new N
 
 -- the ordered bases that begin with the columns are gone through with each next column below j
 pub record IsGoneThroughBelow (M : Rep) (columns : List ℕ) (j : ℕ) (old new : Option (List (List ℕ))) : Type 0 where
   pub found : IsFound M old new
-  pub covers : (m : Move) (N : Rep) → Reaches M m N → BeginsWith columns m → m.label (length columns) < j → IsNotAbove new N
+  pub covers : (m : Move) (N : Rep) → Reaches M m N → PicksFirst columns m → m.label (length columns) < j → IsNotAbove new N
 
 -- where the codes for the next scalar end: after 1 in row 0, and else at the order
 abbrev pub EndsAt : Rep → List ℕ → ℕ → Type 0
@@ -170,7 +170,7 @@ module _ (M : Rep) (r : KeepsLimits M) where
     }
 
     -- what begins with the columns and this one
-    begins_longer : (longer : List ℕ) (j : ℕ) (m : Move) → longer ≡ columns ++ j ∷ [] → BeginsWith columns m → m.label (length columns) ≡ j → BeginsWith longer m
+    begins_longer : (longer : List ℕ) (j : ℕ) (m : Move) → longer ≡ columns ++ j ∷ [] → PicksFirst columns m → m.label (length columns) ≡ j → PicksFirst longer m
     begins_longer longer j m e b d i l =
         let n : length longer ≡ length columns + 1 = ap (λ (w : List ℕ). length w) e ∙ length-append columns (j ∷ []) in
         one_more_item (λ i x. m.label i ≡ x) columns longer j 0 (length columns) refl e b d i (omega arith)

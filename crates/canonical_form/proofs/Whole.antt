@@ -28,7 +28,7 @@ use Rattle.matroid_theory.proofs.Carried.{agrees_carried}
 use Rattle.matroid_theory.proofs.Levels.{columns_total}
 use Rattle.matroid_theory.proofs.First.{row_below, whole}
 use Rattle.matroid_theory.proofs.Prefix.{slice_cmp-append}
-use Rattle.canonical_form.specs.Search.{Reaches, BeginsWith, row_scalar, later, columns_cmp, chosen, AreIndependentColumns, AreOfClass}
+use Rattle.canonical_form.specs.Search.{Reaches, PicksFirst, row_scalar, later, columns_cmp, chosen, AreIndependentColumns, AreOfClass}
 
 -- ---- a part of independent columns
 
@@ -126,7 +126,7 @@ pub row_scalar_first : (M : Rep) (m : Move) (N : Rep) (f : ℕ) → KeepsLimits 
 row_scalar_first M m N f h w l = one_of_first M m N h w f l
 
 -- what begins with these columns has them independent
-pub begins_independent : (M : Rep) (columns : List ℕ) (m : Move) (N : Rep) → KeepsLimits M → length columns ≤ M.rank → Reaches M m N → BeginsWith columns m → AreIndependentColumns M columns
+pub begins_independent : (M : Rep) (columns : List ℕ) (m : Move) (N : Rep) → KeepsLimits M → length columns ≤ M.rank → Reaches M m N → PicksFirst columns m → AreIndependentColumns M columns
 begins_independent M columns m N h le w b = record {
   below = λ l n. subst (λ (x : ℕ). x < size M) (b l n) (w.valid.labels.below l (row_inside M m N h w l (omega arith)));
   independent = λ f l.

@@ -20,8 +20,8 @@ pub record Reaches (M : Rep) (m : Move) (N : Rep) : Type 0 where
   pub standard : IsStandard N
 
 -- the first columns of what the move makes come from these columns, in this order
-abbrev pub BeginsWith : List ℕ → Move → Type 0
-BeginsWith columns m = (i : ℕ) → i < length columns → m.label i ≡ slice_index columns i
+abbrev pub PicksFirst : List ℕ → Move → Type 0
+PicksFirst columns m = (i : ℕ) → i < length columns → m.label i ≡ slice_index columns i
 
 -- what the move multiplies row i of factor f by, against row 0
 abbrev pub row_scalar : Rep → Move → ℕ → ℕ → ℕ

@@ -4,7 +4,7 @@ ghost use Rattle.std.specs.List.Sorted.{IsPermutation, IsSorted};
 ghost use Rattle.std.specs.Cmp.Lexicographic.{slice_cmp};
 ghost use Rattle.std.specs.Ordering.{nat_cmp};
 ghost use Rattle.canonical_form.specs.Search.{columns_cmp};
-ghost use Rattle.canonical_form.specs.Found.{lists};
+ghost use Rattle.small_lists.specs.Lists.{lists};
 
 use arrayvec::ArrayVec;
 use product_rep::ProductColumn;
@@ -16,25 +16,25 @@ pub type ColumnNumbers = ArrayVec<u8, 6>;
 
 /// At most 16 columns. Contracts see the list of their codes.
 #[derive(Drop)]
-pub struct Columns {
+pub struct ColumnList {
     columns: ArrayVec<ProductColumn, 16>,
 }
 
-impl Model for Columns {
+impl Model for ColumnList {
     ghost use Rattle.std.specs.Prelude.{ℕ, List};
-    ghost use Rattle.canonical_form.specs.Found.{lists};
+    ghost use Rattle.small_lists.specs.Lists.{lists};
 
     ghost Value = { List (List ℕ) };
 
     ghost view = { λ s. lists s.columns.items };
 }
 
-impl Columns {
+impl ColumnList {
     /// No column.
-    pub fn new() -> Columns
+    pub fn new() -> ColumnList
         ensures { result ≡ [] }
     {
-        Columns {
+        ColumnList {
             columns: ArrayVec::new(),
         }
     }
@@ -64,22 +64,9 @@ impl Columns {
     }
 
     /// The order of two lists, column by column, and in a column code by code.
-    pub fn compare(&self, other: &Columns) -> Ordering
+    pub fn compare(&self, other: &ColumnList) -> Ordering
         ensures { result ≡ columns_cmp self.now other.now }
     {
         self.columns.cmp(&other.columns)
     }
-}
-
-/// The list with one more at the end.
-pub fn followed_by<const N: usize>(list: &ArrayVec<u8, N>, last: u8) -> ArrayVec<u8, N>
-    requires { length list.now.items < N }
-    ensures { result.items ≡ list.now.items ++ last ∷ [] }
-{
-    let mut longer = ArrayVec::new();
-    for item in list.as_slice() {
-        longer.push(*item);
-    }
-    longer.push(last);
-    longer
 }

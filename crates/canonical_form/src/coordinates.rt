@@ -5,7 +5,7 @@ ghost use Rattle.matroid_theory.specs.Matrix.{combination, IsIndependent};
 ghost use Rattle.matroid_theory.specs.Rep.{column_of, count, matrix, order, size, KeepsLimits};
 ghost use Rattle.canonical_form.specs.Search.{chosen, AreCoordinates, AreIndependentColumns, AreOtherCoordinates, IsOrderedBasis};
 
-use crate::columns::Columns;
+use crate::columns::ColumnList;
 use arrayvec::ArrayVec;
 use elimination::{independent, solve};
 use field_tables::Column;
@@ -47,8 +47,7 @@ fn picked(rep: &Rep, factor: usize, columns: &[u8]) -> ArrayVec<Column, 6>
     ensures columns { (l : ℕ) → l < length columns.now → column result.items l ≡ column_of rep.now factor (slice_index columns.now l) }
     ensures is_rep { KeepsLimits rep.now }
 {
-    // The proof learns here that this is a representation.
-    rep.size();
+    rep.laws();
     let mut list = ArrayVec::new();
     for j in columns {
         list.push(rep.factor_column(factor, usize::from(*j)));
@@ -57,11 +56,11 @@ fn picked(rep: &Rep, factor: usize, columns: &[u8]) -> ArrayVec<Column, 6>
 }
 
 /// The coordinates in the ordered basis of the columns that aren't in it.
-pub fn other_coordinates(rep: &Rep, basis: &[u8]) -> Columns
+pub fn other_coordinates(rep: &Rep, basis: &[u8]) -> ColumnList
     requires { IsOrderedBasis rep.now basis.now }
     ensures { AreOtherCoordinates rep.now basis.now result }
 {
-    let mut list = Columns::new();
+    let mut list = ColumnList::new();
     for k in 0..rep.size() {
         if !basis.contains(&(k as u8)) {
             list.push(coordinates(rep, basis, k));

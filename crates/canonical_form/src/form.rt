@@ -6,7 +6,7 @@ ghost use Rattle.matroid_theory.specs.Move.{AreEquivalent};
 ghost use Rattle.matroid_theory.specs.Order.{IsForm};
 ghost use Rattle.canonical_form.specs.Search.{later, AreOfClass};
 
-use crate::columns::{ColumnNumbers, Columns};
+use crate::columns::{ColumnList, ColumnNumbers};
 use crate::search::try_bases;
 use product_rep::Rep;
 
@@ -17,8 +17,7 @@ pub fn least_form(rep: &Rep) -> Rep
     ensures form { IsForm linear result }
     ensures equivalent { AreEquivalent linear rep.now result }
 {
-    // The proof learns here that this is a representation.
-    rep.size();
+    rep.laws();
     let mut best = None;
     try_bases(rep, ColumnNumbers::new(), &mut best);
     match best {
@@ -28,20 +27,18 @@ pub fn least_form(rep: &Rep) -> Rep
 }
 
 /// The standard representation of that shape with these later columns.
-fn standard(rep: &Rep, columns: &Columns) -> Rep
+fn standard(rep: &Rep, columns: &ColumnList) -> Rep
     requires { AreOfClass rep.now columns.now }
     ensures shape { shape result ≡ shape rep.now }
     ensures shaped { IsShaped result }
     ensures standard { IsStandard result }
     ensures later { later result ≡ columns.now }
 {
-    // The proof learns here that the rank is a small number.
-    rep.size();
+    rep.laws();
     let mut form = Rep::unit(rep.factors(), rep.rank() as u8);
     for column in columns.as_slice() {
         form.push_column(column);
     }
-    // The proof learns here that the codes are in range.
-    form.size();
+    form.laws();
     form
 }

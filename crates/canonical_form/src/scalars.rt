@@ -5,20 +5,21 @@ ghost use Rattle.matroid_theory.specs.Rep.{count, order, IsProductColumn};
 ghost use Rattle.canonical_form.specs.Search.{AreOfClass, AreOtherCoordinates, AreScalars, IsCandidate, IsOrderedBasis, IsScaled};
 ghost use Rattle.canonical_form.specs.Found.{IsAtMost, CoversScalars, AreFirstScalars};
 
-use crate::columns::{ColumnNumbers, Columns, followed_by};
+use crate::columns::{ColumnList, ColumnNumbers};
 use arrayvec::ArrayVec;
 use product_rep::{ProductColumn, Rep};
+use small_lists::followed_by;
 use std::cmp::Ordering;
 
 /// An ordered basis, with the coordinates of the other columns.
 #[derive(Drop)]
 pub struct Frame {
     pub basis: ColumnNumbers,
-    pub coordinates: Columns,
+    pub coordinates: ColumnList,
 }
 
 /// Keeps the least of what is found with this ordered basis, and with row scalars that begin with these.
-pub fn try_scalars(rep: &Rep, frame: &Frame, scalars: &ProductColumn, best: &mut Option<Columns>)
+pub fn try_scalars(rep: &Rep, frame: &Frame, scalars: &ProductColumn, best: &mut Option<ColumnList>)
     requires basis { IsOrderedBasis rep.now frame.now.basis.items }
     requires coordinates { AreOtherCoordinates rep.now frame.now.basis.items frame.now.coordinates }
     requires scalars { AreFirstScalars rep.now scalars.now.items }
@@ -27,8 +28,7 @@ pub fn try_scalars(rep: &Rep, frame: &Frame, scalars: &ProductColumn, best: &mut
     ensures lower { (others : List (List ℕ)) → IsAtMost best.old others → IsAtMost best.new others }
     ensures covers { CoversScalars rep.now frame.now.basis.items scalars.now.items best.new }
 {
-    // The proof learns here that this is a representation.
-    rep.size();
+    rep.laws();
     let factors = rep.factors();
     let count = factors.count();
     let place = scalars.len();
@@ -43,12 +43,12 @@ pub fn try_scalars(rep: &Rep, frame: &Frame, scalars: &ProductColumn, best: &mut
         factors.field(place % count).order()
     };
     for code in 1..end {
-        try_scalars(rep, frame, &followed_by(scalars, code), best);
+        try_scalars(rep, frame, &followed_by(scalars.as_slice(), code), best);
     }
 }
 
 /// Keeps the less of what was found and these columns.
-fn keep_less(best: &mut Option<Columns>, columns: Columns)
+fn keep_less(best: &mut Option<ColumnList>, columns: ColumnList)
     ensures either { (best.new ≡ best.old) ⊎ (best.new ≡ Some columns) }
     ensures at_most { IsAtMost best.new columns }
     ensures lower { (others : List (List ℕ)) → IsAtMost best.old others → IsAtMost best.new others }
@@ -62,12 +62,12 @@ fn keep_less(best: &mut Option<Columns>, columns: Columns)
 }
 
 /// The columns with the frame's coordinates, scaled, in rising order.
-fn candidate(rep: &Rep, frame: &Frame, scalars: &ProductColumn) -> Columns
+fn candidate(rep: &Rep, frame: &Frame, scalars: &ProductColumn) -> ColumnList
     requires coordinates { AreOtherCoordinates rep.now frame.now.basis.items frame.now.coordinates }
     requires scalars { AreScalars rep.now scalars.now.items }
     ensures { IsCandidate rep.now frame.now.basis.items scalars.now.items result }
 {
-    let mut columns = Columns::new();
+    let mut columns = ColumnList::new();
     for column in frame.coordinates.as_slice() {
         columns.push(scaled(rep, scalars, column));
     }

@@ -1,14 +1,15 @@
 -- The rising list of the sets that a test takes, mask by mask.
-use Rattle.std.proofs.Common.{◌≡◌, ℕ, ◌+◌, ◌^◌, ◌<◌, sym, subst, arith, ◌↔◌, ◌⊎◌, Bool, true, false, inl, inr, List, [], ◌∷◌, ◌++◌, IsTrue, refl}
+use Rattle.std.proofs.Common.{◌≡◌, ℕ, ◌+◌, ◌^◌, ◌<◌, sym, subst, arith, ◌↔◌, ◌⊎◌, Bool, true, false, inl, inr, List, [], ◌∷◌, ◌++◌, IsTrue, IsFalse, refl, ◌∙◌, not, Option, Some, None, is_some}
 use Rattle.std.specs.List.{Contains}
 use Rattle.std.specs.List.Sorted.{IsStrictlyIncreasing}
 use Rattle.std.proofs.lemmas.Bool.{cases_lt, false≢true}
+use mathlib.Core.Bool.{true≢false}
 use Rattle.std.proofs.lemmas.List.Elements.{Contains-get_or, Contains-append_left, Contains-push, Contains-push_cases}
 use Rattle.std.proofs.lemmas.List.Kept.{AllPairs-from_increasing}
 use Rattle.std.proofs.lemmas.List.Quantifiers.{all_pairs_push}
 use Rattle.matroid_theory.specs.Matrix.{size_below}
 use Rattle.matroid_theory.specs.Matroid.{members}
-use Rattle.column_sets.specs.Sets.{IsSetOfSize, AreMasks, AreTaken}
+use Rattle.column_sets.specs.Sets.{IsSetOfSize, AreMasks, AreTaken, IsFirstTaken}
 
 -- the same of the masks below m alone
 pub record AreTakenBelow (m n k : ℕ) (answers : ℕ → Bool → Type 0) (masks : List ℕ) : Type 0 where
@@ -53,6 +54,20 @@ module _ (m n k : ℕ) (answers : ℕ → Bool → Type 0) (masks : List ℕ) (h
   -- after the last
   pub all_taken : m ≡ 2 ^ n → AreTaken n k answers masks
   all_taken e = record { rising = h.rising; taken = h.taken; complete = λ X d. h.complete X (let b : X < 2 ^ n = d.below in omega arith) d }
+
+-- whether a set with P was found, where the answers say whether it holds
+pub set_found : (D : ℕ → Type 0) (answers : ℕ → Bool → Type 0) (P : ℕ → Type 0) (r : Option ℕ) (b : Bool) → b ≡ is_some r → ((X : ℕ) → D X → (a : Bool) → answers X a → IsTrue a ↔ P X) → IsFirstTaken D answers r
+    → IsTrue b ↔ ((X : ℕ) × D X × P X)
+set_found D answers P None b e says m = (λ t. absurd (false≢true (sym e ∙ t)), λ w. absurd (false≢true ((says w.0 w.1 false (m.none refl w.0 w.1)).1 w.2)))
+set_found D answers P (Some X) b e says m = (λ _. (X, m.taken.0, (says X m.taken.0 true m.taken.1).0 refl), λ _. e)
+
+-- whether all sets have Q, where the answers say whether one hasn't
+pub no_set_found : (D : ℕ → Type 0) (answers : ℕ → Bool → Type 0) (Q : ℕ → Type 0) (r : Option ℕ) (b : Bool) → is_some r ≡ not b → ((X : ℕ) → D X → (a : Bool) → answers X a → IsFalse a ↔ Q X) → IsFirstTaken D answers r
+    → IsTrue b ↔ ((X : ℕ) → D X → Q X)
+no_set_found D answers Q None true e says m = (λ _ X d. (says X d false (m.none refl X d)).0 refl, λ _. refl)
+no_set_found D answers Q None false e says m = absurd (false≢true e)
+no_set_found D answers Q (Some X) true e says m = absurd (true≢false e)
+no_set_found D answers Q (Some X) false e says m = (λ t. absurd (false≢true t), λ h. absurd (true≢false ((says X m.taken.0 true m.taken.1).1 (h X m.taken.0))))
 
 -- where the answers say whether P holds, the list has exactly the sets with P
 pub masks_of_taken : (n k : ℕ) (answers : ℕ → Bool → Type 0) (P : ℕ → Type 0) (masks : List ℕ) → ((X : ℕ) → IsSetOfSize n k X → (b : Bool) → answers X b → IsTrue b ↔ P X) → AreTaken n k answers masks

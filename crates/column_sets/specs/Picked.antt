@@ -9,7 +9,11 @@ pub record ArePicked (source : ℕ → List ℕ) (n : ℕ) (S : ℕ → Bool) (w
   pub count : length w ≡ size_below n S
   pub columns : (j : ℕ) → j < n → S j ≡ true → column w (size_below j S) ≡ source j
 
+-- the columns in S are independent
+abbrev pub IsIndependentSet : ℕ → List (ArrayVec ℕ) → (ℕ → Bool) → Type 0
+IsIndependentSet q columns S = IsIndependent q (height columns) (length columns) (matrix_of columns) S
+
 -- S is a basis of columns of rank k: an independent set of k of them
 pub record IsBasisOfColumns (q k : ℕ) (columns : List (ArrayVec ℕ)) (S : ℕ → Bool) : Type 0 where
   pub full : size_below (length columns) S ≡ k
-  pub independent : IsIndependent q (height columns) (length columns) (matrix_of columns) S
+  pub independent : IsIndependentSet q columns S

@@ -1,9 +1,8 @@
 //! The columns of a set, picked out in a list.
 ghost use Rattle.std.specs.Prelude.{◌≤◌, ◌↔◌, length, IsTrue, IfOk};
-ghost use Rattle.matroid_theory.specs.Matrix.{IsIndependent};
 ghost use Rattle.matroid_theory.specs.Matroid.{members};
-ghost use Rattle.elimination.specs.Columns.{column, height, matrix_of, AreColumns};
-ghost use Rattle.column_sets.specs.Picked.{ArePicked, IsBasisOfColumns};
+ghost use Rattle.elimination.specs.Columns.{column, height, AreColumns};
+ghost use Rattle.column_sets.specs.Picked.{ArePicked, IsBasisOfColumns, IsIndependentSet};
 ghost use Rattle.column_sets.specs.Sets.{AreMasks};
 
 use crate::sets::{FewSets, few_sets_of_size, in_set, sets_of_size};
@@ -31,7 +30,7 @@ pub fn picked(columns: &[Column], set: Mask) -> ArrayVec<Column, 16>
 pub fn independent_in(field: Field, columns: &[Column], set: Mask) -> bool
     requires count { length columns.now ≤ 16 }
     requires columns { AreColumns field (height columns.now) columns.now }
-    ensures { IsTrue result ↔ IsIndependent field (height columns.now) (length columns.now) (matrix_of columns.now) (members set) }
+    ensures { IsTrue result ↔ IsIndependentSet field columns.now (members set) }
 {
     field.laws();
     let columns = picked(columns, set);

@@ -1,8 +1,8 @@
 //! The sets of the first columns, one after another.
-ghost use Rattle.std.specs.Prelude.{◌≡◌, ◌<◌, ◌≤◌, ◌-◌, ◌^◌, ◌↔◌, ℕ, Bool, true, false, not, IsTrue, IfOk, MatchOption};
+ghost use Rattle.std.specs.Prelude.{◌≡◌, ◌<◌, ◌≤◌, ◌-◌, ◌^◌, ◌↔◌, ℕ, Bool, true, false, not, IsTrue, IfOk};
 ghost use Rattle.matroid_theory.specs.Matrix.{size_below};
 ghost use Rattle.matroid_theory.specs.Matroid.{members};
-ghost use Rattle.column_sets.specs.Sets.{IsSetOfSize, AreTaken};
+ghost use Rattle.column_sets.specs.Sets.{IsSetOfSize, AreTaken, IsFirstTaken};
 
 use arrayvec::ArrayVec;
 use field_tables::Mask;
@@ -61,7 +61,7 @@ fn takes<F: Fn(Mask) -> bool>(n: usize, k: usize, set: Mask, test: &F) -> bool
 pub fn first_set<F: Fn(Mask) -> bool>(n: usize, test: F) -> Option<Mask>
     requires few { n ≤ 16 }
     requires callable { (X : ℕ) → X < 2 ^ n → F.pre test X }
-    ensures { MatchOption result ((X : ℕ) → X < 2 ^ n → F.post test X false) (λ X. (X < 2 ^ n) × F.post test X true) }
+    ensures { IsFirstTaken (λ X. X < 2 ^ n) (λ X b. F.post test X b) result }
 {
     for set in 0..set_count(n) {
         if test(set as Mask) {
@@ -75,8 +75,7 @@ pub fn first_set<F: Fn(Mask) -> bool>(n: usize, test: F) -> Option<Mask>
 pub fn first_of_size<F: Fn(Mask) -> bool>(n: usize, k: usize, test: F) -> Option<Mask>
     requires few { n ≤ 16 }
     requires callable { (X : ℕ) → IsSetOfSize n k X → F.pre test X }
-    ensures { MatchOption result ((X : ℕ) → IsSetOfSize n k X → F.post test X false)
-        (λ X. IsSetOfSize n k X × F.post test X true) }
+    ensures { IsFirstTaken (IsSetOfSize n k) (λ X b. F.post test X b) result }
 {
     for set in 0..set_count(n) {
         let set = set as Mask;

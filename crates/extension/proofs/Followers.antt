@@ -1,10 +1,8 @@
 -- A representation followed by one more column: when it is simple, and when its factors agree.
 use Rattle.std.proofs.Common.{◌≡◌, ◌≢◌, ◌↔◌, ℕ, suc, ◌+◌, ◌^◌, ◌<◌, ◌≤◌, refl, sym, ◌∙◌, ap, subst, arith, add-one, List, [], ◌∷◌, ◌++◌, Bool, true, false, ◌||◌, map, inl, inr}
 use Rattle.std.specs.Bool.{◌==◌}
-use Rattle.std.specs.List.{range_with_len}
 use Rattle.std.proofs.lemmas.Bool.{cases_lt, cases_Bool}
 use mathlib.Core.Bool.{true≢false}
-use Rattle.arrayvec.specs.ArrayVec.{ArrayVec}
 use Rattle.matroid_theory.specs.Matrix.{size_below, IsIndependent}
 use Rattle.matroid_theory.specs.Rep.{Rep, size, count, order, matrix, column_of, IsShaped, IsStandard, KeepsLimits, IsProductColumn}
 use Rattle.matroid_theory.specs.Matroid.{members, IsIndependentIn, IsBasis, Agrees, IsSimple}
@@ -18,9 +16,6 @@ use Rattle.matroid_theory.proofs.Picked.{size_more}
 use Rattle.matroid_theory.proofs.Ranks.{without_last, IsIndependent-codes, but, but_own, but_other}
 use Rattle.matroid_theory.proofs.Rest.{basis_in_whole, basis_in_part}
 use Rattle.matroid_theory.proofs.Sums.{same_number, other_number}
-use Rattle.elimination.specs.Columns.{column}
-use Rattle.bases.specs.Picked.{ArePicked}
-use Rattle.bases.proofs.PickedColumns.{more_picked}
 use Rattle.extension.specs.Admissible.{IsAdmissible}
 use Rattle.extension.specs.Steps.{with_new}
 
@@ -47,19 +42,6 @@ module _ (M : Rep) (v : List ℕ) where
       let a : size_below (suc (size M)) (with_new M S) ≡ suc (size_below (size M) (with_new M S)) = size_more (size M) (with_new M S) (new_last S) in
       let b : size_below (size M) (with_new M S) ≡ size_below (size M) S = size-same (size M) (with_new M S) S (new_before S) in
       ap (λ n. size_below n (with_new M S)) (size_followed M v) ∙ a ∙ ap (λ n. suc n) b ∙ sym (add-one (size_below (size M) S))
-
-  -- the columns of a set in a list, and the new one at the end
-  pub new_picked : (f : ℕ) (S : ℕ → Bool) (w u : List (ArrayVec ℕ)) (y : ArrayVec ℕ) → u ≡ w ++ y ∷ [] → y.items ≡ column_of (followed_by M v) f (size M) → ArePicked M f (size M) S w → ArePicked (followed_by M v) f (size (followed_by M v)) (with_new M S) u
-  new_picked f S w u y e c p =
-      let n : size M + 1 ≡ size (followed_by M v) = (let k : size (followed_by M v) ≡ suc (size M) = size_followed M v in omega arith) in
-      subst (λ (n : ℕ). ArePicked (followed_by M v) f n (with_new M S) u) n
-      (more_picked (followed_by M v) f (size M) (with_new M S) w u y (new_last S) e c (record {
-        count = p.count ∙ sym (size-same (size M) (with_new M S) S (new_before S));
-        columns = λ j l t.
-            ap (column w) (size-same j (with_new M S) S (λ i m. new_before S i (omega arith)))
-            ∙ p.columns j l (sym (new_before S j l) ∙ t)
-            ∙ (λ i. map (λ r. sym (matrix_before M v f r j l) i) (range_with_len 0 M.rank));
-      }))
 
   -- ---- when it is simple
 

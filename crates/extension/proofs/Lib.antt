@@ -1,7 +1,8 @@
-pub mod Followers
-pub mod Multiples
-pub mod Nexts
-pub mod Parallel
 pub mod Places
-pub mod Runs
+pub mod Multiples
 pub mod Values
+pub mod Followers
+pub mod Alike
+pub mod Parallel
+pub mod Nexts
+pub mod Runs

@@ -13,7 +13,7 @@ use Rattle.std.proofs.lemmas.Nat.{mul-add-lt}
 use Rattle.std.proofs.lemmas.Map.Lookups.{exact_bytes}
 use Rattle.arrayvec.specs.ArrayVec.{ArrayVec}
 use Rattle.matroid_theory.specs.Rep.{Rep, count}
-use Rattle.extension.specs.Admissible.{IsAdmissible, IsNextColumn, IsLastColumn, GivesNext, AreColumnsUpTo, AreColumns, ColumnsAfter}
+use Rattle.extension.specs.Admissible.{IsAdmissible, IsNextColumn, IsLastColumn, GivesNext, AreColumnsUpTo, AreAdmissible, ColumnsAfter}
 
 laws : IsTotalOrder (slice_cmp nat_cmp)
 laws = nat_list_cmp_total
@@ -80,7 +80,7 @@ columns_step M last v vs h n = record {
 }
 
 -- where no column is left, these are all
-pub columns_end : (M : Rep) (last : List ℕ) (vs : List (List ℕ)) → AreColumnsUpTo M last vs → IsLastColumn (record { parent = M; last = last }) → AreColumns M vs
+pub columns_end : (M : Rep) (last : List ℕ) (vs : List (List ℕ)) → AreColumnsUpTo M last vs → IsLastColumn (record { parent = M; last = last }) → AreAdmissible M vs
 columns_end M last vs h e = record {
   rising = h.rising;
   exact = λ w. (
@@ -102,7 +102,7 @@ yields_parent : (given : List (ArrayVec ℕ)) (s t : ColumnsAfter) → Yields Gi
 yields_parent [] s t e = ap (λ (t : ColumnsAfter). t.parent) (sym e)
 yields_parent (v ∷ given) s t (j, (n, e), rest) = yields_parent given j t rest ∙ ap (λ (t : ColumnsAfter). t.parent) e
 
-pub whole_run : (M : Rep) (given : List (ArrayVec ℕ)) → 0 < count M → Drains GivesNext (record { parent = M; last = [] }) given → AreColumns M (map (λ v. v.items) given)
+pub whole_run : (M : Rep) (given : List (ArrayVec ℕ)) → 0 < count M → Drains GivesNext (record { parent = M; last = [] }) given → AreAdmissible M (map (λ v. v.items) given)
 whole_run M given pos (u, (t, y, (e, _))) =
-    subst (λ (M : Rep). AreColumns M (map (λ v. v.items) given)) (yields_parent given (record { parent = M; last = [] }) t y)
+    subst (λ (M : Rep). AreAdmissible M (map (λ v. v.items) given)) (yields_parent given (record { parent = M; last = [] }) t y)
     (columns_end t.parent t.last (map (λ v. v.items) given) (yields_columns given (record { parent = M; last = [] }) t [] y (columns_start M pos)) e)

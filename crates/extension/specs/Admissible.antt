@@ -41,7 +41,7 @@ pub record AreColumnsUpTo (M : Rep) (last : List ℕ) (vs : List (List ℕ)) : T
   pub exact : (w : List ℕ) → Contains vs w ↔ (IsAdmissible M w × (slice_cmp nat_cmp w last ≢ Greater))
 
 -- the strictly rising list of exactly the admissible columns
-pub record AreColumns (M : Rep) (vs : List (List ℕ)) : Type 0 where
+pub record AreAdmissible (M : Rep) (vs : List (List ℕ)) : Type 0 where
   pub rising : AllPairs (λ v w. slice_cmp nat_cmp v w ≡ Less) vs
   pub exact : (w : List ℕ) → Contains vs w ↔ IsAdmissible M w
 

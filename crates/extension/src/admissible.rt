@@ -1,16 +1,19 @@
-ghost use Rattle.std.specs.Prelude.{◌≡◌, ◌<◌, ◌+◌, ◌*◌, ◌^◌, ◌↔◌, ◌==◌, ◌||◌, ℕ, IsTrue, length, slice_index};
+ghost use Rattle.std.specs.Prelude.{◌≡◌, ◌<◌, ◌+◌, ◌*◌, ◌^◌, ◌↔◌, ◌==◌, ◌||◌, ℕ, IsTrue, IsFalse, length, slice_index};
 ghost use Rattle.elimination.specs.Columns.{IsColumn};
 ghost use Rattle.matroid_theory.specs.Field.{times};
-ghost use Rattle.matroid_theory.specs.Rep.{size, count, KeepsLimits, IsStandard, IsProductColumn};
+ghost use Rattle.matroid_theory.specs.Rep.{size, count, column_of, KeepsLimits, IsStandard, IsProductColumn};
 ghost use Rattle.matroid_theory.specs.Matrix.{size_below};
 ghost use Rattle.matroid_theory.specs.Matroid.{members, IsIndependentIn, IsSimple, Agrees};
 ghost use Rattle.matroid_theory.specs.Level.{followed_by, IsNormalised};
+ghost use Rattle.column_sets.specs.Picked.{IsIndependentSet};
 ghost use Rattle.extension.specs.Admissible.{IsAdmissible};
 ghost use Rattle.extension.specs.Steps.{with_new};
 
 use crate::normalised::lead;
-use crate::with_column::{is_independent_with, part};
-use field_tables::{Field, Mask};
+use arrayvec::ArrayVec;
+use bases::FactorColumns;
+use column_sets::first_of_size;
+use field_tables::{Column, Field, Mask};
 use product_rep::{ProductColumn, Rep};
 
 /// Whether the representation followed by a normalised column is simple and its factors agree.
@@ -22,8 +25,7 @@ pub fn is_admissible(rep: &Rep, column: &ProductColumn) -> bool
     requires normalised { IsNormalised rep.now.factors rep.now.rank column.now.items }
     ensures { IsTrue result ↔ IsAdmissible rep.now column.now.items }
 {
-    // The proof learns here that the rank isn't 0.
-    rep.size();
+    rep.laws();
     let count = rep.factors().count();
     is_apart(rep, column) && (count == 1 || is_alike(rep, column))
 }
@@ -88,6 +90,22 @@ fn is_multiple(field: Field, column: &[u8], of: &[u8], lead: usize) -> bool
     true
 }
 
+/// One factor of the column.
+fn part(rep: &Rep, column: &ProductColumn, factor: usize) -> Column
+    requires is_rep { KeepsLimits rep.now }
+    requires factor { factor < count rep.now }
+    requires column { IsProductColumn rep.now.factors rep.now.rank column.now.items }
+    ensures { result.items ≡ column_of (followed_by rep.now column.now.items) factor (size rep.now) }
+{
+    let codes = column.as_slice();
+    let count = rep.factors().count();
+    let mut part = ArrayVec::new();
+    for i in 0..rep.rank() {
+        part.push(codes[i * count + factor]);
+    }
+    part
+}
+
 /// Whether each set of one column fewer than the rank is, together with the column, independent in every factor or in none.
 fn is_alike(rep: &Rep, column: &ProductColumn) -> bool
     requires room { size rep.now < 16 }
@@ -97,30 +115,51 @@ fn is_alike(rep: &Rep, column: &ProductColumn) -> bool
         (IsIndependentIn (followed_by rep.now column.now.items) 0 (with_new rep.now (members X)) ↔
         IsIndependentIn (followed_by rep.now column.now.items) f (with_new rep.now (members X)))) }
 {
-    let rank = rep.rank();
-    for set in 0..1u32 << rep.size() {
-        let set = set as Mask;
-        if set.count_ones() as usize + 1 == rank && !is_alike_with(rep, column, set) {
+    let mut longer = rep.copy();
+    longer.push_column(column);
+    has_alike_factors(rep, &longer)
+}
+
+/// Whether each set of one column fewer than the rank is, together with the last column of the longer representation,
+/// independent in every factor of that one or in none.
+fn has_alike_factors(rep: &Rep, longer: &Rep) -> bool
+    requires { size rep.now < 16 }
+    ensures { IsTrue result ↔ ((X f : ℕ) → X < 2 ^ size rep.now → size_below (size rep.now) (members X) + 1 ≡ rep.now.rank →
+        f < count longer.now →
+        (IsIndependentIn longer.now 0 (with_new rep.now (members X)) ↔ IsIndependentIn longer.now f (with_new rep.now (members X)))) }
+{
+    longer.laws();
+    let first = FactorColumns::of(longer, 0);
+    for factor in 1..longer.factors().count() {
+        let other = FactorColumns::of(longer, factor);
+        if !is_alike_in(rep, &first, &other) {
             return false;
         }
     }
     true
 }
 
-/// Whether the set is, together with the column, independent in every factor or in none.
-fn is_alike_with(rep: &Rep, column: &ProductColumn, set: Mask) -> bool
-    requires some { 0 < count rep.now }
-    requires room { size rep.now < 16 }
-    requires column { IsProductColumn rep.now.factors rep.now.rank column.now.items }
-    ensures { IsTrue result ↔ ((f : ℕ) → f < count rep.now →
-        (IsIndependentIn (followed_by rep.now column.now.items) 0 (with_new rep.now (members set)) ↔
-        IsIndependentIn (followed_by rep.now column.now.items) f (with_new rep.now (members set)))) }
+/// Whether each set of one column fewer than the rank is, together with the column after the last one, independent in both
+/// factors or in none.
+fn is_alike_in(rep: &Rep, first: &FactorColumns, other: &FactorColumns) -> bool
+    requires { size rep.now < 16 }
+    ensures { IsTrue result ↔ ((X : ℕ) → X < 2 ^ size rep.now → size_below (size rep.now) (members X) + 1 ≡ rep.now.rank →
+        (IsIndependentSet first.now.field first.now.columns.items (with_new rep.now (members X)) ↔
+        IsIndependentSet other.now.field other.now.columns.items (with_new rep.now (members X)))) }
 {
-    let of_first = is_independent_with(rep, column, 0, set);
-    for factor in 1..rep.factors().count() {
-        if is_independent_with(rep, column, factor, set) != of_first {
-            return false;
-        }
-    }
-    true
+    rep.laws();
+    let size = rep.size();
+    first_of_size(size, rep.rank() - 1, |set| {
+        differs_with(first, other, size, set)
+    })
+    .is_none()
+}
+
+/// Whether the set is, together with one column, independent in one of the two factors alone.
+fn differs_with(first: &FactorColumns, other: &FactorColumns, new: usize, set: Mask) -> bool
+    requires { new < 16 }
+    ensures { IsFalse result ↔ (IsIndependentSet first.now.field first.now.columns.items (λ j. (j == new) || members set j) ↔
+        IsIndependentSet other.now.field other.now.columns.items (λ j. (j == new) || members set j)) }
+{
+    first.differs(other, set | 1 << new)
 }

@@ -8,6 +8,7 @@ ghost use Rattle.extension.specs.Steps.{IsStart, KeepsColumns};
 use crate::admissible::is_admissible;
 use crate::normalised::following;
 use product_rep::{ProductColumn, Rep};
+use small_lists::list_of;
 use std::marker::Model;
 
 /// The columns by which a standard simple representation whose factors agree, of fewer than 16 columns, can be extended:
@@ -39,8 +40,7 @@ impl Columns {
         requires room { size rep.now < 16 }
         ensures { result ≡ record { parent = rep.now; last = [] } }
     {
-        // The proof learns here that the representation is in range.
-        rep.size();
+        rep.laws();
         Columns {
             rep: rep.copy(),
             last: ProductColumn::new(),
@@ -57,7 +57,7 @@ impl Iterator for Columns {
 
     fn next(&mut self) -> Option<ProductColumn> {
         let column = next_column(&self.rep, &self.last)?;
-        self.last = copy_of(&column);
+        self.last = list_of(column.as_slice());
         Some(column)
     }
 }
@@ -70,7 +70,7 @@ fn next_column(rep: &Rep, last: &ProductColumn) -> Option<ProductColumn>
 {
     let factors = rep.factors();
     let rank = rep.rank();
-    let mut before = copy_of(last);
+    let mut before: ProductColumn = list_of(last.as_slice());
     while let Some(column) = following(&factors, rank, before.as_slice()) {
         if is_admissible(rep, &column) {
             return Some(column);
@@ -78,15 +78,4 @@ fn next_column(rep: &Rep, last: &ProductColumn) -> Option<ProductColumn>
         before = column;
     }
     None
-}
-
-/// The same column.
-fn copy_of(column: &ProductColumn) -> ProductColumn
-    ensures { result.items ≡ column.now.items }
-{
-    let mut copy = ProductColumn::new();
-    for code in column.as_slice() {
-        copy.push(*code);
-    }
-    copy
 }

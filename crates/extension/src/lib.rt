@@ -9,6 +9,5 @@ mod admissible;
 mod columns;
 pub mod laws;
 mod normalised;
-mod with_column;
 
 pub use columns::Columns;

@@ -113,10 +113,10 @@ wanted_made (ListsWith n) m is = cc (is)
 wanted_made _ m is = cc (is)
 
 -- an entry is one of a kind, or not
-abbrev of_kind : ℕ → Statement → ℕ
+abbrev pub of_kind : ℕ → Statement → ℕ
 of_kind kind e = cond (kind_number e == kind) 1 0
 
-count_cons : (kind : ℕ) (e : Statement) (entries : List Statement) → count_of_kind kind (e ∷ entries) ≡ of_kind kind e + count_of_kind kind entries
+pub count_cons : (kind : ℕ) (e : Statement) (entries : List Statement) → count_of_kind kind (e ∷ entries) ≡ of_kind kind e + count_of_kind kind entries
 count_cons kind e entries = sum_by-cons (of_kind kind) e entries
 
 count_append : (kind : ℕ) (xs ys : List Statement) → count_of_kind kind (xs ++ ys) ≡ count_of_kind kind xs + count_of_kind kind ys
@@ -318,7 +318,7 @@ kinds_bound kind = cond (0 == kind) 1 0 + (cond (2 == kind) 1 0 + (cond (1 == ki
 kind_differs : (m n kind : ℕ) → m < kind → cond (m == kind) n 0 ≡ 0
 kind_differs m n kind lt = grind (arith, nat_tests)
 
-some_of_kind : (kind : ℕ) → 1 ≤ most_of_kind kind
+pub some_of_kind : (kind : ℕ) → 1 ≤ most_of_kind kind
 some_of_kind kind = grind (arith, nat_tests)
 
 -- there is none beyond the last kind

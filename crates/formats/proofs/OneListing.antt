@@ -12,7 +12,7 @@ use Rattle.formats.specs.Listing.{LevelEntry, listing_blocks, text_of_blocks}
 use Rattle.formats.specs.Levels.{AreGivenBy, Grows, Keeps, HasTries, IsLevelEntry, AreFirstLevels, AreLevels, IsListing, columns_of}
 
 -- matroids that are given so are one list
-given_same : (gs : List Given) (xs ys : List Matroid) → AreGivenBy gs xs → AreGivenBy gs ys → xs ≡ ys
+pub given_same : (gs : List Given) (xs ys : List Matroid) → AreGivenBy gs xs → AreGivenBy gs ys → xs ≡ ys
 given_same [] [] [] h g = refl
 given_same [] [] (y ∷ ys) h g = absurd g
 given_same [] (x ∷ xs) ys h g = absurd h
@@ -20,7 +20,7 @@ given_same (given ∷ gs) [] ys h g = absurd h
 given_same (given ∷ gs) (x ∷ xs) [] h g = absurd g
 given_same (given ∷ gs) (x ∷ xs) (y ∷ ys) h g = λ i. given_unique given x y h.0 g.0 i ∷ given_same gs xs ys h.1 g.1 i
 
-matroid_same : (m n : Option Matroid) → option_to_list m ≡ option_to_list n → m ≡ n
+pub matroid_same : (m n : Option Matroid) → option_to_list m ≡ option_to_list n → m ≡ n
 matroid_same None None e = refl
 matroid_same None (Some y) e = cc (e)
 matroid_same (Some x) None e = cc (e)

@@ -197,7 +197,7 @@ whole : (bytes : List ℕ) → AreText bytes → strip_carriage_return bytes ≡
 whole bytes all = ap (λ (b : Bool). cond b (take (length bytes - 1) bytes) bytes) (not_return bytes all)
 
 -- the first line of a text
-pieces_cons : (line : List ℕ) (pieces : List (List ℕ)) → 0 < length pieces → lines_of_pieces (line ∷ pieces) ≡ strip_carriage_return line ∷ lines_of_pieces pieces
+pub pieces_cons : (line : List ℕ) (pieces : List (List ℕ)) → 0 < length pieces → lines_of_pieces (line ∷ pieces) ≡ strip_carriage_return line ∷ lines_of_pieces pieces
 pieces_cons line [] some = absurd (omega arith)
 pieces_cons line (next ∷ more) some = refl
 

@@ -26,20 +26,20 @@ use Rattle.formats.specs.Statement.{MinorName, Uniform, Fano, FanoDual, NonFano,
 use Rattle.formats.specs.Request.{Request, SayInTurn, AskFor, StandsFor}
 
 -- a text that has no comma in front of the first comma of another
-abbrev NoComma : List ℕ → Type 0
+abbrev pub NoComma : List ℕ → Type 0
 NoComma bytes = AllByRecursion (λ b. 48 ≤ b) bytes
 
-no_comma : (bytes : List ℕ) → AllDigits 10 bytes → NoComma bytes
+pub no_comma : (bytes : List ℕ) → AllDigits 10 bytes → NoComma bytes
 no_comma [] all = tt
 no_comma (b ∷ bytes) all = (let range = digit_from_value b all.0 in omega (arith, range.0), no_comma bytes all.1)
 
-decimal_no_comma : (n : ℕ) → IsNumber n → NoComma (decimal n)
+pub decimal_no_comma : (n : ℕ) → IsNumber n → NoComma (decimal n)
 decimal_no_comma n lt = no_comma (decimal n) ((decimal_is_IsNumeral n (omega arith)).0.1)
 
 same_decimal : (m n : ℕ) → IsNumber m → IsNumber n → decimal m ≡ decimal n → m ≡ n
 same_decimal m n p q e = decimal_injective m n (omega arith) (omega arith) e
 
-split_comma : (a b c d : List ℕ) → NoComma a → NoComma c → a ++ 44 ∷ b ≡ c ++ 44 ∷ d → (a ≡ c) × (b ≡ d)
+pub split_comma : (a b c d : List ℕ) → NoComma a → NoComma c → a ++ 44 ∷ b ≡ c ++ 44 ∷ d → (a ≡ c) × (b ≡ d)
 split_comma [] b [] d p q e = (refl, cc (e))
 split_comma [] b (y ∷ c) d p q e = let h : 44 ≡ y = cc (e) in absurd (omega (arith, h, q.0))
 split_comma (x ∷ a) b [] d p q e = let h : x ≡ 44 = cc (e) in absurd (omega (arith, h, p.0))

@@ -16,8 +16,8 @@ use Rattle.request_reader.specs.Filters.{wanted_matroid}
 use Rattle.level_driver.specs.Asked.{filters_of}
 use Rattle.level_driver.specs.Grown.{IsLevelOf, TellsPassing}
 use Rattle.level_driver.specs.Listed.{PassesAlone, AreMatroidsOf, IsFirst}
-use Rattle.level_driver.proofs.MinorsCarried.{all_given_unique}
 use Rattle.level_driver.proofs.Earlier.{IsEarliest, earliest, first, passes_all, passes_alone, is_earliest}
+use Rattle.formats.proofs.OneListing.{given_same, matroid_same}
 
 -- these are the filters of the request, and the wanted minor is that of its name
 pub record AreAsked (q : Request) (f : Filters) : Type 0 where
@@ -26,12 +26,6 @@ pub record AreAsked (q : Request) (f : Filters) : Type 0 where
   pub cosimple : f.cosimple ≡ q.cosimple
   pub distinct : f.distinct ≡ q.distinct
   pub given : AreGivenBy (map given_as (option_to_list q.has)) (option_to_list (wanted_matroid f))
-
-same_option : (a b : Option Matroid) → option_to_list a ≡ option_to_list b → a ≡ b
-same_option None None e = refl
-same_option None (Some N) e = cc
-same_option (Some N) None e = cc
-same_option (Some N) (Some L) e = cc
 
 pub same_filters : (q : Request) (f : Filters) (filters : theory.Filters) → AreAsked q f → Keeps q filters → filters ≡ filters_of f
 same_filters q f filters asked keeps = λ i. record {
@@ -43,7 +37,7 @@ same_filters q f filters asked keeps = λ i. record {
 }
   where
     has : filters.has ≡ wanted_matroid f
-    has = same_option filters.has (wanted_matroid f) (all_given_unique (map given_as (option_to_list q.has)) (option_to_list filters.has) (option_to_list (wanted_matroid f)) keeps.has asked.given)
+    has = matroid_same filters.has (wanted_matroid f) (given_same (map given_as (option_to_list q.has)) (option_to_list filters.has) (option_to_list (wanted_matroid f)) keeps.has asked.given)
 
 -- the form passes alone, and none before it has its matroid, where that is asked
 pub record PassesAt (f : Filters) (forms : List Rep) (i : ℕ) (M : Rep) : Type 0 where

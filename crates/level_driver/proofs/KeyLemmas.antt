@@ -17,6 +17,7 @@ use Rattle.matroid_theory.specs.Order.{rep_cmp}
 use Rattle.level_driver.specs.Keys.{columns_of_key}
 use Rattle.level_driver.specs.Children.{rep_of, Adds}
 use Rattle.level_driver.proofs.Counts.{there, Contains-map, Contains-from_map}
+use Rattle.matroid_theory.proofs.Levels.{then_equal}
 
 -- the order of columns, and of lists of columns
 abbrev pub column_cmp : ArrayVec ℕ → ArrayVec ℕ → Ordering
@@ -24,11 +25,6 @@ column_cmp v w = slice_cmp nat_cmp v.items w.items
 
 abbrev pub key_cmp : ArrayVec (ArrayVec ℕ) → ArrayVec (ArrayVec ℕ) → Ordering
 key_cmp v w = slice_cmp column_cmp v.items w.items
-
-then_equal : (r s : Ordering) → ordering_then r s ≡ Equal → (r ≡ Equal) × (s ≡ Equal)
-then_equal Less s e = cc
-then_equal Equal s e = (refl, e)
-then_equal Greater s e = cc
 
 exact_lists : {X : Type 0} (R : X → X → Ordering) → CmpEqualImpliesEq R → CmpEqualImpliesEq (slice_cmp R)
 exact_lists R exact [] [] e = refl

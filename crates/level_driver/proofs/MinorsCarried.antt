@@ -73,12 +73,3 @@ module _ (mode : Mode) (M L : Rep) (e : AreEquivalent mode M L) (some : 0 < coun
 pub avoids_over : (mode : Mode) (M L : Rep) → AreEquivalent mode M L → 0 < count M → (Ns : List Matroid) → Avoids Ns M → Avoids Ns L
 avoids_over mode M L e some Ns avoids k d l minor =
     avoids k d l (minor_over mode L M (equivalent-symmetric mode M L e) (subst (λ (n : ℕ). 0 < n) (sym (ap (λ s. length s.factors) e.takes.same_shape)) some) _ minor)
-
--- what is given, one after another, is one list of matroids
-pub all_given_unique : (givens : List Given) (Ns Ms : List Matroid) → AreGivenBy givens Ns → AreGivenBy givens Ms → Ns ≡ Ms
-all_given_unique [] [] [] h g = refl
-all_given_unique [] [] (M ∷ Ms) h g = absurd g
-all_given_unique [] (N ∷ Ns) Ms h g = absurd h
-all_given_unique (given ∷ givens) [] Ms h g = absurd h
-all_given_unique (given ∷ givens) (N ∷ Ns) [] h g = absurd g
-all_given_unique (given ∷ givens) (N ∷ Ns) (M ∷ Ms) h g = λ i. given_unique given N M h.0 g.0 i ∷ all_given_unique givens Ns Ms h.1 g.1 i

@@ -10,11 +10,11 @@ use Rattle.formats.specs.Minors.{given_as}
 use Rattle.formats.specs.Request.{Request}
 use Rattle.formats.specs.Levels.{AreGivenBy, Grows}
 use Rattle.level_driver.specs.Forbidden.{Avoids}
-use Rattle.level_driver.proofs.MinorsCarried.{all_given_unique}
+use Rattle.formats.proofs.OneListing.{given_same}
 
 -- the matroids that are given so are those that are forbidden to what the request grows
 pub forbidden_are : (q : Request) (Ns : List Matroid) (family : Family) → AreGivenBy (map given_as q.forbid) Ns → Grows q family → Ns ≡ family.forbidden
-forbidden_are q Ns family given grows = all_given_unique (map given_as q.forbid) Ns family.forbidden given grows.forbids
+forbidden_are q Ns family given grows = given_same (map given_as q.forbid) Ns family.forbidden given grows.forbids
 
 module _ (q : Request) (U : Rep) (is_rep : KeepsLimits U) (standard : IsStandard U) (shape_is : shape U ≡ record { factors = q.factors; rank = q.rank; size = q.rank }) where
   square : size U ≡ U.rank

@@ -18,6 +18,3 @@ pub use form_list::FormList;
 pub use growth::grow_alone;
 pub use level::{Level, first_level};
 pub use shown::listed;
-
-#[cfg(test)]
-mod tests;

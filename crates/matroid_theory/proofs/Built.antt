@@ -11,7 +11,7 @@ use Rattle.matroid_theory.specs.Rep.{Rep, Shape, shape, matrix, order, count, si
 use Rattle.matroid_theory.specs.Matroid.{IsBasis, Agrees}
 use Rattle.matroid_theory.specs.declared.Mode.{Mode}
 use Rattle.matroid_theory.specs.Move.{Move, ArePermutation, AllowsPower, IsMove, moved, TakesTo, AreEquivalent}
-use Rattle.matroid_theory.proofs.FieldLaws.{field_laws}
+use Rattle.matroid_theory.proofs.FieldLaws.{field_laws, off_from_not}
 use Rattle.matroid_theory.proofs.Frobenius.{raised_below, inverse_raised}
 use Rattle.matroid_theory.proofs.Sums.{sum_same, sum_times, sum_times_right, times_zero, zero_times, same_number, other_number}
 use Rattle.matroid_theory.proofs.Dimension.{inverse_matrix}
@@ -22,10 +22,6 @@ use Rattle.matroid_theory.proofs.Equivalence.{allowed_zero}
 use Rattle.matroid_theory.proofs.Standard.{ordered_independent}
 
 -- ---- the members of a set first, then the others
-
-outside_false : (b : Bool) → not b ≡ true → b ≡ false
-outside_false true e = sym e
-outside_false false e = refl
 
 abbrev others : (ℕ → Bool) → ℕ → Bool
 others S j = not (S j)
@@ -70,7 +66,7 @@ module _ (n : ℕ) (S : ℕ → Bool) where
     there = λ j l. elim (cases_lt j (size_below n S)) [
       | inl b ↦ (let P = pick_picks n S in ap (place_first n S) (member_at j b) ∙ place_in (pick n S j) (P.member j b) ∙ P.rank j b)
       | inr g ↦ (let P = pick_picks n (others S) in
-          ap (place_first n S) (other_at j g) ∙ place_out (pick n (others S) (j - size_below n S)) (outside_false _ (P.member (j - size_below n S) (past j l g)))
+          ap (place_first n S) (other_at j g) ∙ place_out (pick n (others S) (j - size_below n S)) (off_from_not _ (P.member (j - size_below n S) (past j l g)))
           ∙ ap (λ y. size_below n S + y) (P.rank (j - size_below n S) (past j l g)) ∙ omega arith)
     ];
     back = λ x l. elim (cases_Bool (S x)) [

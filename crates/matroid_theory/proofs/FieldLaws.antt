@@ -1,5 +1,5 @@
 -- The laws of the fields, by one test over each whole table.
-use Rattle.std.proofs.Common.{◌≡◌, ◌≢◌, ℕ, zero, suc, ◌-◌, ◌/◌, ◌%◌, ◌<◌, refl, sym, ◌∙◌, ap, subst, [], ◌∷◌, Bool, true, false, ◌&&◌, ◌||◌, arith, inl, inr, eqb-true, lit<}
+use Rattle.std.proofs.Common.{◌≡◌, ◌≢◌, ℕ, zero, suc, ◌-◌, ◌/◌, ◌%◌, ◌<◌, refl, sym, ◌∙◌, ap, subst, [], ◌∷◌, Bool, true, false, not, ◌&&◌, ◌||◌, arith, inl, inr, eqb-true, lit<}
 use Rattle.std.specs.Bool.{◌==◌, nat_lt}
 use Rattle.std.specs.List.{slice_index_or}
 use Rattle.std.proofs.lemmas.Bool.{cases_lt, or_cases}
@@ -27,6 +27,15 @@ all_below-at (suc n) p h i l =
       | inl b ↦ all_below-at n p (both_right (p n) _ h) i b
       | inr g ↦ (let e : i ≡ n = omega arith in rw e (both_left (p n) _ h))
     ]
+
+-- a test that fails isn't passed, and one whose negation passes fails
+pub no_way : (b : Bool) → b ≡ true → not b ≡ true → ⊥
+no_way true h g = cc
+no_way false h g = cc
+
+pub off_from_not : (b : Bool) → not b ≡ true → b ≡ false
+off_from_not true e = sym e
+off_from_not false e = refl
 
 -- what holds at each order holds at every one
 pub by_order : (P : ℕ → Type 0) → P 2 → P 3 → P 4 → P 5 → P 7 → P 8 → P 9 → (q : ℕ) → IsOrder q → P q

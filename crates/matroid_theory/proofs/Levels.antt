@@ -29,7 +29,7 @@ rep_cmp-transitive M N L h g = let t = columns_total in t.trans M.columns N.colu
 pub rep_cmp-reversed : (M N : Rep) → rep_cmp N M ≡ ordering_reverse (rep_cmp M N)
 rep_cmp-reversed M N = let t = columns_total in t.antisymm N.columns M.columns
 
-then_equal : (r s : Ordering) → ordering_then r s ≡ Equal → (r ≡ Equal) × (s ≡ Equal)
+pub then_equal : (r s : Ordering) → ordering_then r s ≡ Equal → (r ≡ Equal) × (s ≡ Equal)
 then_equal Less s e = cc
 then_equal Equal s e = (refl, e)
 then_equal Greater s e = cc

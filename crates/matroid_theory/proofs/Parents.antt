@@ -1,7 +1,7 @@
 -- A form of a level of size above the rank is a form of the level before and a normalised column after it, so a try.
-use Rattle.std.proofs.Common.{◌≡◌, ℕ, suc, ◌+◌, ◌<◌, ◌≤◌, sym, subst, arith, List, length}
+use Rattle.std.proofs.Common.{◌≡◌, ℕ, suc, ◌<◌, ◌≤◌, subst, arith, List}
 use Rattle.std.specs.Bool.{nat_lt}
-use Rattle.matroid_theory.specs.Rep.{Rep, count, size}
+use Rattle.matroid_theory.specs.Rep.{Rep, size}
 use Rattle.matroid_theory.specs.Order.{IsForm}
 use Rattle.matroid_theory.specs.Level.{Family, IsLevelForm, IsNormalised, IsTry, followed_by}
 use Rattle.matroid_theory.proofs.Followed.{size_followed}
@@ -22,7 +22,6 @@ last_try q n P v room h = record {
   member = h.member;
 }
   where
-
     enough : P.rank ≤ size P
     enough =
         let m = h.member in

@@ -5,7 +5,7 @@ use Rattle.std.proofs.lemmas.Bool.{or_cases}
 use Rattle.std.proofs.lemmas.Slice.Eq.{bytes_eq-Decides}
 use Rattle.std.specs.Str.{bytes_eq}
 use Rattle.matroid_theory.specs.Field.{IsOrder, times, poly, characteristic, degree, remainder, modulus, product_number, multiple_number, IsProduct, IsSum, plus, number, poly_plus}
-use Rattle.matroid_theory.proofs.FieldLaws.{by_order, each, each_pair, at_pair, all_below, all_below-at}
+use Rattle.matroid_theory.proofs.FieldLaws.{by_order, each, each_pair, at_pair, all_below, all_below-at, no_way}
 
 abbrev any_below : ℕ → (ℕ → Bool) → Bool
 any_below zero p = false
@@ -26,10 +26,6 @@ some_factor-test = by_order (λ q. each_pair q (λ a b. any_below q (λ m. produ
 only_product-test : (q : ℕ) → IsOrder q → each_pair q (λ a b. all_below q (λ c. all_below q (λ m. not (product_number q a b == multiple_number q c m) || (c == times q a b)))) ≡ true
 unfolding times poly characteristic degree remainder modulus product_number multiple_number
 only_product-test = by_order (λ q. each_pair q (λ a b. all_below q (λ c. all_below q (λ m. not (product_number q a b == multiple_number q c m) || (c == times q a b)))) ≡ true) refl refl refl refl refl refl refl
-
-no_way : (b : Bool) → b ≡ true → not b ≡ true → ⊥
-no_way true h g = cc
-no_way false h g = cc
 
 pub product_exact : (q : ℕ) → IsOrder q → (a b c : ℕ) → a < q → b < q → c < q → IsProduct q a b c ↔ (c ≡ times q a b)
 product_exact q o a b c l m n = (only, (λ e. subst (IsProduct q a b) (sym e) some))

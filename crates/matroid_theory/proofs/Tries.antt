@@ -1,5 +1,5 @@
 -- Independence by trying all coefficients, for examples that the checker computes.
-use Rattle.std.proofs.Common.{◌≡◌, ◌≢◌, ℕ, zero, suc, ◌<◌, refl, sym, ◌∙◌, ap, arith, cond, Bool, true, false, ◌&&◌, ◌||◌, not, inl, inr, eqb-true, eq-eqb, List}
+use Rattle.std.proofs.Common.{◌≡◌, ◌≢◌, ℕ, zero, suc, ◌<◌, refl, sym, ◌∙◌, ap, arith, cond, Bool, true, ◌&&◌, ◌||◌, not, inl, inr, eqb-true, eq-eqb, List}
 use Rattle.std.specs.Bool.{◌==◌, nat_lt}
 use Rattle.std.specs.List.{slice_index}
 use mathlib.Core.Bool.{true≢false}
@@ -7,7 +7,7 @@ use borrow.Author.Tests.{ltb-true}
 use Rattle.std.proofs.lemmas.Bool.{cases_lt, or_cases, cases_Bool}
 use Rattle.matroid_theory.specs.Field.{plus, times}
 use Rattle.matroid_theory.specs.Matrix.{Matrix, combination, AreCoefficients, IsIndependent}
-use Rattle.matroid_theory.proofs.FieldLaws.{all_below, all_below-at, both_left, both_right}
+use Rattle.matroid_theory.proofs.FieldLaws.{all_below, all_below-at, both_left, both_right, no_way}
 use Rattle.matroid_theory.proofs.Sums.{other_number}
 
 -- a function with one more value, at n
@@ -62,10 +62,6 @@ all_below-from n p h = all_below-same n p (λ _. true) h ∙ trues n
 combination-same : (q n : ℕ) (A : Matrix) (a b : ℕ → ℕ) (i : ℕ) → ((j : ℕ) → j < n → a j ≡ b j) → combination q n A a i ≡ combination q n A b i
 combination-same q zero A a b i h = refl
 combination-same q (suc n) A a b i h = λ k. plus q (combination-same q n A a b i (λ j l. h j (omega arith)) k) (times q (A i n) (h n (omega arith) k))
-
-no_way : (b : Bool) → b ≡ true → not b ≡ true → ⊥
-no_way true h g = cc
-no_way false h g = cc
 
 only_zero-same : (q r n : ℕ) (A : Matrix) (S : ℕ → Bool) (a b : ℕ → ℕ) → ((j : ℕ) → j < n → a j ≡ b j) → only_zero q r n A S a ≡ only_zero q r n A S b
 only_zero-same q r n A S a b h =

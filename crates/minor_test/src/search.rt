@@ -8,9 +8,11 @@ ghost use Rattle.minor_test.specs.Searches.{AgreeBelow, AreImages, AreTables, Be
 
 use crate::table::Table;
 use arrayvec::ArrayVec;
+use column_sets::{in_set, set_count};
 use field_tables::Mask;
 use named_matroids::Minor;
 use product_rep::Rep;
+use small_lists::{followed_by, list_of};
 
 /// The bases of the minor and of the whole matroid.
 #[derive(Drop)]
@@ -52,12 +54,12 @@ pub fn complete(
     ensures kept { AgreeBelow (2 ^ length images.now.list.items) sets.old sets.new }
 {
     if images.list.len() == minor.size() {
-        return Some(copied(&images.list));
+        return Some(list_of(images.list.as_slice()));
     }
     let first = first_image(tables.twins.as_slice(), images.list.as_slice());
     for image in first..rep.size() {
         if is_next(rep, minor, tables, contracted, images, sets, image) {
-            let longer = followed_by(rep, minor, contracted, images, sets, image);
+            let longer = with_next(rep, minor, contracted, images, sets, image);
             let found = complete(rep, minor, tables, contracted, &longer, sets);
             if found.is_some() {
                 return found;
@@ -95,20 +97,19 @@ fn is_next(
     requires image { image < size rep.now }
     ensures { IsTrue result ↔ IsNext minor.now rep.now contracted images.now.list.items image }
 {
-    // The proof learns here how many elements there may be.
-    rep.size();
-    minor.size();
-    let count = set_count(images);
-    images.used >> image & 1 == 0 && carries_next(tables, &sets[..count], image)
+    rep.laws();
+    minor.laws();
+    let count = reached(images);
+    !in_set(images.used, image) && carries_next(tables, &sets[..count], image)
 }
 
 /// The number of sets of the first elements.
-fn set_count(images: &Images) -> usize
+fn reached(images: &Images) -> usize
     requires { length images.now.list.items < 10 }
     ensures value { result ≡ 2 ^ length images.now.list.items }
     ensures few { result ≤ 512 }
 {
-    1 << images.list.len()
+    set_count(images.list.len()) as usize
 }
 
 /// Whether each of the sets of elements with the next element is a basis exactly where its image with the contracted set is
@@ -128,7 +129,7 @@ fn carries_next(tables: &Tables, sets: &[Mask], image: usize) -> bool
 }
 
 /// These images, and one for the next element.
-fn followed_by(
+fn with_next(
     rep: &Rep,
     minor: &Minor,
     contracted: Mask,
@@ -145,14 +146,11 @@ fn followed_by(
     ensures images { AreImages minor.now rep.now contracted result sets.new }
     ensures kept { AgreeBelow (2 ^ length images.now.list.items) sets.old sets.new }
 {
-    // The proof learns here how many elements there may be.
-    rep.size();
-    minor.size();
-    add_next(sets, set_count(images), image);
-    let mut list = copied(&images.list);
-    list.push(image as u8);
+    rep.laws();
+    minor.laws();
+    add_next(sets, reached(images), image);
     Images {
-        list,
+        list: followed_by(images.list.as_slice(), image as u8),
         used: images.used | 1 << image,
     }
 }
@@ -168,15 +166,4 @@ fn add_next(sets: &mut [Mask], count: usize, element: usize)
     for place in 0..count {
         sets[count + place] = sets[place] | 1 << element;
     }
-}
-
-/// The same images.
-fn copied(list: &ArrayVec<u8, 10>) -> ArrayVec<u8, 10>
-    ensures { result.items ≡ list.now.items }
-{
-    let mut copy = ArrayVec::new();
-    for image in list.as_slice() {
-        copy.push(*image);
-    }
-    copy
 }

@@ -2,6 +2,7 @@ ghost use Rattle.std.specs.Prelude.{◌≡◌, ◌==◌, ◌||◌, ◌<◌, ◌^
 ghost use Rattle.minor_test.specs.Tables.{has, HasBases, HasMasks};
 
 use bases::is_basis;
+use column_sets::set_count;
 use field_tables::Mask;
 use product_rep::Rep;
 
@@ -40,8 +41,9 @@ impl Table {
 pub fn bases_of(rep: &Rep) -> Table
     ensures { HasBases rep.now result.words }
 {
+    rep.laws();
     let mut table = Table::new();
-    for set in 0..1u32 << rep.size() {
+    for set in 0..set_count(rep.size()) {
         let set = set as Mask;
         if is_basis(rep, set) {
             table.add(set);

@@ -11,6 +11,7 @@ use crate::search::{Images, Tables, complete};
 use crate::table::{Table, bases_of, table_of};
 use crate::twins::twins_of;
 use arrayvec::ArrayVec;
+use column_sets::{first_set, set_count};
 use field_tables::Mask;
 use named_matroids::Minor;
 use product_rep::Rep;
@@ -32,6 +33,7 @@ pub fn has_minor(rep: &Rep, minor: &Minor) -> Option<Embedding>
     ensures contracted { IfSome result (λ e. e.contracted < 2 ^ size rep.now) }
     ensures none { IsNone result → ¬ (IsMinor minor.now rep.now) }
 {
+    rep.laws();
     if !leaves_room(rep, minor) {
         return None;
     }
@@ -42,7 +44,7 @@ pub fn has_minor(rep: &Rep, minor: &Minor) -> Option<Embedding>
         whole: bases_of(rep),
     };
     let mut sets = [0; 1024];
-    for set in 0..1u32 << rep.size() {
+    for set in 0..set_count(rep.size()) {
         let contracted = set as Mask;
         if let Some(image) = by_contracting(rep, minor, &tables, contracted, &mut sets) {
             return Some(Embedding { image, contracted });
@@ -56,9 +58,8 @@ pub fn has_minor(rep: &Rep, minor: &Minor) -> Option<Embedding>
 fn leaves_room(rep: &Rep, minor: &Minor) -> bool
     ensures { IsTrue result ↔ ((minor.now.rank ≤ rep.now.rank) × (minor.now.size + rep.now.rank ≤ size rep.now + minor.now.rank)) }
 {
-    // The proof learns here how many elements there may be.
-    rep.size();
-    minor.size();
+    rep.laws();
+    minor.laws();
     minor.rank() <= rep.rank() && minor.size() + rep.rank() <= rep.size() + minor.rank()
 }
 
@@ -79,8 +80,7 @@ fn by_contracting(
     ensures none { IsNone result → (f : ℕ → ℕ) → KeepsOrder tables.now.twins.items f →
         ¬ (IsMinorBy minor.now rep.now f (members contracted)) }
 {
-    // The proof learns here that there is a basis.
-    minor.size();
+    minor.laws();
     if !may_be_contracted(rep, minor, tables, contracted) {
         return None;
     }
@@ -101,8 +101,7 @@ fn may_be_contracted(rep: &Rep, minor: &Minor, tables: &Tables, contracted: Mask
         ((X : ℕ) × (X < 2 ^ size rep.now) × IsTrue (has tables.now.whole.words (bit_or contracted X))) ×
         (has tables.now.minor.words 0 ≡ has tables.now.whole.words contracted)) }
 {
-    // The proof learns here how many elements there may be.
-    rep.size();
+    rep.laws();
     minor.rank() + contracted.count_ones() as usize == rep.rank()
         && is_in_basis(rep, &tables.whole, contracted)
         && tables.minor.contains(0) == tables.whole.contains(contracted)
@@ -112,10 +111,6 @@ fn may_be_contracted(rep: &Rep, minor: &Minor, tables: &Tables, contracted: Mask
 fn is_in_basis(rep: &Rep, table: &Table, set: Mask) -> bool
     ensures { IsTrue result ↔ ((X : ℕ) × (X < 2 ^ size rep.now) × IsTrue (has table.now.words (bit_or set X))) }
 {
-    for other in 0..1u32 << rep.size() {
-        if table.contains(set | other as Mask) {
-            return true;
-        }
-    }
-    false
+    rep.laws();
+    first_set(rep.size(), |other| table.contains(set | other)).is_some()
 }

@@ -6,6 +6,7 @@ ghost use Rattle.minor_test.specs.Twins.{swapped, AreAllFound, AreTwins, AreTwin
 
 use crate::table::Table;
 use arrayvec::ArrayVec;
+use column_sets::in_set;
 use field_tables::Mask;
 use named_matroids::Minor;
 
@@ -28,8 +29,7 @@ fn twin_before(minor: &Minor, table: &Table, j: usize) -> Option<u8>
     requires element { j < minor.now.size }
     ensures { MatchOption result ((i : ℕ) → i < j → ¬ (AreTwins minor.now i j)) (λ i. AreTwins minor.now i j) }
 {
-    // The proof learns here how many elements there may be.
-    minor.size();
+    minor.laws();
     let mut twin = None;
     for i in 0..j {
         if are_twins(minor, table, i, j) {
@@ -46,8 +46,7 @@ fn are_twins(minor: &Minor, table: &Table, i: usize, j: usize) -> bool
     requires element { j < minor.now.size }
     ensures { IsTrue result ↔ AreTwins minor.now i j }
 {
-    // The proof learns here how many elements there may be.
-    minor.size();
+    minor.laws();
     for basis in minor.bases() {
         if !table.contains(exchanged(*basis, i, j)) {
             return false;
@@ -63,7 +62,7 @@ fn exchanged(set: Mask, i: usize, j: usize) -> Mask
     ensures members { (x : ℕ) → members result x ≡ members set (swapped i j x) }
     ensures below { (n : ℕ) → j < n → set < 2 ^ n → result < 2 ^ n }
 {
-    if set >> i & 1 == set >> j & 1 {
+    if in_set(set, i) == in_set(set, j) {
         set
     } else {
         set ^ (1 << i | 1 << j)

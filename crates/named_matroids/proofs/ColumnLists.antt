@@ -11,25 +11,26 @@ use Rattle.matroid_theory.specs.Matrix.{IsIndependent, IsRankOf}
 use Rattle.matroid_theory.specs.Given as given
 use Rattle.matroid_theory.proofs.FieldLaws.{both_left, both_right}
 use Rattle.elimination.specs.Columns.{column, matrix_of, height, AreColumns}
-use Rattle.named_matroids.specs.Listed.{codes_of, are_codes}
+use Rattle.small_lists.specs.Lists.{lists}
+use Rattle.named_matroids.specs.Listed.{are_codes}
 
-pub column_codes : (columns : List (ArrayVec ℕ)) (j : ℕ) → slice_index_or (codes_of columns) j [] ≡ column columns j
+pub column_codes : (columns : List (ArrayVec ℕ)) (j : ℕ) → slice_index_or (lists columns) j [] ≡ column columns j
 column_codes columns j = get_or-map (λ (c : ArrayVec ℕ). c.items) columns j (record { items = [] })
 
-pub length_codes : (columns : List (ArrayVec ℕ)) → length (codes_of columns) ≡ length columns
+pub length_codes : (columns : List (ArrayVec ℕ)) → length (lists columns) ≡ length columns
 length_codes columns = length-map columns (λ (c : ArrayVec ℕ). c.items)
 
-pub same_matrix : (columns : List (ArrayVec ℕ)) → given.matrix_of_lists (codes_of columns) ≡ matrix_of columns
+pub same_matrix : (columns : List (ArrayVec ℕ)) → given.matrix_of_lists (lists columns) ≡ matrix_of columns
 same_matrix columns = λ t i j. slice_index (column_codes columns j t) i
 
-pub same_height : (columns : List (ArrayVec ℕ)) → given.column_length (codes_of columns) ≡ height columns
+pub same_height : (columns : List (ArrayVec ℕ)) → given.column_length (lists columns) ≡ height columns
 same_height columns = ap (λ (c : List ℕ). length c) (column_codes columns 0)
 
 -- what is given by the codes is what the columns are
-pub independent_codes : (q : ℕ) (columns : List (ArrayVec ℕ)) (S : ℕ → Bool) → IsIndependent q (given.column_length (codes_of columns)) (length (codes_of columns)) (given.matrix_of_lists (codes_of columns)) S ≡ IsIndependent q (height columns) (length columns) (matrix_of columns) S
+pub independent_codes : (q : ℕ) (columns : List (ArrayVec ℕ)) (S : ℕ → Bool) → IsIndependent q (given.column_length (lists columns)) (length (lists columns)) (given.matrix_of_lists (lists columns)) S ≡ IsIndependent q (height columns) (length columns) (matrix_of columns) S
 independent_codes q columns S = λ t. IsIndependent q (same_height columns t) (length_codes columns t) (same_matrix columns t) S
 
-pub rank_codes : (q : ℕ) (columns : List (ArrayVec ℕ)) (S : ℕ → Bool) (k : ℕ) → IsRankOf q (given.column_length (codes_of columns)) (length (codes_of columns)) (given.matrix_of_lists (codes_of columns)) S k ≡ IsRankOf q (height columns) (length columns) (matrix_of columns) S k
+pub rank_codes : (q : ℕ) (columns : List (ArrayVec ℕ)) (S : ℕ → Bool) (k : ℕ) → IsRankOf q (given.column_length (lists columns)) (length (lists columns)) (given.matrix_of_lists (lists columns)) S k ≡ IsRankOf q (height columns) (length columns) (matrix_of columns) S k
 rank_codes q columns S k = λ t. IsRankOf q (same_height columns t) (length_codes columns t) (same_matrix columns t) S k
 
 each : {X : Type 0} (p : X → Bool) (xs : List X) (d : X) → list_all p xs ≡ true → (j : ℕ) → j < length xs → p (slice_index_or xs j d) ≡ true
@@ -41,7 +42,7 @@ test_lt : (x y : ℕ) → nat_lt x y ≡ true → x < y
 test_lt x y e = grind (arith, nat_tests)
 
 -- what the test of a table says
-pub tested_columns : (q rows : ℕ) (columns : List (ArrayVec ℕ)) → are_codes q rows (codes_of columns) ≡ true → AreColumns q (height columns) columns
+pub tested_columns : (q rows : ℕ) (columns : List (ArrayVec ℕ)) → are_codes q rows (lists columns) ≡ true → AreColumns q (height columns) columns
 tested_columns q rows columns t j l = record {
   rows = rows_at j l ∙ sym (rows_at 0 (omega arith));
   below = λ i m. test_lt (slice_index (column columns j) i) q (each (λ code. nat_lt code q) (column columns j) 0 (both_right (length (column columns j) == rows) _ (test_at j l)) i (let e : length (column columns j) ≡ length (column columns 0) = rows_at j l ∙ sym (rows_at 0 (omega arith)) in omega arith));
@@ -55,6 +56,6 @@ tested_columns q rows columns t j l = record {
     rows_at j l = eqb-true (length (column columns j)) rows (both_left (length (column columns j) == rows) _ (test_at j l))
 
 -- the same for other names of the order and of the list
-pub named_columns : (q order rows : ℕ) (v w : List (ArrayVec ℕ)) (table : List (List ℕ)) → q ≡ order → v ≡ w → codes_of w ≡ table → are_codes order rows table ≡ true → AreColumns q (height v) v
+pub named_columns : (q order rows : ℕ) (v w : List (ArrayVec ℕ)) (table : List (List ℕ)) → q ≡ order → v ≡ w → lists w ≡ table → are_codes order rows table ≡ true → AreColumns q (height v) v
 named_columns q order rows v w table e d f t =
-    subst (λ (q : ℕ). AreColumns q (height v) v) (sym e) (tested_columns order rows v (subst (λ (x : List (List ℕ)). are_codes order rows x ≡ true) (sym (ap codes_of d ∙ f)) t))
+    subst (λ (q : ℕ). AreColumns q (height v) v) (sym e) (tested_columns order rows v (subst (λ (x : List (List ℕ)). are_codes order rows x ≡ true) (sym (ap lists d ∙ f)) t))

@@ -13,10 +13,13 @@ use Rattle.matroid_theory.proofs.Masks.{mask, mask-below, members-mask, size-sam
 use Rattle.matroid_theory.proofs.Bases.{rank_unique, size_most}
 use Rattle.matroid_theory.proofs.Rest.{size_front}
 use Rattle.elimination.specs.Columns.{matrix_of, height, IsRankOfColumns}
-use Rattle.named_matroids.specs.Listed.{codes_of}
-use Rattle.named_matroids.specs.SmallMatroids.{IsSmallMatroid, AreMasks, IsDual}
+use Rattle.small_lists.specs.Lists.{lists}
+use Rattle.named_matroids.specs.SmallMatroids.{IsSmallMatroid, IsDual}
 use Rattle.named_matroids.proofs.ColumnLists.{length_codes, independent_codes, rank_codes}
-use Rattle.named_matroids.proofs.Complements.{size_complement, members_complement}
+use Rattle.column_sets.specs.Sets.{AreMasks}
+use Rattle.column_sets.specs.Picked.{IsBasisOfColumns}
+use Rattle.column_sets.proofs.SetLemmas.{masks_same}
+use Rattle.column_sets.proofs.Complements.{size_complement, members_complement}
 
 -- what is given and has few elements is a small matroid
 pub given_small : (what : Given) (N : Matroid) → IsGivenBy what N → 0 < N.size → N.size ≤ 10 → IsSmallMatroid N
@@ -46,24 +49,25 @@ uniform_given rank size masks l h = record {
 
 module _ (q : ℕ) (columns : List (ArrayVec ℕ)) (k : ℕ) (rank : IsRankOfColumns q (height columns) columns k) where
   -- rank many independent columns are a basis
-  pub column_basis : (S : ℕ → Bool) → size_below (length columns) S ≡ k → IsIndependent q (height columns) (length columns) (matrix_of columns) S → IsColumnBasis q (codes_of columns) S
+  column_basis : (S : ℕ → Bool) → size_below (length columns) S ≡ k → IsIndependent q (height columns) (length columns) (matrix_of columns) S → IsColumnBasis q (lists columns) S
   column_basis S e d = record {
     independent = subst (λ (T : Type 0). T) (sym (independent_codes q columns S)) d;
     greatest =
-        subst (λ (m : ℕ). IsRankOf q (given.column_length (codes_of columns)) (length (codes_of columns)) (given.matrix_of_lists (codes_of columns)) (λ _. true) m)
+        subst (λ (m : ℕ). IsRankOf q (given.column_length (lists columns)) (length (lists columns)) (given.matrix_of_lists (lists columns)) (λ _. true) m)
         (sym (ap (λ n. size_below n S) (length_codes columns) ∙ e)) (subst (λ (T : Type 0). T) (sym (rank_codes q columns (λ _. true) k)) rank);
   }
 
-  pub basis_independent : (S : ℕ → Bool) → IsColumnBasis q (codes_of columns) S → IsIndependent q (height columns) (length columns) (matrix_of columns) S
+  basis_independent : (S : ℕ → Bool) → IsColumnBasis q (lists columns) S → IsIndependent q (height columns) (length columns) (matrix_of columns) S
   basis_independent S b = subst (λ (T : Type 0). T) (independent_codes q columns S) b.independent
 
-  pub basis_full : (S : ℕ → Bool) → IsColumnBasis q (codes_of columns) S → size_below (length columns) S ≡ k
+  basis_full : (S : ℕ → Bool) → IsColumnBasis q (lists columns) S → size_below (length columns) S ≡ k
   basis_full S b =
       sym (ap (λ n. size_below n S) (length_codes columns))
-      ∙ rank_unique q (height columns) (length columns) (matrix_of columns) (λ _. true) (size_below (length (codes_of columns)) S) k (subst (λ (T : Type 0). T) (rank_codes q columns (λ _. true) (size_below (length (codes_of columns)) S)) b.greatest) rank
+      ∙ rank_unique q (height columns) (length columns) (matrix_of columns) (λ _. true) (size_below (length (lists columns)) S) k (subst (λ (T : Type 0). T) (rank_codes q columns (λ _. true) (size_below (length (lists columns)) S)) b.greatest) rank
 
-  pub columns_given : (masks : List ℕ) → AreMasks (length columns) (λ X. IsGivenBasis (ColumnsOver q (codes_of columns)) (members X)) masks → IsGivenBy (ColumnsOver q (codes_of columns)) (record { rank = k; size = length columns; bases = masks })
-  columns_given masks h = record {
+  given_by_bases : (masks : List ℕ) → AreMasks (length columns) (λ X. IsGivenBasis (ColumnsOver q (lists columns)) (members X)) masks
+      → IsGivenBy (ColumnsOver q (lists columns)) (record { rank = k; size = length columns; bases = masks })
+  given_by_bases masks h = record {
     sizes = sym (length_codes columns);
     rising = h.rising;
     exact = h.exact;
@@ -79,6 +83,12 @@ module _ (q : ℕ) (columns : List (ArrayVec ℕ)) (k : ℕ) (rank : IsRankOfCol
     ranks = λ X c. basis_full (members X) ((h.exact X).0 c).1;
   }
 
+  pub columns_given : (masks : List ℕ) → AreMasks (length columns) (λ X. IsBasisOfColumns q k columns (members X)) masks
+      → IsGivenBy (ColumnsOver q (lists columns)) (record { rank = k; size = length columns; bases = masks })
+  columns_given masks h = given_by_bases masks (masks_same (length columns) (λ X. IsBasisOfColumns q k columns (members X)) (λ X. IsGivenBasis (ColumnsOver q (lists columns)) (members X)) masks
+      (λ X _. ((λ b. column_basis (members X) b.full b.independent), (λ b. record { full = basis_full (members X) b; independent = basis_independent (members X) b })))
+      h)
+
   -- the rank is at most the number of columns
   pub rank_most : k ≤ length columns
   rank_most = let p = rank.reached.1 in let e : size_below (length columns) rank.reached.0 ≡ k = p.elements in let m : size_below (length columns) rank.reached.0 ≤ length columns = size_most (length columns) rank.reached.0 in omega arith
@@ -91,10 +101,13 @@ basis_same q columns S T e b = record {
 }
 
 module _ (N : Matroid) (small : IsSmallMatroid N) where
+  few_elements : N.size ≤ 16
+  few_elements = let s : N.size ≤ 10 = small.size_most in omega arith
+
   pub complement_ones : (X : ℕ) → X < 2 ^ N.size → Contains N.bases (2 ^ N.size - 1 - X) → size_below N.size (members X) + N.rank ≡ N.size
   complement_ones X l c =
       let e : size_below N.size (members (2 ^ N.size - 1 - X)) ≡ N.rank = (let k = c.0 in subst (λ (x : ℕ). size_below N.size (members x) ≡ N.rank) c.2 (small.of_rank k (2 ^ N.size - 1 - X) c.1)) in
-      let s : size_below N.size (members (2 ^ N.size - 1 - X)) ≡ size_below N.size (λ j. not (members X j)) = size-same N.size (members (2 ^ N.size - 1 - X)) (λ j. not (members X j)) (λ j m. members_complement N.size small.size_most X j l m) in
+      let s : size_below N.size (members (2 ^ N.size - 1 - X)) ≡ size_below N.size (λ j. not (members X j)) = size-same N.size (members (2 ^ N.size - 1 - X)) (λ j. not (members X j)) (λ j m. members_complement N.size few_elements X j l m) in
       let t : size_below N.size (members X) + size_below N.size (λ j. not (members X j)) ≡ N.size = size_complement N.size (members X) in
       omega arith
 
@@ -139,7 +152,7 @@ module _ (N : Matroid) (small : IsSmallMatroid N) where
       exact = λ X. (
         (λ c. let w : (X < 2 ^ N.size) × Contains N.bases (2 ^ N.size - 1 - X) = (d.bases.exact X).0 c in (
           subst (λ (n : ℕ). X < 2 ^ n) (sym d.sizes) w.0,
-          basis_same q columns (members (2 ^ N.size - 1 - X)) (λ j. not (members X j)) (λ j m. members_complement N.size small.size_most X j w.0 (subst (λ (n : ℕ). j < n) (sym h.sizes) m)) ((h.exact (2 ^ N.size - 1 - X)).0 w.1).1,
+          basis_same q columns (members (2 ^ N.size - 1 - X)) (λ j. not (members X j)) (λ j m. members_complement N.size few_elements X j w.0 (subst (λ (n : ℕ). j < n) (sym h.sizes) m)) ((h.exact (2 ^ N.size - 1 - X)).0 w.1).1,
         )),
         (λ w. let l : X < 2 ^ N.size = subst (λ (n : ℕ). X < 2 ^ n) d.sizes w.0 in
             let m : 2 ^ N.size - 1 - X < 2 ^ N.size = omega arith in
@@ -147,7 +160,7 @@ module _ (N : Matroid) (small : IsSmallMatroid N) where
               l,
               (h.exact (2 ^ N.size - 1 - X)).1 (
                 m,
-                basis_same q columns (λ j. not (members X j)) (members (2 ^ N.size - 1 - X)) (λ j o. sym (members_complement N.size small.size_most X j l (subst (λ (n : ℕ). j < n) (sym h.sizes) o))) w.1,
+                basis_same q columns (λ j. not (members X j)) (members (2 ^ N.size - 1 - X)) (λ j o. sym (members_complement N.size few_elements X j l (subst (λ (n : ℕ). j < n) (sym h.sizes) o))) w.1,
               ),
             )),
       );

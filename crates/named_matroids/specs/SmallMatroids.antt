@@ -1,10 +1,11 @@
 -- What a matroid of few elements keeps, and its dual.
-use Rattle.std.specs.Prelude.{ℕ, ◌+◌, ◌-◌, ◌<◌, ◌≤◌, ◌≡◌, ◌↔◌, ◌^◌, List, length}
+use Rattle.std.specs.Prelude.{◌+◌, ◌-◌, ◌<◌, ◌≤◌, ◌≡◌, ◌^◌, length}
 use Rattle.std.specs.List.{All, Contains}
 use Rattle.std.specs.List.Sorted.{IsStrictlyIncreasing}
 use Rattle.matroid_theory.specs.Matrix.{size_below}
 use Rattle.matroid_theory.specs.Matroid.{members}
 use Rattle.matroid_theory.specs.Minor.{Matroid}
+use Rattle.column_sets.specs.Sets.{AreMasks}
 
 -- 1 to 10 elements, and rising masks of rank many of them, at least one
 pub record IsSmallMatroid (N : Matroid) : Type 0 where
@@ -14,11 +15,6 @@ pub record IsSmallMatroid (N : Matroid) : Type 0 where
   pub below : All (λ X. X < 2 ^ N.size) N.bases
   pub of_rank : All (λ X. size_below N.size (members X) ≡ N.rank) N.bases
   pub some : 0 < length N.bases
-
--- the rising list of the masks of n elements that P holds of
-pub record AreMasks (n : ℕ) (P : ℕ → Type 0) (masks : List ℕ) : Type 0 where
-  pub rising : IsStrictlyIncreasing masks
-  pub exact : (X : ℕ) → Contains masks X ↔ ((X < 2 ^ n) × P X)
 
 -- the bases of D are the complements of those of N (Oxley, section 2.1)
 pub record IsDual (N D : Matroid) : Type 0 where

@@ -31,6 +31,13 @@ impl Model for MinorItem {
 }
 
 impl MinorItem {
+    /// What the type keeps, for the proofs of callers: the matroid is that of the name.
+    pub fn laws(&self)
+        ensures { IsGivenBy (given_as (named_by self.now.spelling)) self.now.matroid }
+    {
+        let _minor = &self.minor;
+    }
+
     /// The name.
     pub fn spelling(&self) -> Spelling
         ensures value { result ≡ self.now.spelling }

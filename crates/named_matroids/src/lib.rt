@@ -13,4 +13,5 @@ mod uniform;
 
 pub use item::{MinorItem, named};
 pub use minor::Minor;
+pub use number::number_of;
 pub use spelling::{NameFault, Spelling};

@@ -1,14 +1,12 @@
 //! A matroid of few elements.
-ghost use Rattle.std.specs.Prelude.{◌≡◌, ◌-◌, ◌^◌, ◌↔◌, IsTrue};
+ghost use Rattle.std.specs.Prelude.{◌≡◌, ◌-◌, ◌<◌, ◌^◌, ◌↔◌, IsTrue};
 ghost use Rattle.std.specs.List.{Contains};
-ghost use Rattle.named_matroids.specs.SmallMatroids.{IsSmallMatroid, AreMasks, IsDual};
+ghost use Rattle.named_matroids.specs.SmallMatroids.{IsSmallMatroid, IsDual};
 
-use arrayvec::ArrayVec;
+use column_sets::{FewSets, complement, few_sets_of_size};
 use field_tables::Mask;
+use small_lists::list_of;
 use std::marker::Model;
-
-/// The masks of bases. Of at most 10 elements no more than 252 sets have one size.
-pub type Masks = ArrayVec<Mask, 252>;
 
 /// A matroid of 1 to 10 elements by its bases. Contracts see its rank, its size and the rising list of the masks of its
 /// bases.
@@ -16,7 +14,7 @@ pub type Masks = ArrayVec<Mask, 252>;
 pub struct Minor {
     rank: u8,
     size: u8,
-    bases: Masks,
+    bases: FewSets,
 }
 
 impl Model for Minor {
@@ -32,7 +30,7 @@ impl Model for Minor {
 
 impl Minor {
     /// The matroid of these bases.
-    pub(crate) fn of(rank: u8, size: u8, bases: Masks) -> Minor
+    pub(crate) fn of(rank: u8, size: u8, bases: FewSets) -> Minor
         requires { IsSmallMatroid (record { rank = rank; size = size; bases = bases.items }) }
         ensures { result ≡ record { rank = rank; size = size; bases = bases.items } }
     {
@@ -61,18 +59,21 @@ impl Minor {
         self.bases.as_slice()
     }
 
+    /// What the type keeps, for the proofs of callers: 1 to 10 elements, and rising masks of rank many of them, at least one.
+    pub fn laws(&self)
+        ensures { IsSmallMatroid self.now }
+    {
+        let _bases = &self.bases;
+    }
+
     /// The same matroid.
     pub fn copy(&self) -> Minor
         ensures { result ≡ self.now }
     {
-        let mut bases = ArrayVec::new();
-        for mask in self.bases.as_slice() {
-            bases.push(*mask);
-        }
         Minor {
             rank: self.rank,
             size: self.size,
-            bases,
+            bases: list_of(self.bases.as_slice()),
         }
     }
 
@@ -80,30 +81,20 @@ impl Minor {
     pub(crate) fn dual(&self) -> Minor
         ensures { IsDual self.now result }
     {
+        self.laws();
         let size = self.size();
-        let bases = complements(self);
-        Minor::of((size - self.rank()) as u8, size as u8, bases)
+        let rank = size - self.rank();
+        let bases = few_sets_of_size(size, rank, |set| has_complement(self, set));
+        Minor::of(rank as u8, size as u8, bases)
     }
 }
 
-/// Whether the set is a basis.
-fn has_basis(matroid: &Minor, set: Mask) -> bool
-    ensures { IsTrue result ↔ Contains matroid.now.bases set }
+/// Whether the complement of the set is a basis.
+fn has_complement(matroid: &Minor, set: Mask) -> bool
+    requires { set < 2 ^ matroid.now.size }
+    ensures { IsTrue result ↔ Contains matroid.now.bases (2 ^ matroid.now.size - 1 - set) }
 {
-    matroid.bases().contains(&set)
-}
-
-/// The sets whose complement is a basis, from the lowest mask up.
-fn complements(matroid: &Minor) -> Masks
-    ensures { AreMasks matroid.now.size (λ X. Contains matroid.now.bases (2 ^ matroid.now.size - 1 - X)) result.items }
-{
-    let size = matroid.size();
-    let whole = (1u32 << size) - 1;
-    let mut sets = ArrayVec::new();
-    for set in 0..1u32 << size {
-        if has_basis(matroid, (whole - set) as Mask) {
-            sets.push(set as Mask);
-        }
-    }
-    sets
+    matroid.laws();
+    let rest = complement(matroid.size(), set);
+    matroid.bases().contains(&rest)
 }

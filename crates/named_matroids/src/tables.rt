@@ -2,12 +2,14 @@
 ghost use Rattle.std.specs.Prelude.{◌≡◌, ◌≤◌, ◌<◌, length, IsTrue};
 ghost use Rattle.matroid_theory.specs.Field.{IsOrder};
 ghost use Rattle.matroid_theory.specs.Given.{ColumnsOver, IsGivenBy};
-ghost use Rattle.named_matroids.specs.Listed.{codes_of, are_codes};
+ghost use Rattle.small_lists.specs.Lists.{lists};
+ghost use Rattle.named_matroids.specs.Listed.{are_codes};
 
 use crate::columns::matroid_of;
 use crate::minor::Minor;
 use arrayvec::ArrayVec;
 use field_tables::{Column, Field};
+use small_lists::list_of;
 
 /// The columns of the Fano matroid over GF(2). The first six are those of K4.
 pub const FANO: [[u8; 3]; 7] = [
@@ -54,23 +56,11 @@ pub fn matroid_of_table<const N: usize>(order: u8, table: &[[u8; N]]) -> Minor
 fn columns_of<const N: usize>(table: &[[u8; N]]) -> ArrayVec<Column, 10>
     requires rows { N ≤ 6 }
     requires few { length table.now ≤ 10 }
-    ensures { codes_of result.items ≡ table.now }
+    ensures { lists result.items ≡ table.now }
 {
     let mut columns = ArrayVec::new();
     for codes in table {
-        columns.push(column_of(*codes));
+        columns.push(list_of(codes));
     }
     columns
-}
-
-/// The column of these codes.
-fn column_of<const N: usize>(codes: [u8; N]) -> Column
-    requires { N ≤ 6 }
-    ensures { result.items ≡ codes.entry }
-{
-    let mut column = ArrayVec::new();
-    for code in &codes {
-        column.push(*code);
-    }
-    column
 }

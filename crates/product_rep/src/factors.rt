@@ -3,6 +3,7 @@ ghost use Rattle.matroid_theory.specs.Field.{IsFactors};
 
 use arrayvec::ArrayVec;
 use field_tables::Field;
+use small_lists::list_of;
 use std::marker::Model;
 
 /// One to three fields, the factors of a product. Contracts see the list of their orders.
@@ -41,6 +42,13 @@ impl Factors {
         Some(Factors { orders: list })
     }
 
+    /// What the type keeps, for the proofs of callers: one to three orders of fields.
+    pub fn laws(&self)
+        ensures { IsFactors self.now }
+    {
+        let _orders = &self.orders;
+    }
+
     /// How many factors there are, from 1 to 3.
     pub fn count(&self) -> usize
         ensures count { result ≡ length self.now }
@@ -71,10 +79,8 @@ impl Factors {
     pub fn copy(&self) -> Factors
         ensures { result ≡ self.now }
     {
-        let mut orders = ArrayVec::new();
-        for order in self.orders.as_slice() {
-            orders.push(*order);
+        Factors {
+            orders: list_of(self.orders.as_slice()),
         }
-        Factors { orders }
     }
 }

@@ -7,7 +7,4 @@ mod rep;
 
 pub use factors::Factors;
 pub use moves::{Move, act};
-pub use rep::{ProductColumn, Rep, compare};
-
-#[cfg(test)]
-mod tests;
+pub use rep::{ProductColumn, Rep, code, compare, place};

@@ -7,6 +7,7 @@ ghost use Rattle.matroid_theory.specs.Order.{rep_cmp};
 use crate::Factors;
 use arrayvec::ArrayVec;
 use field_tables::Column;
+use small_lists::list_of;
 use std::cmp::Ordering;
 use std::marker::Model;
 
@@ -41,8 +42,7 @@ impl Rep {
         requires high { rank ≤ 6 }
         ensures { result ≡ record { factors = factors; rank = rank; columns = [] } }
     {
-        // The proof learns here that these are one to three fields.
-        factors.count();
+        factors.laws();
         Rep {
             factors,
             rank,
@@ -64,6 +64,14 @@ impl Rep {
             rep.push_column(&unit_column(count, rank, j));
         }
         rep
+    }
+
+    /// What the type keeps, for the proofs of callers: one to three fields, rank 1 to 6, at most 16 columns, and codes below the
+    /// orders.
+    pub fn laws(&self)
+        ensures { KeepsLimits self.now }
+    {
+        let _codes = &self.codes;
     }
 
     /// The number of columns, at most 16.
@@ -94,11 +102,8 @@ impl Rep {
         ensures { slice_get self.now.columns j ≡ Some result.items }
     {
         let width = usize::from(self.rank) * self.factors.count();
-        let mut column = ArrayVec::new();
-        for k in 0..width {
-            column.push(self.codes[j * width + k]);
-        }
-        column
+        let rest = &self.codes.as_slice()[j * width..];
+        list_of(&rest[..width])
     }
 
     /// Column `j` of one factor.
@@ -122,9 +127,7 @@ impl Rep {
         requires column { IsProductColumn self.old.factors self.old.rank column.now.items }
         ensures { self.new ≡ followed_by self.old column.now.items }
     {
-        for code in column.as_slice() {
-            self.codes.push(*code);
-        }
+        push_codes(&mut self.codes, column.as_slice());
         self.size += 1;
     }
 
@@ -132,13 +135,11 @@ impl Rep {
     pub fn copy(&self) -> Rep
         ensures { result ≡ self.now }
     {
-        let mut codes = ArrayVec::new();
-        push_codes(&mut codes, self.codes.as_slice());
         Rep {
             factors: self.factors.copy(),
             rank: self.rank,
             size: self.size,
-            codes,
+            codes: list_of(self.codes.as_slice()),
         }
     }
 
@@ -159,6 +160,24 @@ impl Rep {
             codes,
         }
     }
+}
+
+/// Where the code of row `i` and of a factor stands in a column of `count` factors.
+pub fn place(count: usize, i: usize, factor: usize) -> usize
+    requires count { count ≤ 3 }
+    requires row { i < 6 }
+    requires factor { factor < count }
+    ensures { result ≡ i * count + factor }
+{
+    i * count + factor
+}
+
+/// The code of row `i` and of a factor in a column of `count` factors.
+pub fn code(column: &ProductColumn, count: usize, i: usize, factor: usize) -> u8
+    requires { i * count + factor < length column.now.items }
+    ensures { result ≡ slice_index column.now.items (i * count + factor) }
+{
+    column[i * count + factor]
 }
 
 /// The order of two representations of one shape: column by column, in a column from row 0, in a row factor by factor, and by

@@ -17,13 +17,7 @@ use Rattle.formats.specs.Minors.{given_as}
 use Rattle.formats.specs.Request.{AreInOrder, count_of_kind, rank_in, field_in, size_in, forbidden_in, wanted_in}
 use Rattle.request_reader.specs.Now.{is_name}
 use Rattle.request_reader.specs.Plain.{AreGiven}
-
--- an entry is one of a kind, or not
-abbrev pub of_kind : ℕ → Statement → ℕ
-of_kind kind e = cond (kind_number e == kind) 1 0
-
-pub count_cons : (kind : ℕ) (e : Statement) (es : List Statement) → count_of_kind kind (e ∷ es) ≡ of_kind kind e + count_of_kind kind es
-count_cons kind e es = sum_by-cons (of_kind kind) e es
+use Rattle.formats.proofs.Heads.{of_kind, count_cons, some_of_kind}
 
 pub count_end : (kind : ℕ) (es : List Statement) (e : Statement) → count_of_kind kind (es ++ e ∷ []) ≡ count_of_kind kind es + of_kind kind e
 count_end kind es e = sum_by-append (of_kind kind) es (e ∷ []) ∙ ap (λ (n : ℕ). count_of_kind kind es + n) (count_cons kind e [] ∙ add)
@@ -34,10 +28,6 @@ count_end kind es e = sum_by-append (of_kind kind) es (e ∷ []) ∙ ap (λ (n :
 pub all_end : (P : Statement → Type 0) (es : List Statement) (e : Statement) → AllByRecursion P es → P e → AllByRecursion P (es ++ e ∷ [])
 all_end P [] e all p = (p, tt)
 all_end P (x ∷ es) e all p = (all.0, all_end P es e all.1 p)
-
--- one of each kind may stand
-pub some_allowed : (kind : ℕ) → 1 ≤ most_of_kind kind
-some_allowed kind = grind (arith, nat_tests)
 
 -- the entries stay in order by one of a kind of which there were fewer than may be
 pub order_end : (es : List Statement) (e : Statement) → AreInOrder es → named_elements e ≤ 10 → count_of_kind (kind_number e) es < most_of_kind (kind_number e) → AreInOrder (es ++ e ∷ [])
@@ -60,7 +50,7 @@ order_end es e order small fewer = record {
 
 -- the entries stay in order by one of a kind that wasn't there
 pub order_new : (es : List Statement) (e : Statement) → AreInOrder es → named_elements e ≤ 10 → count_of_kind (kind_number e) es ≡ 0 → AreInOrder (es ++ e ∷ [])
-order_new es e order small new = order_end es e order small (omega (arith, new, some_allowed (kind_number e)))
+order_new es e order small new = order_end es e order small (omega (arith, new, some_of_kind (kind_number e)))
 
 -- as many entries of a kind as values of it
 pub rank_count : (es : List Statement) → count_of_kind 1 es ≡ length (filter_map rank_in es)
@@ -172,10 +162,6 @@ flag_there kind es true e = one_of kind es e
 flag_there kind es false e = none_of kind es e
 
 -- what a test for a flag that isn't set says of it
-pub off_from_not : (flag : Bool) → not flag ≡ true → flag ≡ false
-off_from_not true e = cc (e)
-off_from_not false e = refl
-
 pub on_from_not : (flag : Bool) → not flag ≡ false → flag ≡ true
 on_from_not true e = refl
 on_from_not false e = cc (e)

@@ -25,8 +25,9 @@ use Rattle.request_reader.specs.Filters.{HoldsFilters, IsNewFilter}
 use Rattle.request_reader.specs.Now.{forms_now}
 use Rattle.request_reader.specs.Said.{flag_entry, IsFilter, IsSaid, IsWrong}
 use Rattle.request_reader.specs.Values.{Holds}
-use Rattle.request_reader.proofs.EntryCounts.{of_kind, count_end, count_kept, all_end, order_end, order_new, rank_count, field_count, size_count, forbid_count, values_end, values_kept, values_more, given_end, name_read, flag_again, value_again, none_there}
+use Rattle.request_reader.proofs.EntryCounts.{count_end, count_kept, all_end, order_end, order_new, rank_count, field_count, size_count, forbid_count, values_end, values_kept, values_more, given_end, name_read, flag_again, value_again, none_there}
 use Rattle.request_reader.proofs.FilterValues.{filters_kept}
+use Rattle.formats.proofs.Heads.{of_kind}
 
 -- one entry more, of a kind that wasn't there
 pub version_end : (es : List Statement) (values : Values) → Holds es values → values.version ≡ false → Holds (es ++ Version ∷ []) (record values { version = true })

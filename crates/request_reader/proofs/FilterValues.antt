@@ -18,7 +18,8 @@ use Rattle.request_reader.specs.declared.values.Wrong.{Wrong}
 use Rattle.request_reader.specs.declared.values.Wrong.TheVariants as wrong
 use Rattle.request_reader.specs.Filters.{wanted_of, HoldsFilters, IsNewFilter}
 use Rattle.request_reader.specs.Said.{flag_entry, IsFilter, IsWrong}
-use Rattle.request_reader.proofs.EntryCounts.{of_kind, count_end, count_kept, wanted_count, values_end, values_kept, name_read, flag_again, value_again, none_there}
+use Rattle.request_reader.proofs.EntryCounts.{count_end, count_kept, wanted_count, values_end, values_kept, name_read, flag_again, value_again, none_there}
+use Rattle.formats.proofs.Heads.{of_kind}
 
 -- an entry that is no filter changes none
 pub filters_kept : (es : List Statement) (e : Statement) (filters : Filters) → HoldsFilters es filters → of_kind 5 e ≡ 0 → of_kind 6 e ≡ 0 → of_kind 7 e ≡ 0 → of_kind 8 e ≡ 0 → wanted_in e ≡ None → HoldsFilters (es ++ e ∷ []) filters

@@ -15,6 +15,3 @@ mod values;
 pub use filters::Filters;
 pub use read::read_request;
 pub use request::Request;
-
-#[cfg(test)]
-mod tests;

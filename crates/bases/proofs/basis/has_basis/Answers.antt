@@ -1,12 +1,13 @@
-use Rattle.std.proofs.lemmas.Bool.{false≢true}
-use Rattle.matroid_theory.specs.Rep.{size, KeepsLimits}
-use Rattle.matroid_theory.proofs.Agreement.{no_basis_by_masks}
-use Rattle.bases.proofs.Walk.{seen}
+use Rattle.std.proofs.Common.{rules}
+use Rattle.matroid_theory.specs.Matroid.{members}
+use Rattle.column_sets.specs.Picked.{IsIndependentSet}
+use Rattle.column_sets.specs.Sets.{IsSetOfSize}
+use Rattle.column_sets.proofs.SetLemmas.{set_found}
+use Rattle.bases.proofs.Factors.{some_basis}
 use Rattle.bases.proofs.basis.has_basis.Goals as goal
 
 pub returns : goal.returns
-returns c = (
-  λ t. absurd (false≢true t),
-  λ b. let r : KeepsLimits c.args.rep.now = c.size.ensures.is_rep in
-      absurd (no_basis_by_masks c.args.rep.now (λ X l. c.loop-set.invariant X (seen c.size.result (size c.args.rep.now) X c.loop-set.set c.size.ensures.value r.size_most c.loop-set-test.false l)) b.0 b.1),
-)
+returns c =
+    some_basis c.args.rep.now c.laws.ensures 0 c.args.first.now.field c.args.first.now.columns.items c.requires c.size.result c.rank.result c.is_some.result c.size.ensures.value c.rank.ensures
+    (set_found (IsSetOfSize c.size.result c.rank.result) _ (λ X. IsIndependentSet c.args.first.now.field c.args.first.now.columns.items (members X)) c.first_of_size.result c.is_some.result c.is_some.ensures
+    (λ X s b e. search rules) c.first_of_size.ensures)

@@ -1,23 +1,26 @@
-use Rattle.std.proofs.Common.{sym, ◌∙◌, refl}
+use Rattle.std.proofs.Common.{◌≡◌, ◌≤◌, ◌<◌, ◌↔◌, ℕ, Bool, List, length, arith, sym, ◌∙◌, ap, subst, refl}
 use Rattle.std.proofs.lemmas.Bool.{false≢true}
-use Rattle.matroid_theory.specs.Rep.{size, KeepsLimits}
-use Rattle.matroid_theory.specs.Matroid.{members}
-use Rattle.matroid_theory.proofs.Agreement.{IsAlike, one_more, alike_of_other_size, alike_of_rank, alike_by_masks}
-use Rattle.bases.proofs.Walk.{seen}
+use Rattle.matroid_theory.specs.Rep.{count}
+use Rattle.matroid_theory.specs.Matroid.{IsBasis}
+use Rattle.matroid_theory.proofs.Agreement.{one_more}
 use Rattle.bases.proofs.basis.have_same_bases.Goals as goal
-use Rattle.bases.proofs.basis.have_same_bases.Goals.{else-has_rank_many-via-then-has_rank_many+else-not-is_alike, else-has_rank_many-via-else-has_rank_many}
 
-pub loop-set-preserved : goal.loop-set-preserved
-loop-set-preserved c =
-    one_more c.loop-set.set (λ X. IsAlike c.args.rep.now (members X)) c.loop-set.invariant
-    (elim c.else-has_rank_many.branch [
-      | else-has_rank_many-via-then-has_rank_many+else-not-is_alike w ↦ alike_of_rank c.args.rep.now (members c.loop-set.set) (c.has_rank_many.ensures.0 w.if-has_rank_many.true) (w.is_alike.ensures.0 w.if-not-is_alike.false)
-      | else-has_rank_many-via-else-has_rank_many w ↦ alike_of_other_size c.args.rep.now (members c.loop-set.set) (λ e. false≢true (sym w.if-has_rank_many.false ∙ c.has_rank_many.ensures.1 e))
-    ])
+pub loop-factor-init : goal.loop-factor-init
+loop-factor-init c f l S = let e : 0 ≡ f = omega arith in subst (λ (f : ℕ). IsBasis c.args.rep.now 0 S ↔ IsBasis c.args.rep.now f S) e (λ b. b, λ b. b)
+
+pub returns-then-not-is_alike : goal.returns-then-not-is_alike
+returns-then-not-is_alike c = (
+  λ t. absurd (false≢true t),
+  λ h. absurd (false≢true (sym c.if-not-is_alike.true ∙ c.is_alike.ensures.1 (h c.loop-factor.factor
+      (subst (λ (n : ℕ). c.loop-factor.factor < n) (c.count-factor-end.ensures.count ∙ ap (λ (fs : List ℕ). length fs) c.factors.ensures) c.loop-factor-test.true)))),
+)
+
+pub loop-factor-preserved : goal.loop-factor-preserved
+loop-factor-preserved c =
+    one_more c.loop-factor.factor (λ f. (S : ℕ → Bool) → (IsBasis c.args.rep.now 0 S ↔ IsBasis c.args.rep.now f S)) c.loop-factor.invariant (c.is_alike.ensures.0 c.if-not-is_alike.false)
 
 pub returns : goal.returns
-returns c = (
-  (λ _ f l S. let r : KeepsLimits c.args.rep.now = c.size.ensures.is_rep in
-      alike_by_masks c.args.rep.now (λ X m. c.loop-set.invariant X (seen c.size.result (size c.args.rep.now) X c.loop-set.set c.size.ensures.value r.size_most c.loop-set-test.false m)) S f l),
-  λ _. refl,
-)
+returns c =
+    let n : c.count-factor-end.result ≡ count c.args.rep.now = c.count-factor-end.ensures.count ∙ ap (λ (fs : List ℕ). length fs) c.factors.ensures in
+    let g : c.count-factor-end.result ≤ c.loop-factor.factor = c.loop-factor-test.false in
+    (λ _ f l. c.loop-factor.invariant f (omega arith), λ _. refl)

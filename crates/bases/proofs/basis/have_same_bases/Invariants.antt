@@ -1,8 +1,7 @@
-use Rattle.std.proofs.Common.{ℕ, ◌<◌}
-use Rattle.matroid_theory.specs.Matroid.{members}
-use Rattle.matroid_theory.proofs.Agreement.{IsAlike}
+use Rattle.std.proofs.Common.{ℕ, ◌<◌, ◌↔◌, Bool}
+use Rattle.matroid_theory.specs.Matroid.{IsBasis}
 use Rattle.bases.proofs.basis.have_same_bases.Given as goal
 
--- each set before this one is a basis of every factor or of none
-abbrev pub invariant-loop-set : goal.invariant-loop-set
-invariant-loop-set l = (X : ℕ) → X < l.set → IsAlike l.rep (members X)
+-- the factors before this one have the bases of the first
+abbrev pub invariant-loop-factor : goal.invariant-loop-factor
+invariant-loop-factor l = (f : ℕ) → f < l.factor → (S : ℕ → Bool) → (IsBasis l.rep 0 S ↔ IsBasis l.rep f S)

@@ -1,19 +1,8 @@
-use Rattle.std.proofs.Common.{◌≡◌, ◌↔◌, ap, ◌∙◌, ℕ, List}
-use Rattle.std.specs.List.{slice_index}
-use Rattle.matroid_theory.specs.Rep.{order}
-use Rattle.matroid_theory.specs.Matroid.{members, IsIndependentIn}
-use Rattle.elimination.specs.Columns.{height, AreIndependent}
-use Rattle.bases.proofs.PickedColumns.{named_are_columns, named_are_independent}
+use Rattle.matroid_theory.specs.Matroid.{members}
+use Rattle.bases.proofs.Factors.{independent_same}
 use Rattle.bases.proofs.basis.is_independent.Goals as goal
-
-pub independent-requires-clause-columns : goal.independent-requires-clause-columns
-independent-requires-clause-columns c =
-    let q : c.field.result ≡ order c.args.rep.now c.args.factor = c.field.ensures ∙ ap (λ (fs : List ℕ). slice_index fs c.args.factor) c.factors.ensures in
-    named_are_columns c.args.rep.now c.picked-columns.ensures.is_rep c.args.factor c.requires (members c.args.set) c.picked-columns.result.items c.picked-columns.ensures.picked c.field.result c.as_slice.result.now q c.as_slice.ensures.value
 
 pub returns : goal.returns
 returns c =
-    let q : c.field.result ≡ order c.args.rep.now c.args.factor = c.field.ensures ∙ ap (λ (fs : List ℕ). slice_index fs c.args.factor) c.factors.ensures in
-    let s : AreIndependent c.field.result (height c.as_slice.result.now) c.as_slice.result.now ↔ IsIndependentIn c.args.rep.now c.args.factor (members c.args.set) =
-    named_are_independent c.args.rep.now c.picked-columns.ensures.is_rep c.args.factor c.requires (members c.args.set) c.picked-columns.result.items c.picked-columns.ensures.picked c.field.result c.as_slice.result.now q c.as_slice.ensures.value in
-    (λ t. s.0 (c.independent.ensures.0 t), λ i. c.independent.ensures.1 (s.1 i))
+    let s = independent_same c.args.rep.now c.laws.ensures c.args.factor c.of.result.field c.of.result.columns.items c.of.ensures (members c.args.set) in
+    (λ t. s.0 (c.is_independent.ensures.0 t), λ i. c.is_independent.ensures.1 (s.1 i))

@@ -16,7 +16,7 @@ step : (fs gs : List ℕ) (r s : ℕ) (u x v : List ℕ) → fs ≡ gs → r ≡
 step fs gs r s u x v e d k h = subst (λ (gs : List ℕ). IsNextNormalised gs s u v) e (subst (λ (s : ℕ). IsNextNormalised fs s u v) d (subst (λ (x : List ℕ). IsNextNormalised fs r x v) k h))
 
 next_one : (c : In-Some) → IsNextNormalised c.args.rep.now.factors c.args.rep.now.rank c.loop-column.before.items c.in-Some.column.items
-next_one c = step _ _ _ _ c.loop-column.before.items c.as_slice.result.now c.in-Some.column.items c.factors-factors.ensures c.rank-rank.ensures c.as_slice.ensures.value c.in-Some.ensures
+next_one c = step _ _ _ _ c.loop-column.before.items c.as_slice-in-loop-column.result.now c.in-Some.column.items c.factors-factors.ensures c.rank-rank.ensures c.as_slice-in-loop-column.ensures.value c.in-Some.ensures
 
 pub loop-column-smaller : goal.loop-column-smaller
 loop-column-smaller c =

@@ -1,10 +1,9 @@
-use Rattle.std.proofs.Common.{◌≡◌, ◌<◌, ◌+◌, ◌||◌, ◌↔◌, ℕ, Bool, sym, ◌∙◌, ap, subst, arith, IsTrue, inl, inr}
+use Rattle.std.proofs.Common.{◌≡◌, ◌<◌, ◌≤◌, ◌+◌, ◌^◌, ◌||◌, ◌↔◌, ℕ, Bool, sym, ◌∙◌, ap, subst, arith, IsTrue, inl, inr}
 use Rattle.std.specs.Bool.{◌==◌}
 use Rattle.std.proofs.lemmas.Bool.{false≢true, eqb-true, or_cases, or_left, or_right, cases_lt}
-use Rattle.matroid_theory.specs.Rep.{Rep, size, KeepsLimits}
+use Rattle.matroid_theory.specs.Rep.{Rep, size}
 use Rattle.matroid_theory.specs.Matroid.{members, IsBasis}
 use Rattle.matroid_theory.proofs.Sums.{same_number}
-use Rattle.bases.proofs.Walk.{seen}
 use Rattle.minor_test.specs.declared.table.Table.{Table}
 use Rattle.minor_test.specs.Tables.{has}
 use Rattle.minor_test.proofs.table.bases_of.Goals as goal
@@ -48,10 +47,16 @@ loop-set-preserved c X =
     ]
 
 pub returns : goal.returns
-returns c = let r : KeepsLimits c.args.rep.now = c.size.ensures.is_rep in
+returns c =
     record {
       exact = λ X l. (
         (λ t. ((c.loop-set.invariant X).0 t).1),
-        (λ b. (c.loop-set.invariant X).1 (seen c.size.result (size c.args.rep.now) X c.loop-set.set c.size.ensures.value r.size_most c.loop-set-test.false l, b)),
+        (λ b. (c.loop-set.invariant X).1 (
+          (let d : 2 ^ c.size.result ≡ 2 ^ size c.args.rep.now = ap (λ n. 2 ^ n) c.size.ensures.value in
+              let o : c.set_count-set-end.result ≤ c.loop-set.set = c.loop-set-test.false in
+              let v : c.set_count-set-end.result ≡ 2 ^ c.size.result = c.set_count-set-end.ensures.value in
+              omega arith),
+          b,
+        )),
       );
     }

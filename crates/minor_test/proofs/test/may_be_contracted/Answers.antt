@@ -1,25 +1,13 @@
-use Rattle.std.proofs.Common.{◌≡◌, ◌+◌, sym, ◌∙◌, eqb-true, true, false, Bool, refl}
+use Rattle.std.proofs.Common.{◌≡◌, ◌+◌, sym, ◌∙◌, eqb-true}
 use Rattle.std.specs.Int.RustNames.{count_ones}
 use Rattle.std.proofs.lemmas.Bool.{false≢true}
-use mathlib.Core.Bool.{beq}
 use Rattle.matroid_theory.specs.Rep.{size}
 use Rattle.matroid_theory.specs.Matrix.{size_below}
 use Rattle.matroid_theory.specs.Matroid.{members}
 use Rattle.matroid_theory.proofs.MaskCounts.{size-members}
+use Rattle.minor_test.proofs.Answers.{same_answer, answers_same}
 use Rattle.minor_test.proofs.test.may_be_contracted.Goals as goal
 use Rattle.minor_test.proofs.test.may_be_contracted.Goals.{then-rank-contracted, else-rank-contracted}
-
-same_answer : (a b : Bool) → beq a b ≡ true → a ≡ b
-same_answer true true e = refl
-same_answer true false e = absurd (false≢true e)
-same_answer false true e = absurd (false≢true e)
-same_answer false false e = refl
-
-answers_same : (a b : Bool) → a ≡ b → beq a b ≡ true
-answers_same true true e = refl
-answers_same true false e = sym e
-answers_same false true e = e
-answers_same false false e = refl
 
 pub returns-then-is_in_basis : goal.returns-then-is_in_basis
 returns-then-is_in_basis c =

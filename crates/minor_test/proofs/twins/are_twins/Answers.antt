@@ -32,14 +32,14 @@ at_place bases items k e l = subst (λ (xs : List ℕ). Contains xs (slice_index
 pub returns-then-not-contains : goal.returns-then-not-contains
 returns-then-not-contains c = (
   (λ t. absurd (false≢true t)),
-  (λ a. absurd (false≢true (sym c.if-not-contains.true ∙ c.contains.ensures ∙ kept_is c.args.minor.now c.size.ensures.is_small c.args.table.now.words c.requires.table c.args.i c.args.j
+  (λ a. absurd (false≢true (sym c.if-not-contains.true ∙ c.contains.ensures ∙ kept_is c.args.minor.now c.laws.ensures c.args.table.now.words c.requires.table c.args.i c.args.j
       (slice_index c.bases-basis-items.result.now c.loop-basis.basis-index) c.exchanged.result c.requires.before c.requires.element
       (at_place c.args.minor.now.bases c.bases-basis-items.result.now c.loop-basis.basis-index c.bases-basis-items.ensures c.loop-basis-test.true) c.exchanged.ensures.members c.exchanged.ensures.below a))),
 )
 
 pub loop-basis-preserved : goal.loop-basis-preserved
 loop-basis-preserved c = below_more _ _ c.loop-basis.invariant
-    (λ Y l s. is_kept c.args.minor.now c.size.ensures.is_small c.args.table.now.words c.requires.table c.args.i c.args.j
+    (λ Y l s. is_kept c.args.minor.now c.laws.ensures c.args.table.now.words c.requires.table c.args.i c.args.j
     (slice_index c.bases-basis-items.result.now c.loop-basis.basis-index) c.exchanged.result c.requires.before c.requires.element
     (at_place c.args.minor.now.bases c.bases-basis-items.result.now c.loop-basis.basis-index c.bases-basis-items.ensures c.loop-basis-test.true) c.exchanged.ensures.members c.exchanged.ensures.below
     (sym c.contains.ensures ∙ c.if-not-contains.false) Y l

@@ -1,6 +1,6 @@
 use Rattle.std.proofs.Common.{◌≡◌, take}
-use Rattle.named_matroids.specs.Listed.{codes_of}
+use Rattle.small_lists.specs.Lists.{lists}
 use Rattle.named_matroids.proofs.tables.columns_of.Given as goal
 
 abbrev pub invariant-loop-codes : goal.invariant-loop-codes
-invariant-loop-codes g l = codes_of l.columns.items ≡ take l.codes-index l.table
+invariant-loop-codes g l = lists l.columns.items ≡ take l.codes-index l.table

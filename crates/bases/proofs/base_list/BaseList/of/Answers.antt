@@ -1,6 +1,8 @@
-use Rattle.std.proofs.Common.{◌^◌, ◌<◌, ◌≤◌, ℕ, sym, subst, slice_index_or}
+use Rattle.std.proofs.Common.{◌^◌, ◌<◌, ◌≤◌, ℕ, sym, ◌∙◌, subst, slice_index_or}
 use Rattle.std.proofs.lemmas.List.Elements.{Contains-get_or}
 use Rattle.matroid_theory.specs.Rep.{KeepsLimits}
+use Rattle.matroid_theory.specs.Matrix.{size_below}
+use Rattle.matroid_theory.specs.Matroid.{members}
 use Rattle.matroid_theory.specs.Minor.{AreBases}
 use Rattle.bases.proofs.base_list.BaseList.of.Goals as goal
 
@@ -14,4 +16,7 @@ invariant_of-result c =
       size_most = subst (λ (n : ℕ). n ≤ 16) (sym c.size-size.ensures.value) r.size_most;
       rising = b.rising;
       below = λ k d l. subst (λ (n : ℕ). slice_index_or c.in_ok-bases_of.field-0.items k d < 2 ^ n) (sym c.size-size.ensures.value) ((b.exact _).0 (Contains-get_or c.in_ok-bases_of.field-0.items k d l)).0;
+      of_rank = λ k d l.
+          (let w = (b.exact _).0 (Contains-get_or c.in_ok-bases_of.field-0.items k d l) in
+          (λ u. size_below (c.size-size.ensures.value u) (members (slice_index_or c.in_ok-bases_of.field-0.items k d))) ∙ w.1.full ∙ sym c.rank.ensures);
     }

@@ -1,36 +1,39 @@
-use Rattle.std.proofs.Common.{◌≡◌, ◌<◌, ◌≤◌, ◌+◌, ◌*◌, ℕ, [], ◌++◌, length, List, ◌∷◌, sym, ◌∙◌, ap, subst, arith, take, Some}
-use Rattle.std.specs.List.{slice_index, slice_index_or, slice_get}
+use Rattle.std.proofs.Common.{◌≡◌, ◌≤◌, ◌+◌, ◌*◌, ℕ, [], ◌<◌, ◌-◌, length, List, sym, ◌∙◌, ap, subst, arith, take, drop, Some, length-drop}
+use Rattle.std.specs.List.{slice_index_or, slice_get}
+use Rattle.std.proofs.lemmas.List.{length-take-le, take_rest}
 use Rattle.std.proofs.lemmas.Option.{slice_get-get_or}
 use Rattle.matroid_theory.specs.Rep.{Rep, size}
 use Rattle.product_rep.specs.declared.rep.Rep.TheInside.{Inside}
-use Rattle.product_rep.specs.Pieces.{matrices, KeepsRep}
-use Rattle.product_rep.proofs.PiecesLemmas.{size-matrices, column_below, column_within, column-step, take-all}
+use Rattle.product_rep.specs.Pieces.{matrices}
+use Rattle.product_rep.proofs.PiecesLemmas.{column_below, column_within, piece-at}
 use Rattle.product_rep.proofs.rep.Rep.column.Goals as goal
 
-pub bounds-deref-j : goal.bounds-deref-j
-bounds-deref-j c =
-    let b : c.args.j * (c.from.result * c.count.result) + c.from.result * c.count.result ≤ length c.deref.result.now
-    = column_within c.self.inside _ c.args.j _ _ c.self.view_is c.self.invariant (λ i. c.from.ensures i * c.count.ensures.count i) c.deref.ensures.0 c.requires in
+pub slice_bounds-rest-start : goal.slice_bounds-rest-start
+slice_bounds-rest-start c =
+    let b = column_within c.self.inside _ c.args.j _ _ c.self.view_is c.self.invariant (λ i. c.from.ensures i * c.count.ensures.count i) c.as_slice.ensures.value c.requires in
     omega arith
 
--- one more code, as the function reads it
-step : (a : Inside) (M : Rep) (j k w : ℕ) (codes column : List ℕ) → matrices a ≡ M → KeepsRep a → w ≡ a.rank * length a.factors → codes ≡ a.codes.items → j < size M → k < w → column ≡ take k (slice_index_or M.columns j []) → column ++ slice_index codes (j * w + k) ∷ [] ≡ take (k + 1) (slice_index_or M.columns j [])
-step a M j k w codes column v h e d l m i =
-    (λ t. i t ++ slice_index (d t) (j * e t + k) ∷ [])
-    ∙ subst (λ (cs : List (List ℕ)). take k (slice_index_or cs j []) ++ slice_index a.codes.items (j * (a.rank * length a.factors) + k) ∷ [] ≡ take (k + 1) (slice_index_or cs j []))
-    (ap (λ P. P.columns) v) (sym (column-step a j k h (column_below a M j v l) (subst (λ (n : ℕ). k < n) e m)))
+pub slice_bounds-rest-count : goal.slice_bounds-rest-count
+slice_bounds-rest-count c =
+    let b = column_within c.self.inside _ c.args.j _ _ c.self.view_is c.self.invariant (λ i. c.from.ensures i * c.count.ensures.count i) c.as_slice.ensures.value c.requires in
+    omega arith
 
-pub loop-k-preserved : goal.loop-k-preserved
-loop-k-preserved c = c.push.ensures.items ∙ step c.self.inside c.args.self.now c.args.j c.loop-k.k _ c.deref.result.now c.loop-k.column.items c.self.view_is c.self.invariant (λ i. c.from.ensures i * c.count.ensures.count i) c.deref.ensures.0 c.requires c.loop-k-test.true c.loop-k.invariant
+-- a part of what is left of the codes
+part : (codes : List ℕ) (s w : ℕ) → s + w ≤ length codes → w ≡ length (take w (take (length codes - s) (drop s codes)))
+part codes s w l =
+    sym (ap (λ (v : List ℕ). length (take w v)) (take_rest codes s) ∙ length-take-le w (drop s codes) (omega (arith, length-drop s codes)))
 
--- the column is whole at the end
-end : (a : Inside) (M : Rep) (j k w : ℕ) (column : List ℕ) → matrices a ≡ M → KeepsRep a → w ≡ a.rank * length a.factors → j < size M → w ≤ k → column ≡ take k (slice_index_or M.columns j []) → slice_get M.columns j ≡ Some column
-end a M j k w column v h e l m i =
-    let b : j < a.size = column_below a M j v l in
-    let n : size (matrices a) ≡ a.size = size-matrices a in
-    let r = h.is_rep.shaped.lengths j (omega arith) in
-    let s : length (slice_index_or M.columns j []) ≤ k = subst (λ (cs : List (List ℕ)). length (slice_index_or cs j []) ≤ k) (ap (λ P. P.columns) v) (omega arith) in
-    slice_get-get_or M.columns j [] l ∙ ap Some (sym (i ∙ take-all k (slice_index_or M.columns j []) s))
+pub slice_bounds-list_of-end : goal.slice_bounds-list_of-end
+slice_bounds-list_of-end c =
+    part c.as_slice.result.now (c.args.j * (c.from.result * c.count.result)) (c.from.result * c.count.result)
+    (column_within c.self.inside _ c.args.j _ _ c.self.view_is c.self.invariant (λ i. c.from.ensures i * c.count.ensures.count i) c.as_slice.ensures.value c.requires)
+
+-- the column, as the function reads it
+read : (a : Inside) (M : Rep) (j w : ℕ) (codes column : List ℕ) → matrices a ≡ M → w ≡ a.rank * length a.factors → codes ≡ a.codes.items → j < size M → column ≡ take w (drop (j * w) codes) → slice_get M.columns j ≡ Some column
+read a M j w codes column v e d l i =
+    slice_get-get_or M.columns j [] l
+    ∙ ap Some (ap (λ M. slice_index_or M.columns j []) (sym v) ∙ piece-at (a.rank * length a.factors) a.size a.codes.items j (column_below a M j v l) ∙ sym (i ∙ (λ t. take (e t) (drop (j * e t) (d t)))))
 
 pub returns : goal.returns
-returns c = end c.self.inside c.args.self.now c.args.j c.loop-k.k _ c.loop-k.column.items c.self.view_is c.self.invariant (λ i. c.from.ensures i * c.count.ensures.count i) c.requires c.loop-k-test.false c.loop-k.invariant
+returns c = read c.self.inside c.args.self.now c.args.j (c.from.result * c.count.result) c.as_slice.result.now c.list_of.result.items c.self.view_is (λ i. c.from.ensures i * c.count.ensures.count i) c.as_slice.ensures.value c.requires
+    (c.list_of.ensures ∙ ap (take (c.from.result * c.count.result)) (take_rest c.as_slice.result.now (c.args.j * (c.from.result * c.count.result))))

@@ -1,7 +1,0 @@
-use Rattle.std.proofs.Common.{◌≤◌}
-use Rattle.level_driver.specs.Grown.{IsLevelOf}
-use Rattle.level_driver.proofs.tests.counts.Given as goal
-
--- the level of this size
-abbrev pub invariant-loop : goal.invariant-loop
-invariant-loop l = record { at_least : l.request.rank ≤ l.counter; level : IsLevelOf l.request l.counter l.level.forms }
