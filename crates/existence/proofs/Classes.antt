@@ -1,25 +1,17 @@
 -- Each class of representations has a form; members are carried by equivalence; and what follows for tries.
-use Rattle.std.proofs.Common.{◌≡◌, ◌≢◌, ℕ, zero, suc, ◌+◌, ◌<◌, refl, sym, ◌∙◌, ap, subst, arith, Bool, List, [], ◌∷◌, ◌++◌, length, inl, inr, ◌&&◌, ◌||◌}
-use Rattle.std.specs.Bool.{◌==◌}
-use Rattle.std.specs.Prelude.{◌↔◌}
+use Rattle.std.proofs.Common.{◌≡◌, ◌≢◌, ℕ, zero, suc, ◌<◌, refl, sym, ◌∙◌, ap, subst, arith, List, [], ◌∷◌, ◌++◌, length}
 use Rattle.std.specs.List.{Contains, slice_index_or}
 use Rattle.std.specs.Ordering.{ordering_reverse}
 use Rattle.std.specs.declared.cmp.Ordering.{Ordering}
 use Rattle.std.specs.declared.cmp.Ordering.TheVariants.{Less, Equal, Greater}
-use Rattle.std.proofs.lemmas.Bool.{cases_eq}
 use Rattle.matroid_theory.specs.declared.Mode.{Mode}
-use Rattle.matroid_theory.specs.Matrix.{size_below}
-use Rattle.matroid_theory.specs.Rep.{Rep, shape, count, size, IsStandard}
-use Rattle.matroid_theory.specs.Matroid.{members, IsRepresentation}
-use Rattle.matroid_theory.specs.Move.{ArePermutation, AreEquivalent}
+use Rattle.matroid_theory.specs.Rep.{Rep, shape, size, IsStandard}
+use Rattle.matroid_theory.specs.Matroid.{IsRepresentation}
+use Rattle.matroid_theory.specs.Move.{AreEquivalent}
 use Rattle.matroid_theory.specs.Order.{rep_cmp, IsForm}
-use Rattle.matroid_theory.specs.Minor.{Matroid, image, IsMinorBy, IsMinor}
 use Rattle.matroid_theory.specs.Level.{Family, IsMember, IsLevelForm, IsLevel, IsRisingList, IsTry, IsTryFor, followed_by}
-use Rattle.matroid_theory.proofs.Sums.{same_number, other_number}
-use Rattle.matroid_theory.proofs.Masks.{IsBasis-same}
-use Rattle.matroid_theory.proofs.Counts.{size_relabelled}
-use Rattle.matroid_theory.proofs.Equivalence.{equivalent-reflexive, equivalent-symmetric, equivalent-transitive}
-use Rattle.matroid_theory.proofs.Carried.{basis_carried, agrees_carried, simple_carried}
+use Rattle.matroid_theory.proofs.Equivalence.{equivalent-reflexive, equivalent-transitive}
+use Rattle.matroid_theory.proofs.Carried.{agrees_carried, simple_carried}
 use Rattle.matroid_theory.proofs.Levels.{rep_cmp-reversed}
 use Rattle.matroid_theory.proofs.Built.{standard_exists}
 use Rattle.matroid_theory.proofs.Forms.{one_form}
@@ -29,7 +21,7 @@ use Rattle.existence.proofs.Deciding.{both}
 use Rattle.existence.proofs.RisingLists.{rising_list}
 use Rattle.existence.proofs.Shaped.{standard_decided}
 use Rattle.existence.proofs.Moves.{equivalent_decided}
-use Rattle.existence.proofs.Bases.{any_below-same}
+use Rattle.existence.proofs.SameMatroid.{same_matroid-equivalent, same_minors}
 
 -- ---- the form of a class
 
@@ -78,74 +70,6 @@ form_exists mode M r =
 
 -- ---- members
 
--- labels are equal where their places are
-same_label : (n : ℕ) (p u : ℕ → ℕ) → ArePermutation n p u → (k i : ℕ) → k < n → i < n → (p k == p i) ≡ (k == i)
-same_label n p u v k i l m =
-    elim (cases_eq k i) [
-      | inl e ↦ ap (λ x. p x == p i) e ∙ same_number (p i) ∙ sym (ap (λ x. x == i) e ∙ same_number i)
-      | inr ne ↦ other_number (p k) (p i) (λ e. ne (sym (v.there k l) ∙ ap u e ∙ v.there i m)) ∙ sym (other_number k i ne)
-    ]
-
--- a minor of the one is a minor of the other
-module _ (mode : Mode) (M N : Rep) (some : 0 < count M) (e : AreEquivalent mode M N) (K : Matroid) (f : ℕ → ℕ) (C : ℕ → Bool) (w : IsMinorBy K N f C) where
-  abbrev p : ℕ → ℕ
-  p = e.move.label
-
-  abbrev u : ℕ → ℕ
-  u = e.move.place
-
-  -- a move keeps the size
-  sizes : size N ≡ size M
-  sizes = ap (λ S. S.size) e.takes.same_shape
-
-  -- each image is a column of M
-  in_M : (x : ℕ) → x < K.size → f x < size M
-  in_M x l = subst (λ (n : ℕ). f x < n) sizes (w.injection.below x l)
-
-  -- the images of a set, with what is contracted, before the move
-  abbrev before : ℕ → ℕ → Bool
-  before X k = image K.size (λ x. p (f x)) (members X) k || C (u k)
-
-  -- the move takes these columns to the images of the set, with what is contracted
-  carried : (X j : ℕ) → j < size N → before X (p j) ≡ (image K.size f (members X) j || C j)
-  carried X j l i =
-      let l' : j < size M = subst (λ (n : ℕ). j < n) sizes l in
-      any_below-same K.size (λ x. members X x && (p (f x) == p j)) (λ x. members X x && (f x == j))
-      (λ x m t. members X x && same_label (size M) p u e.valid.labels (f x) j (in_M x m) l' t) i
-      || C (e.valid.labels.there j l' i)
-
-  -- the embedding before the move
-  minor_before : IsMinor K M
-  minor_before = (
-    (λ x. p (f x)),
-    (λ k. C (u k)),
-    record {
-      injection = record {
-        below = λ x l. e.valid.labels.below (f x) (in_M x l);
-        apart = λ x y l m h. w.injection.apart x y l m (sym (e.valid.labels.there (f x) (in_M x l)) ∙ ap u h ∙ e.valid.labels.there (f y) (in_M y m));
-      };
-      outside = λ x l. ap C (e.valid.labels.there (f x) (in_M x l)) ∙ w.outside x l;
-      contracted =
-          ap (λ n. K.rank + n) (size_relabelled (size M) u p (record {
-            below = e.valid.labels.inverse_below;
-            inverse_below = e.valid.labels.below;
-            there = e.valid.labels.back;
-            back = e.valid.labels.there;
-          }) C
-          ∙ ap (λ n. size_below n C) (sym sizes)) ∙ w.contracted ∙ ap (λ S. S.rank) e.takes.same_shape;
-      bases = λ X l. (let old = w.bases X l in
-          let move = basis_carried mode M N e.move e.shaped e.valid e.takes 0 some (before X) in
-          ((λ c. move.1 (IsBasis-same N 0 _ _ (λ j m. sym (carried X j m)) (old.0 c))), (λ b. old.1 (IsBasis-same N 0 _ _ (carried X) (move.0 b)))));
-    },
-  )
-
--- equivalent representations have the same minors
-pub minors_carried : (mode : Mode) (M N : Rep) (K : Matroid) → IsRepresentation M → AreEquivalent mode M N → IsMinor K M ↔ IsMinor K N
-minors_carried mode M N K r e = (
-  (λ w. minor_before mode N M (subst (λ S. 0 < length S.factors) (sym e.takes.same_shape) r.some) (equivalent-symmetric mode M N e) K w.0 w.1 w.2),
-  (λ w. minor_before mode M N r.some e K w.0 w.1 w.2),
-)
-
 -- what is equivalent to a member is one
 pub member_carried : (q : Family) (mode : Mode) (n : ℕ) (M N : Rep) → AreEquivalent mode M N → IsMember q n M → IsMember q n N
 member_carried q mode n M N e m =
@@ -161,7 +85,7 @@ member_carried q mode n M N e m =
         agrees = (let c = agrees_carried mode M N e in c.0 r.agrees);
       };
       simple = (let c = simple_carried mode M N e in c.0 m.simple);
-      avoids = λ k d l w. m.avoids k d l (minor_before mode M N some e (slice_index_or q.forbidden k d) w.0 w.1 w.2);
+      avoids = λ k d l w. m.avoids k d l ((let c = same_minors M N (same_matroid-equivalent mode M N some e) (slice_index_or q.forbidden k d) in c.1 w));
     }
 
 -- a level has one of each class

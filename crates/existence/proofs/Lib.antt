@@ -7,9 +7,11 @@ pub mod Moves
 pub mod Bases
 pub mod Forms
 pub mod Levels
+pub mod Connection
 pub mod Filters
 pub mod Tries
 pub mod Givens
+pub mod SameMatroid
 pub mod Classes
 pub mod Matroids
 pub mod Examples

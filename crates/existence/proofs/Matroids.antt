@@ -1,81 +1,21 @@
--- Having the same matroid is an equivalence relation that equivalent representations keep; what the filter for distinct matroids lists has one of each.
-use Rattle.std.proofs.Common.{◌≡◌, ℕ, ◌<◌, refl, sym, ◌∙◌, ap, subst, List}
+-- What the filter for distinct matroids lists has one of each matroid.
+use Rattle.std.proofs.Common.{◌≡◌, ℕ, refl, sym, ◌∙◌, ap, List}
 use Rattle.std.specs.List.{Contains}
 use Rattle.std.specs.Ordering.{ordering_reverse}
 use Rattle.std.specs.declared.cmp.Ordering.{Ordering}
 use Rattle.std.specs.declared.cmp.Ordering.TheVariants.{Less, Equal, Greater}
-use Rattle.matroid_theory.specs.declared.Mode.{Mode}
-use Rattle.matroid_theory.specs.Rep.{Rep, count, size}
-use Rattle.matroid_theory.specs.Move.{ArePermutation, AreEquivalent}
+use Rattle.matroid_theory.specs.Rep.{Rep}
 use Rattle.matroid_theory.specs.Order.{rep_cmp}
 use Rattle.matroid_theory.specs.Minor.{HaveSameMatroid}
 use Rattle.matroid_theory.specs.Level.{Family, IsMember, IsLevelForm, Passes, IsListed}
-use Rattle.matroid_theory.proofs.Masks.{IsBasis-same}
-use Rattle.matroid_theory.proofs.Carried.{basis_carried}
 use Rattle.matroid_theory.proofs.Levels.{rep_cmp-reversed, rep_cmp-equal}
 use Rattle.existence.specs.Exists.{distinct_alone, HasOneOfEachMatroid}
 use Rattle.existence.proofs.Deciding.{both}
 use Rattle.existence.proofs.RisingLists.{rising_list}
 use Rattle.existence.proofs.Levels.{level_form_decided, shape_of, member_shape}
 use Rattle.existence.proofs.Filters.{same_matroid_decided}
+use Rattle.existence.proofs.SameMatroid.{same_matroid-symmetric, same_matroid-transitive, same_matroid-equivalent}
 use Rattle.existence.proofs.Classes.{form_exists, member_carried, first_least}
-
--- ---- the same matroid
-
-inverse_permutation : (n : ℕ) (p u : ℕ → ℕ) → ArePermutation n p u → ArePermutation n u p
-inverse_permutation n p u w = record { below = w.inverse_below; inverse_below = w.below; there = w.back; back = w.there }
-
-pub same_matroid-symmetric : (M N : Rep) → HaveSameMatroid M N → HaveSameMatroid N M
-same_matroid-symmetric M N w = record {
-  ranks = sym w.ranks;
-  sizes = sym w.sizes;
-  label = w.place;
-  place = w.label;
-  labels = subst (λ (n : ℕ). ArePermutation n w.place w.label) (sym w.sizes) (inverse_permutation (size M) w.label w.place w.labels);
-  bases = λ S. (let b = w.bases (λ j. S (w.place j)) in (
-    (λ h. IsBasis-same M 0 _ _ (λ j l. ap S (w.labels.there j l)) (b.1 h)),
-    (λ h. b.0 (IsBasis-same M 0 _ _ (λ j l. ap S (sym (w.labels.there j l))) h)),
-  ));
-}
-
-pub same_matroid-transitive : (M N L : Rep) → HaveSameMatroid M N → HaveSameMatroid N L → HaveSameMatroid M L
-same_matroid-transitive M N L w v =
-    let p : ArePermutation (size M) v.label v.place = subst (λ (n : ℕ). ArePermutation n v.label v.place) w.sizes v.labels in
-    record {
-      ranks = v.ranks ∙ w.ranks;
-      sizes = v.sizes ∙ w.sizes;
-      label = λ j. v.label (w.label j);
-      place = λ j. w.place (v.place j);
-      labels = record {
-        below = λ j l. p.below (w.label j) (w.labels.below j l);
-        inverse_below = λ j l. w.labels.inverse_below (v.place j) (p.inverse_below j l);
-        there = λ j l. ap w.place (p.there (w.label j) (w.labels.below j l)) ∙ w.labels.there j l;
-        back = λ j l. ap v.label (w.labels.back (v.place j) (p.inverse_below j l)) ∙ p.back j l;
-      };
-      bases = λ S. (let b = w.bases (λ j. S (v.label j)) in let c = v.bases S in ((λ h. c.0 (b.0 h)), (λ h. b.1 (c.1 h))));
-    }
-
--- a move keeps the matroid, up to its relabelling
-pub same_matroid-equivalent : (mode : Mode) (M N : Rep) → 0 < count M → AreEquivalent mode M N → HaveSameMatroid M N
-same_matroid-equivalent mode M N some e = record {
-  ranks = ap (λ S. S.rank) e.takes.same_shape;
-  sizes = sizes;
-  label = e.move.place;
-  place = e.move.label;
-  labels = inverse_permutation (size M) e.move.label e.move.place e.valid.labels;
-  bases = λ S. (let b = basis_carried mode M N e.move e.shaped e.valid e.takes 0 some (λ j. S (e.move.place j)) in (
-    (λ h. IsBasis-same N 0 _ _ (λ j l. ap S (e.valid.labels.there j (in_M j l))) (b.0 h)),
-    (λ h. b.1 (IsBasis-same N 0 _ _ (λ j l. ap S (sym (e.valid.labels.there j (in_M j l)))) h)),
-  ));
-}
-  where
-    sizes : size N ≡ size M
-    sizes = ap (λ S. S.size) e.takes.same_shape
-
-    in_M : (j : ℕ) → j < size N → j < size M
-    in_M j l = subst (λ (n : ℕ). j < n) sizes l
-
--- ---- distinct matroids
 
 module _ (q : Family) (n : ℕ) (forms : List Rep) (listed : IsListed q n distinct_alone forms) where
   listed_form : (M : Rep) → Contains forms M → IsLevelForm q n M × Passes q n distinct_alone M

@@ -7,6 +7,7 @@ ghost use Rattle.matroid_theory.specs.Matroid.{IsRepresentation};
 ghost use Rattle.matroid_theory.specs.Move.{AreEquivalent};
 ghost use Rattle.matroid_theory.specs.Order.{IsForm};
 ghost use Rattle.matroid_theory.specs.Minor.{Matroid, IsMinor, HaveSameMatroid};
+ghost use Rattle.matroid_theory.specs.Connection.{IsConnected, Is3Connected, IsCosimple};
 ghost use Rattle.matroid_theory.specs.Given.{AllSets, ColumnsOver, DualOfColumns};
 ghost use Rattle.matroid_theory.specs.Level.{Family, Filters, IsMember, IsLevelForm, IsLevel, IsListed, Passes, IsTry, IsTryFor, followed_by};
 ghost use Rattle.existence.specs.Decided.{IsDecided};
@@ -41,21 +42,33 @@ pub fn levels_have_one_of_each_class()
     ensures { (q : Family) (n : ℕ) (forms : List Rep) → IsLevel q n forms → HasOneOfEachClass q n forms }
 {}
 
-/// Having the same matroid is symmetric and transitive, and equivalent representations have it. What is listed of a level
-/// with the filter for distinct matroids alone has one of each matroid.
-pub fn distinct_lists_have_one_of_each_matroid()
+/// Having the same matroid is symmetric and transitive, and equivalent representations have it.
+pub fn having_the_same_matroid()
     ensures equivalent { (mode : Mode) (M N : Rep) → IsRepresentation M → AreEquivalent mode M N → HaveSameMatroid M N }
     ensures symmetric { (M N : Rep) → HaveSameMatroid M N → HaveSameMatroid N M }
     ensures transitive { (M N L : Rep) → HaveSameMatroid M N → HaveSameMatroid N L → HaveSameMatroid M L }
-    ensures lists { (q : Family) (n : ℕ) (forms : List Rep) → IsListed q n distinct_alone forms →
+{}
+
+/// Minors, connectivity, 3-connectivity and cosimplicity are properties of the matroid, so of the class.
+pub fn filters_look_at_the_matroid()
+    ensures minors { (M N : Rep) (K : Matroid) → HaveSameMatroid M N → IsMinor K M ↔ IsMinor K N }
+    ensures connected { (M N : Rep) → IsRepresentation M → IsRepresentation N → HaveSameMatroid M N →
+        IsConnected M ↔ IsConnected N }
+    ensures three { (M N : Rep) → IsRepresentation M → IsRepresentation N → HaveSameMatroid M N →
+        Is3Connected M ↔ Is3Connected N }
+    ensures cosimple { (M N : Rep) → IsRepresentation M → IsRepresentation N → HaveSameMatroid M N →
+        IsCosimple M ↔ IsCosimple N }
+{}
+
+/// What is listed of a level with the filter for distinct matroids alone has one of each matroid.
+pub fn distinct_lists_have_one_of_each_matroid()
+    ensures { (q : Family) (n : ℕ) (forms : List Rep) → IsListed q n distinct_alone forms →
         HasOneOfEachMatroid q n forms }
 {}
 
-/// Equivalent representations have the same minors, and are members of a family together.
+/// Equivalent representations are members of a family together.
 pub fn equivalence_keeps_members()
-    ensures minors { (mode : Mode) (M N : Rep) (K : Matroid) → IsRepresentation M → AreEquivalent mode M N →
-        IsMinor K M ↔ IsMinor K N }
-    ensures members { (mode : Mode) (q : Family) (n : ℕ) (M N : Rep) → AreEquivalent mode M N →
+    ensures { (mode : Mode) (q : Family) (n : ℕ) (M N : Rep) → AreEquivalent mode M N →
         IsMember q n M ↔ IsMember q n N }
 {}
 

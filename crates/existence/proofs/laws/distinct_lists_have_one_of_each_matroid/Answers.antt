@@ -1,14 +1,5 @@
-use Rattle.existence.proofs.Matroids.{same_matroid-symmetric, same_matroid-transitive, same_matroid-equivalent, one_of_each_matroid}
+use Rattle.existence.proofs.Matroids.{one_of_each_matroid}
 use Rattle.existence.proofs.laws.distinct_lists_have_one_of_each_matroid.Goals as goal
 
-pub returns-clause-equivalent : goal.returns-clause-equivalent
-returns-clause-equivalent c = λ mode M N r e. same_matroid-equivalent mode M N r.some e
-
-pub returns-clause-symmetric : goal.returns-clause-symmetric
-returns-clause-symmetric c = same_matroid-symmetric
-
-pub returns-clause-transitive : goal.returns-clause-transitive
-returns-clause-transitive c = same_matroid-transitive
-
-pub returns-clause-lists : goal.returns-clause-lists
-returns-clause-lists c = one_of_each_matroid
+pub returns : goal.returns
+returns c = one_of_each_matroid
