@@ -1,0 +1,64 @@
+-- The list of the deques that were found empty.
+use Rattle.std.proofs.Common.{◌≡◌, ◌≢◌, ℕ, zero, suc, ◌+◌, ◌-◌, ◌<◌, ◌≤◌, ◌⊎◌, cond, nat_lt, Option, None, Some, MatchOption, List, [], ◌∷◌, ◌++◌, length, Contains, sym, refl, ap, ◌∙◌, subst, ⊎_elim, append_assoc, append-nil, arith, inl, inr}
+use Rattle.std.proofs.lemmas.Bool.Decides.{nat_tests}
+use Rattle.std.proofs.lemmas.Bool.{cases_eq}
+use Rattle.std.proofs.lemmas.List.Elements.{Contains-append_left, Contains-push, Contains-push_cases}
+use Rattle.steal_pool.specs.Ring.{ring}
+use Rattle.steal_pool.specs.Whole.{rings, Grows}
+
+rings_more : (deques number old more : ℕ) → Grows (rings deques number old) (rings deques number (old + more))
+rings_more deques number old zero = ([], (let e : old + zero ≡ old = omega arith in ap (rings deques number) e) ∙ sym (append-nil (rings deques number old)))
+rings_more deques number old (suc m) =
+    let h = rings_more deques number old m in
+    let e : old + suc m ≡ suc (old + m) = omega arith in
+    (h.0 ++ ring deques number (old + m) ∷ [], ap (rings deques number) e ∙ ap (λ (l : List ℕ). l ++ ring deques number (old + m) ∷ []) h.1 ∙ append_assoc (rings deques number old) h.0 (ring deques number (old + m) ∷ []))
+
+pub rings_grow : (deques number old new : ℕ) → old ≤ new → Grows (rings deques number old) (rings deques number new)
+rings_grow deques number old new le =
+    subst (λ (n : ℕ). Grows (rings deques number old) (rings deques number n)) (let e : old + (new - old) ≡ new = omega arith in e) (rings_more deques number old (new - old))
+
+-- the place on the ring at which a deque comes
+place : ℕ → ℕ → ℕ → ℕ
+place deques number d = cond (nat_lt d number) (d + deques - number) (d - number)
+
+ring_place : (deques number d : ℕ) → number < deques → d < deques → ring deques number (place deques number d) ≡ d
+unfolding place
+ring_place deques number d a b = grind (arith, nat_tests)
+
+place_below : (deques number d : ℕ) → number < deques → d < deques → place deques number d < deques
+unfolding place
+place_below deques number d a b = grind (arith, nat_tests)
+
+rings_have : (deques number n j : ℕ) → j < n → Contains (rings deques number n) (ring deques number j)
+rings_have deques number zero j l = absurd (omega arith)
+rings_have deques number (suc n) j l =
+    ⊎_elim
+    (λ (is : j ≡ n). subst (λ (i : ℕ). Contains (rings deques number n ++ ring deques number n ∷ []) (ring deques number i)) (sym is) (Contains-push (rings deques number n) (ring deques number n)))
+    (λ (isnt : j ≢ n). Contains-append_left (rings deques number n) (ring deques number n ∷ []) (ring deques number j) (rings_have deques number n j (omega arith)))
+    (cases_eq j n)
+
+rings_all : (deques number d : ℕ) → number < deques → d < deques → Contains (rings deques number deques) d
+rings_all deques number d a b = subst (Contains (rings deques number deques)) (ring_place deques number d a b) (rings_have deques number deques (place deques number d) (place_below deques number d a b))
+
+ring_one : (deques number i j : ℕ) → number < deques → i < j → j < deques → ring deques number i ≡ ring deques number j → ⊥
+ring_one deques number i j a b c e = grind (arith, nat_tests)
+
+pub nothing_in : (x : ℕ) → Contains [] x → ⊥
+nothing_in x h = let l : h.0 < 0 = h.1 in omega arith
+
+rings_lack : (deques number n j : ℕ) → number < deques → n ≤ j → j < deques → Contains (rings deques number n) (ring deques number j) → ⊥
+rings_lack deques number zero j a b c h = nothing_in (ring deques number j) h
+rings_lack deques number (suc n) j a b c h =
+    ⊎_elim (λ (old : Contains (rings deques number n) (ring deques number j)). rings_lack deques number n j a (omega arith) c old)
+    (λ (new : ring deques number n ≡ ring deques number j). ring_one deques number n j a (omega arith) c new)
+    (Contains-push_cases (rings deques number n) (ring deques number n) (ring deques number j) h)
+
+ring_under : (deques number j : ℕ) → number < deques → j < deques → ring deques number j < deques
+ring_under deques number j a b = grind (arith, nat_tests)
+
+abbrev pub HasAll : ℕ → ℕ → ℕ → Type 0
+HasAll deques number done = (d : ℕ) → d < deques → Contains (rings deques number done) d
+
+pub ended_from : (deques number done : ℕ) (r : Option ℕ) → number < deques → MatchOption r (done ≡ deques) (λ _. done < deques) → MatchOption r (HasAll deques number done) (λ _. HasAll deques number done → ⊥)
+ended_from deques number done None own h = subst (λ (n : ℕ). HasAll deques number n) (sym h) (λ d l. rings_all deques number d own l)
+ended_from deques number done (Some p) own h = λ all. rings_lack deques number done done own (omega arith) h (all (ring deques number done) (ring_under deques number done own h))

@@ -1,0 +1,12 @@
+pub mod Steps
+pub mod Shares
+pub mod Seats
+pub mod Rows
+pub mod Round
+pub mod Filling
+pub mod Shifts
+pub mod Empty
+pub mod Kept
+pub mod Stays
+pub mod GivenBack
+pub mod TakenOnce

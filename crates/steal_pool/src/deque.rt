@@ -1,0 +1,157 @@
+// The rule of one deque, and its steps.
+ghost use Rattle.std.specs.Prelude.{◌≡◌, ◌+◌, ◌<◌, ◌≤◌, ℕ, List, [], ◌∷◌, ◌++◌, true, false, length, IfOk, IfErr, IfSome, MatchOption, MatchResult};
+ghost use Rattle.crossbeam_deque.specs.Handles.{view, IsPassOf, SamePass, worker_deque, stealer_deque, stealer_flavor, worker_flavor, worker_view, worker_port, SameWorker};
+ghost use Rattle.steal_pool.specs.Deque.{hand, Shared, times, GotTask, PutTask, share, kept, given, both, IsFilled};
+
+use crossbeam_deque::protocol::{Join, Lesson, Outcome, Protocol, Split};
+use crossbeam_deque::{Pass, Steal, Stealer, Worker};
+use std::alloc::{AllocError, Global};
+use std::collections::LinkedList;
+use std::sync::Wait;
+use std::thread;
+
+/// What a deque holds: numbers, and behind them one end mark for each shift.
+#[derive(Clone, Copy, Drop)]
+pub enum Task {
+    Number(u64),
+    End,
+}
+
+// What a pass knows of its deque: its parts of the right to know the whole, all numbers that were pushed, which of them it took, and whether
+// it took an end mark and so found no number there. No value of it is made.
+pub struct Hand {
+    pub parts: u64,
+    pub pushed: LinkedList<u64>,
+    pub taken: LinkedList<u64>,
+    pub closed: bool,
+    pub ended: bool,
+}
+
+pub struct Fair;
+
+impl Protocol<Task, Hand> for Fair {
+    ghost use Rattle.std.specs.Prelude.{false, []};
+    ghost use Rattle.steal_pool.specs.Deque.{hand, Shared};
+
+    ghost holds = { Shared };
+
+    ghost first = { hand 64 [] [] false false };
+
+    ghost guest = { hand 0 [] [] false false };
+}
+
+pub struct Puts;
+
+impl Outcome<Task, Hand> for Puts {
+    ghost use Rattle.steal_pool.specs.Deque.{Put};
+
+    ghost then = { Put };
+}
+
+pub struct Takes;
+
+impl Outcome<Task, Hand> for Takes {
+    ghost use Rattle.steal_pool.specs.Deque.{Got};
+
+    ghost then = { Got };
+}
+
+pub struct Cut;
+
+impl Split<Hand> for Cut {
+    ghost use Rattle.steal_pool.specs.Deque.{kept, given};
+
+    ghost left = { kept };
+
+    ghost right = { given };
+}
+
+impl Join<Hand> for Cut {
+    ghost use Rattle.steal_pool.specs.Deque.{both as joined, spent as used_up};
+
+    ghost both = { joined };
+
+    ghost spent = { used_up };
+}
+
+pub struct Total;
+
+impl Lesson<Task, Hand> for Total {
+    ghost use Rattle.steal_pool.specs.Deque.{Learned};
+
+    ghost fact = { λ v _. Learned v };
+}
+
+pub type Owner = Worker<Task, Global, Hand, Fair>;
+
+pub type Thief = Stealer<Task, Global, Hand, Fair>;
+
+pub type Token = Pass<Task, Hand, Global>;
+
+/// Takes from the worker's own deque.
+pub fn pop_one<R: Wait>(rt: &R, own: &mut Owner) -> Task
+    requires { (0 < (worker_view own.old).parts) × (worker_flavor own.old ≡ 0) }
+    ensures same { SameWorker own.old own.new }
+    ensures got { GotTask (worker_view own.old) result (worker_view own.new) }
+{
+    for _ in rt.forever() {
+        if let Some(task) = own.pop_as::<Takes>() {
+            return task;
+        }
+    }
+    unreachable!()
+}
+
+/// Takes from another's deque. An attempt that lost against another taker is made again.
+pub fn steal_one<R: Wait>(rt: &R, thief: &Thief, token: &mut Token) -> Task
+    requires { IsPassOf (stealer_deque thief.now) token.old × (0 < (view token.old).parts) }
+    ensures same { SamePass token.old token.new }
+    ensures got { GotTask (view token.old) result (view token.new) }
+{
+    for _ in rt.forever() {
+        if let Steal::Success(task) = thief.steal_as::<Takes>(token) {
+            return task;
+        }
+        thread::yield_now();
+    }
+    unreachable!()
+}
+
+/// A new deque with its share of the numbers, and behind them the end marks.
+pub fn filled(alloc: Global, number: u64, parents: u64, workers: u64) -> Result<Owner, AllocError>
+    requires { 0 < workers }
+    ensures { IfOk result (λ own. IsFilled (worker_flavor own) (worker_view own) (share workers number parents)) }
+{
+    let mut own = Owner::fifo_as(alloc, 64)?;
+    for p in 0..parents {
+        if p % workers == number {
+            if own.push_as::<Puts>(Task::Number(p)).is_err() {
+                return Err(AllocError);
+            }
+        }
+    }
+    for _ in 0..workers {
+        if own.push_as::<Puts>(Task::End).is_err() {
+            return Err(AllocError);
+        }
+    }
+    Ok(own)
+}
+
+/// Hands out a pass of the deque.
+pub fn hand_out(own: &mut Owner) -> Token
+    requires { 1 < (worker_view own.old).parts }
+    ensures same { SameWorker own.old own.new × IsPassOf (worker_deque own.old) result }
+    ensures cut { (worker_view own.new ≡ kept (worker_view own.old)) × (view result ≡ given (worker_view own.old)) }
+{
+    own.another::<Cut>()
+}
+
+/// Takes a pass back.
+pub fn take_back(own: &mut Owner, token: Token)
+    requires { IsPassOf (worker_deque own.old) token × (0 < (worker_view own.old).parts) × (0 < (view token).parts) }
+    ensures same { SameWorker own.old own.new }
+    ensures joined { worker_view own.new ≡ both (worker_view own.old) (view token) }
+{
+    own.absorb::<Cut>(token);
+}
