@@ -1,21 +1,24 @@
 -- The list of the deques that were found empty.
-use Rattle.std.proofs.Common.{◌≡◌, ◌≢◌, ℕ, zero, suc, ◌+◌, ◌-◌, ◌<◌, ◌≤◌, ◌⊎◌, cond, nat_lt, Option, None, Some, MatchOption, List, [], ◌∷◌, ◌++◌, length, Contains, sym, refl, ap, ◌∙◌, subst, ⊎_elim, append_assoc, append-nil, arith, inl, inr}
+use Rattle.std.proofs.Common.{◌≡◌, ◌≢◌, ℕ, zero, suc, ◌+◌, ◌-◌, ◌<◌, ◌≤◌, ◌⊎◌, ◌==◌, cond, nat_lt, Option, None, Some, MatchOption, List, [], ◌∷◌, ◌++◌, length, Contains, sym, refl, ap, ◌∙◌, subst, ⊎_elim, append_assoc, append-nil, arith, inl, inr}
 use Rattle.std.proofs.lemmas.Bool.Decides.{nat_tests}
 use Rattle.std.proofs.lemmas.Bool.{cases_eq}
-use Rattle.std.proofs.lemmas.List.Elements.{Contains-append_left, Contains-push, Contains-push_cases}
+use Rattle.std.proofs.lemmas.List.Elements.{Contains-append_left, Contains-append_cases, Contains-push, Contains-push_cases}
+use Rattle.steal_pool.specs.Deque.{one, times}
 use Rattle.steal_pool.specs.Ring.{ring}
-use Rattle.steal_pool.specs.Whole.{rings, Grows}
+use mathlib.Core.List.{IsPrefix}
+use Rattle.steal_pool.specs.Shift.{visited}
+use Rattle.steal_pool.proofs.Steps.{times_same}
 
-rings_more : (deques number old more : ℕ) → Grows (rings deques number old) (rings deques number (old + more))
-rings_more deques number old zero = ([], (let e : old + zero ≡ old = omega arith in ap (rings deques number) e) ∙ sym (append-nil (rings deques number old)))
-rings_more deques number old (suc m) =
-    let h = rings_more deques number old m in
+visited_more : (deques number old more : ℕ) → IsPrefix (visited deques number old) (visited deques number (old + more))
+visited_more deques number old zero = ([], append-nil (visited deques number old) ∙ (let e : old ≡ old + zero = omega arith in ap (visited deques number) e))
+visited_more deques number old (suc m) =
+    let h = visited_more deques number old m in
     let e : old + suc m ≡ suc (old + m) = omega arith in
-    (h.0 ++ ring deques number (old + m) ∷ [], ap (rings deques number) e ∙ ap (λ (l : List ℕ). l ++ ring deques number (old + m) ∷ []) h.1 ∙ append_assoc (rings deques number old) h.0 (ring deques number (old + m) ∷ []))
+    (h.0 ++ ring deques number (old + m) ∷ [], sym (append_assoc (visited deques number old) h.0 (ring deques number (old + m) ∷ [])) ∙ ap (λ (l : List ℕ). l ++ ring deques number (old + m) ∷ []) h.1 ∙ sym (ap (visited deques number) e))
 
-pub rings_grow : (deques number old new : ℕ) → old ≤ new → Grows (rings deques number old) (rings deques number new)
-rings_grow deques number old new le =
-    subst (λ (n : ℕ). Grows (rings deques number old) (rings deques number n)) (let e : old + (new - old) ≡ new = omega arith in e) (rings_more deques number old (new - old))
+pub visited_grow : (deques number old new : ℕ) → old ≤ new → IsPrefix (visited deques number old) (visited deques number new)
+visited_grow deques number old new le =
+    subst (λ (n : ℕ). IsPrefix (visited deques number old) (visited deques number n)) (let e : old + (new - old) ≡ new = omega arith in e) (visited_more deques number old (new - old))
 
 -- the place on the ring at which a deque comes
 place : ℕ → ℕ → ℕ → ℕ
@@ -29,16 +32,16 @@ place_below : (deques number d : ℕ) → number < deques → d < deques → pla
 unfolding place
 place_below deques number d a b = grind (arith, nat_tests)
 
-rings_have : (deques number n j : ℕ) → j < n → Contains (rings deques number n) (ring deques number j)
-rings_have deques number zero j l = absurd (omega arith)
-rings_have deques number (suc n) j l =
+visited_have : (deques number n j : ℕ) → j < n → Contains (visited deques number n) (ring deques number j)
+visited_have deques number zero j l = absurd (omega arith)
+visited_have deques number (suc n) j l =
     ⊎_elim
-    (λ (is : j ≡ n). subst (λ (i : ℕ). Contains (rings deques number n ++ ring deques number n ∷ []) (ring deques number i)) (sym is) (Contains-push (rings deques number n) (ring deques number n)))
-    (λ (isnt : j ≢ n). Contains-append_left (rings deques number n) (ring deques number n ∷ []) (ring deques number j) (rings_have deques number n j (omega arith)))
+    (λ (is : j ≡ n). subst (λ (i : ℕ). Contains (visited deques number n ++ ring deques number n ∷ []) (ring deques number i)) (sym is) (Contains-push (visited deques number n) (ring deques number n)))
+    (λ (isnt : j ≢ n). Contains-append_left (visited deques number n) (ring deques number n ∷ []) (ring deques number j) (visited_have deques number n j (omega arith)))
     (cases_eq j n)
 
-rings_all : (deques number d : ℕ) → number < deques → d < deques → Contains (rings deques number deques) d
-rings_all deques number d a b = subst (Contains (rings deques number deques)) (ring_place deques number d a b) (rings_have deques number deques (place deques number d) (place_below deques number d a b))
+visited_all : (deques number d : ℕ) → number < deques → d < deques → Contains (visited deques number deques) d
+visited_all deques number d a b = subst (Contains (visited deques number deques)) (ring_place deques number d a b) (visited_have deques number deques (place deques number d) (place_below deques number d a b))
 
 ring_one : (deques number i j : ℕ) → number < deques → i < j → j < deques → ring deques number i ≡ ring deques number j → ⊥
 ring_one deques number i j a b c e = grind (arith, nat_tests)
@@ -46,19 +49,28 @@ ring_one deques number i j a b c e = grind (arith, nat_tests)
 pub nothing_in : (x : ℕ) → Contains [] x → ⊥
 nothing_in x h = let l : h.0 < 0 = h.1 in omega arith
 
-rings_lack : (deques number n j : ℕ) → number < deques → n ≤ j → j < deques → Contains (rings deques number n) (ring deques number j) → ⊥
-rings_lack deques number zero j a b c h = nothing_in (ring deques number j) h
-rings_lack deques number (suc n) j a b c h =
-    ⊎_elim (λ (old : Contains (rings deques number n) (ring deques number j)). rings_lack deques number n j a (omega arith) c old)
+visited_lack : (deques number n j : ℕ) → number < deques → n ≤ j → j < deques → Contains (visited deques number n) (ring deques number j) → ⊥
+visited_lack deques number zero j a b c h = nothing_in (ring deques number j) h
+visited_lack deques number (suc n) j a b c h =
+    ⊎_elim (λ (old : Contains (visited deques number n) (ring deques number j)). visited_lack deques number n j a (omega arith) c old)
     (λ (new : ring deques number n ≡ ring deques number j). ring_one deques number n j a (omega arith) c new)
-    (Contains-push_cases (rings deques number n) (ring deques number n) (ring deques number j) h)
+    (Contains-push_cases (visited deques number n) (ring deques number n) (ring deques number j) h)
 
 ring_under : (deques number j : ℕ) → number < deques → j < deques → ring deques number j < deques
 ring_under deques number j a b = grind (arith, nat_tests)
 
 abbrev pub HasAll : ℕ → ℕ → ℕ → Type 0
-HasAll deques number done = (d : ℕ) → d < deques → Contains (rings deques number done) d
+HasAll deques number done = (d : ℕ) → d < deques → Contains (visited deques number done) d
 
 pub ended_from : (deques number done : ℕ) (r : Option ℕ) → number < deques → MatchOption r (done ≡ deques) (λ _. done < deques) → MatchOption r (HasAll deques number done) (λ _. HasAll deques number done → ⊥)
-ended_from deques number done None own h = subst (λ (n : ℕ). HasAll deques number n) (sym h) (λ d l. rings_all deques number d own l)
-ended_from deques number done (Some p) own h = λ all. rings_lack deques number done done own (omega arith) h (all (ring deques number done) (ring_under deques number done own h))
+ended_from deques number done None own h = subst (λ (n : ℕ). HasAll deques number n) (sym h) (λ d l. visited_all deques number d own l)
+ended_from deques number done (Some p) own h = λ all. visited_lack deques number done done own (omega arith) h (all (ring deques number done) (ring_under deques number done own h))
+
+-- a number that stands nowhere in a list
+pub not_among : (x : ℕ) (xs : List ℕ) → times x xs ≡ 0 → ¬ (Contains xs x)
+not_among x [] none h = nothing_in x h
+not_among x (y ∷ ys) none h =
+    ⊎_elim
+    (λ (here : y ≡ x). let o : one (x == y) ≡ 1 = ap (λ (z : ℕ). one (x == z)) here ∙ times_same x in absurd (omega arith))
+    (λ (there : Contains ys x). not_among x ys (omega arith) there)
+    (⊎_elim (λ (a : Contains (y ∷ []) x). ⊎_elim (λ (none : Contains [] x). absurd (nothing_in x none)) (λ (is : y ≡ x). inl is) (Contains-push_cases [] y x a)) (λ (b : Contains ys x). inr b) (Contains-append_cases (y ∷ []) ys x h))

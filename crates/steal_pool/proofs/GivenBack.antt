@@ -5,40 +5,40 @@ use Rattle.std.specs.List.{slice_get}
 use Rattle.crossbeam_deque.specs.declared.handles.Worker.{Worker}
 use Rattle.crossbeam_deque.specs.Handles.{view, stealer_deque}
 use Rattle.std.proofs.lemmas.Bool.{cases_eq}
-use Rattle.steal_pool.specs.declared.deque.Hand.{Hand}
+use Rattle.steal_pool.specs.declared.deque.Knowledge.{Knowledge}
 use Rattle.steal_pool.specs.declared.seat.Seat.{Seat}
 use Rattle.steal_pool.specs.Deque.{times, total, spent, both, Learned}
 use Rattle.steal_pool.specs.Ring.{ring, view_at}
-use Rattle.steal_pool.specs.Pool.{seat_views}
+use Rattle.steal_pool.specs.SeatViews.{seat_views}
 use Rattle.steal_pool.specs.Rows.{IsAround}
 use Rattle.steal_pool.specs.Back.{place_view, place_deque, place_views, place_deques, seat_places, row_views, rows_views, HaveParts, AreBack, GoesRound}
 use Rattle.steal_pool.proofs.Steps.{times-append}
-use Rattle.steal_pool.proofs.Filling.{ring_below}
+use Rattle.steal_pool.proofs.Filled.{ring_below}
 use Rattle.steal_pool.proofs.Rows.{map_set, map_same, map_at, map_get, map_length, map_snoc, set_each}
 
-total_put : (f : Hand → ℕ) (views : List Hand) (d : ℕ) (w : Hand) → d < length views → total f (set views d w) + f (view_at views d) ≡ total f views + f w
+total_put : (f : Knowledge → ℕ) (views : List Knowledge) (d : ℕ) (w : Knowledge) → d < length views → total f (set views d w) + f (view_at views d) ≡ total f views + f w
 total_put f [] d w below = absurd (omega arith)
 total_put f (v ∷ vs) zero w below = omega arith
 total_put f (v ∷ vs) (suc d) w below = let e = total_put f vs d w (omega arith) in omega arith
 
-pub total-append : (f : Hand → ℕ) (xs ys : List Hand) → total f (xs ++ ys) ≡ total f xs + total f ys
+pub total-append : (f : Knowledge → ℕ) (xs ys : List Knowledge) → total f (xs ++ ys) ≡ total f xs + total f ys
 total-append f [] ys = omega arith
 total-append f (x ∷ xs) ys = omega (arith, total-append f xs ys)
 
-pub back_none : (first all : List Hand) → AreBack first first all all
+pub back_none : (first all : List Knowledge) → AreBack first first all all
 back_none first all = record { count = refl; same = λ k l. refl; more = λ k l. omega arith; ended = λ k l e. e; parts = refl; each = λ x. refl }
 
 or_left : (a b : Bool) → a ≡ true → (a || b) ≡ true
 or_left a b e = ap (λ (c : Bool). c || b) e
 
-pub back_more : (first now all longer left : List Hand) (d : ℕ) (w u : Hand) → AreBack first now all longer → longer ≡ left ++ u ∷ [] → d < length now → w ≡ both (view_at now d) u
+pub back_more : (first now all longer left : List Knowledge) (d : ℕ) (w u : Knowledge) → AreBack first now all longer → longer ≡ left ++ u ∷ [] → d < length now → w ≡ both (view_at now d) u
     → AreBack first (set now d w) all left
 back_more first now all longer left d w u h is below joined =
     let c = h.count in
-    let v : Hand = view_at now d in
-    let sum : (f : Hand → ℕ) → total f longer ≡ total f left + (f u + 0) = λ f. ap (total f) is ∙ total-append f left (u ∷ []) in
-    let pushed : w.pushed ≡ v.pushed = ap (λ (h : Hand). h.pushed) joined in
-    let parts : w.parts ≡ v.parts + u.parts = ap (λ (h : Hand). h.parts) joined in
+    let v : Knowledge = view_at now d in
+    let sum : (f : Knowledge → ℕ) → total f longer ≡ total f left + (f u + 0) = λ f. ap (total f) is ∙ total-append f left (u ∷ []) in
+    let pushed : w.pushed ≡ v.pushed = ap (λ (h : Knowledge). h.pushed) joined in
+    let parts : w.parts ≡ v.parts + u.parts = ap (λ (h : Knowledge). h.parts) joined in
     let b : d < length first = omega arith in
     let m = h.more d b in
     record {
@@ -46,17 +46,17 @@ back_more first now all longer left d w u h is below joined =
       same = set_each (λ k v. v.pushed ≡ (view_at first k).pushed) now (length first) d w below (pushed ∙ h.same d b) (λ k _ l. h.same k l);
       more = set_each (λ k v. (view_at first k).parts ≤ v.parts) now (length first) d w below (omega arith) (λ k _ l. h.more k l);
       ended = set_each (λ k v. (view_at first k).ended ≡ true → v.ended ≡ true) now (length first) d w below
-          (λ e. ap (λ (h : Hand). h.ended) joined ∙ or_left v.ended u.ended (h.ended d b e)) (λ k _ l. h.ended k l);
+          (λ e. ap (λ (h : Knowledge). h.ended) joined ∙ or_left v.ended u.ended (h.ended d b e)) (λ k _ l. h.ended k l);
       parts = (let p = h.parts in let t = total_put (λ v. v.parts) now d w below in let s = sum (λ v. v.parts) in omega arith);
       each = λ x. (let e = h.each x in let t = total_put (λ v. times x v.taken) now d w below in let s = sum (λ v. times x v.taken) in
-          let n : times x w.taken ≡ times x v.taken + times x u.taken = ap (λ (h : Hand). times x h.taken) joined ∙ times-append x v.taken u.taken in omega arith);
+          let n : times x w.taken ≡ times x v.taken + times x u.taken = ap (λ (h : Knowledge). times x h.taken) joined ∙ times-append x v.taken u.taken in omega arith);
     }
 
 -- all passes of one row are back
-pub back_row : (first now new all longer left row : List Hand) → AreBack first now all longer → longer ≡ left ++ row → AreBack now new row [] → AreBack first new all left
+pub back_row : (first now new all longer left row : List Knowledge) → AreBack first now all longer → longer ≡ left ++ row → AreBack now new row [] → AreBack first new all left
 back_row first now new all longer left row h is g =
     let c = h.count in
-    let sum : (f : Hand → ℕ) → total f longer ≡ total f left + total f row = λ f. ap (total f) is ∙ total-append f left row in
+    let sum : (f : Knowledge → ℕ) → total f longer ≡ total f left + total f row = λ f. ap (total f) is ∙ total-append f left row in
     record {
       count = g.count ∙ h.count;
       same = λ k l. g.same k (omega arith) ∙ h.same k l;
@@ -66,7 +66,7 @@ back_row first now new all longer left row h is g =
       each = λ x. (let a = h.each x in let b = g.each x in let s = sum (λ v. times x v.taken) in omega arith);
     }
 
-pub still_parts : (first now all left : List Hand) → AreBack first now all left → HaveParts first → HaveParts now
+pub still_parts : (first now all left : List Knowledge) → AreBack first now all left → HaveParts first → HaveParts now
 still_parts first now all left h parts k below = let c = h.count in let m = h.more k (omega arith) in let p = parts k (omega arith) in omega arith
 
 module _ {D : Type 0} where
@@ -94,18 +94,18 @@ module _ {D : Type 0} where
       let c : length row + 1 ≡ m = (let c = h.count in omega (arith, length-append row (w ∷ []))) in
       record { count = refl; seats = λ j l. sym (got_init row w j l) ∙ h.seats j (omega arith) }
 
-parts_more : (v : Hand) (vs : List Hand) → 0 < v.parts → HaveParts vs → HaveParts (v ∷ vs)
+parts_more : (v : Knowledge) (vs : List Knowledge) → 0 < v.parts → HaveParts vs → HaveParts (v ∷ vs)
 parts_more v vs p h zero below = p
 parts_more v vs p h (suc k) below = h k (omega arith)
 
-parts_less : (views : List Hand) (w : Hand) → HaveParts (views ++ w ∷ []) → HaveParts views × (0 < w.parts)
+parts_less : (views : List Knowledge) (w : Knowledge) → HaveParts (views ++ w ∷ []) → HaveParts views × (0 < w.parts)
 parts_less [] w h = ((λ k below. absurd (omega arith)), h 0 (omega arith))
 parts_less (v ∷ vs) w h =
     let rest = parts_less vs w (λ k below. h (suc k) (omega arith)) in
     (parts_more v vs (h 0 (omega arith)) rest.0, rest.1)
 
 abbrev pub Place : Type 0 → Type 0 → Type 0
-Place T P = Option (Worker T Global Hand P)
+Place T P = Option (Worker T Global Knowledge P)
 
 module _ {T P : Type 0} where
   -- where a row stands in which the passes of the seats after `left` are back
@@ -164,7 +164,7 @@ module _ {T P : Type 0} where
       → 0 < (place_view (slice_index_or now d r)).parts
   place_parts number d first now row left r h parts below =
       let l = map_length place_view now in
-      subst (λ (v : Hand). 0 < v.parts) (map_at place_view now d r spent below) (still_parts (place_views first) (place_views now) (seat_views row) (seat_views left) h.back parts d (omega arith))
+      subst (λ (v : Knowledge). 0 < v.parts) (map_at place_view now d r spent below) (still_parts (place_views first) (place_views now) (seat_views row) (seat_views left) h.back parts d (omega arith))
 
   pub row_more : (number d : ℕ) (first now : List (Place T P)) (row longer left : List Seat) (seat : Seat) (r new : Place T P) → IsRowBack number first now row longer → longer ≡ left ++ seat ∷ [] → d < length now
       → place_deque new ≡ place_deque (slice_index_or now d r) → place_view new ≡ both (place_view (slice_index_or now d r)) (view seat.token) → IsRowBack number first (set now d new) row left
@@ -180,9 +180,9 @@ module _ {T P : Type 0} where
         around = subst (λ (k : ℕ). IsAround number k (place_deques first) (seat_places left)) m (around_less number (length longer) (place_deques first) (seat_places left) (f seat) around);
         few = omega (arith, length-append left (seat ∷ []));
         parts = (parts_less (seat_views left) (view seat.token) (subst HaveParts (ap seat_views is ∙ map_snoc (λ (s : Seat). view s.token) left seat) h.parts)).0;
-        back = subst (λ (vs : List Hand). AreBack (place_views first) vs (seat_views row) (seat_views left)) (sym (map_set place_view now d new))
+        back = subst (λ (vs : List Knowledge). AreBack (place_views first) vs (seat_views row) (seat_views left)) (sym (map_set place_view now d new))
             (back_more (place_views first) (place_views now) (seat_views row) (seat_views longer) (seat_views left) d (place_view new) (view seat.token) h.back
-            (ap seat_views is ∙ map_snoc (λ (s : Seat). view s.token) left seat) (omega arith) (joined ∙ ap (λ (v : Hand). both v (view seat.token)) (sym (map_at place_view now d r spent below))));
+            (ap seat_views is ∙ map_snoc (λ (s : Seat). view s.token) left seat) (omega arith) (joined ∙ ap (λ (v : Knowledge). both v (view seat.token)) (sym (map_at place_view now d r spent below))));
       }
 
   pub row_last : (number : ℕ) (first now : List (Place T P)) (row left : List Seat) → IsRowBack number first now row left → left ≡ [] → AreBack (place_views first) (place_views now) (seat_views row) []
@@ -197,7 +197,7 @@ module _ {T P : Type 0} where
 
 rows_views_snoc : (rows : List (Option (Vec Seat))) (row : Option (Vec Seat)) → rows_views (rows ++ row ∷ []) ≡ rows_views rows ++ row_views row
 rows_views_snoc [] row = append-nil (row_views row)
-rows_views_snoc (r ∷ rs) row = ap (λ (l : List Hand). row_views r ++ l) (rows_views_snoc rs row) ∙ sym (append_assoc (row_views r) (rows_views rs) (row_views row))
+rows_views_snoc (r ∷ rs) row = ap (λ (l : List Knowledge). row_views r ++ l) (rows_views_snoc rs row) ∙ sym (append_assoc (row_views r) (rows_views rs) (row_views row))
 
 module _ {T P : Type 0} where
   pub learned_more : (first now : List (Place T P)) (i : ℕ) (r new : Place T P) → place_views now ≡ place_views first × ((k : ℕ) → k < i → Learned (view_at (place_views now) k)) → i < length now
@@ -206,7 +206,7 @@ module _ {T P : Type 0} where
   learned_more first now i r new h below same learned =
       let e : place_views (set now i new) ≡ place_views now = map_same place_view now i new r below same in (
         e ∙ h.0,
-        λ k l. subst (λ (vs : List Hand). Learned (view_at vs k)) (sym e)
+        λ k l. subst (λ (vs : List Knowledge). Learned (view_at vs k)) (sym e)
             (⊎_elim
             (λ (is : k ≡ i). subst (λ (j : ℕ). Learned (view_at (place_views now) j)) (sym is) (subst Learned (sym (map_at place_view now i r spent below)) learned))
             (λ (isnt : k ≢ i). h.1 k (omega arith))
@@ -249,7 +249,7 @@ module _ {T P : Type 0} where
   pub rows_skip : (first now : List (Place T P)) (rows longer left : List (Option (Vec Seat))) (row : Option (Vec Seat)) → AreRowsBack first now rows longer → longer ≡ left ++ row ∷ [] → row ≡ None → AreRowsBack first now rows left
   rows_skip first now rows longer left row h is none =
       less_rows first now now rows longer left row h is refl
-      (subst (λ (l : List Hand). AreBack (place_views first) (place_views now) (rows_views rows) l)
+      (subst (λ (l : List Knowledge). AreBack (place_views first) (place_views now) (rows_views rows) l)
       (ap rows_views is ∙ rows_views_snoc left row ∙ ap (λ (r : Option (Vec Seat)). rows_views left ++ row_views r) none ∙ append-nil (rows_views left)) h.back)
 
 pub room_for : {A B : Type 0} (f : A → B) (xs : List B) (all left rest : List A) (x : A) → xs ++ map f left ≡ map f all → left ≡ x ∷ rest → length xs < length all

@@ -3,10 +3,11 @@ pub mod Shares
 pub mod Seats
 pub mod Rows
 pub mod Round
-pub mod Filling
+pub mod Filled
 pub mod Shifts
 pub mod Empty
 pub mod Kept
 pub mod Stays
 pub mod GivenBack
 pub mod TakenOnce
+pub mod Crossing

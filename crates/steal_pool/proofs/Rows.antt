@@ -5,11 +5,11 @@ use Rattle.std.proofs.lemmas.Bool.{cases_eq}
 use Rattle.std.proofs.lemmas.Bool.Decides.{nat_tests}
 use Rattle.crossbeam_deque.specs.declared.handles.Worker.{Worker}
 use Rattle.crossbeam_deque.specs.Handles.{view, worker_view, worker_deque, worker_flavor, stealer_deque, SameWorker}
-use Rattle.steal_pool.specs.declared.deque.Hand.{Hand}
+use Rattle.steal_pool.specs.declared.deque.Knowledge.{Knowledge}
 use Rattle.steal_pool.specs.declared.seat.Seat.{Seat}
-use Rattle.steal_pool.specs.Deque.{hand, one, share, spent, kept, given}
+use Rattle.steal_pool.specs.Deque.{knowledge, one, share, spent, kept, given}
 use Rattle.steal_pool.specs.Ring.{ring, view_at}
-use Rattle.steal_pool.specs.Pool.{seat_views}
+use Rattle.steal_pool.specs.SeatViews.{seat_views}
 use Rattle.steal_pool.specs.Rows.{owner_views, owner_deques, owner_flavors, seat_deques, AreCut, others_of, IsRow, IsAround, AreOwners, served}
 
 pub map_set : {A B : Type 0} (f : A → B) (xs : List A) (i : ℕ) (y : A) → map f (set xs i y) ≡ set (map f xs) i (f y)
@@ -40,17 +40,17 @@ pub map_snoc : {A B : Type 0} (f : A → B) (xs : List A) (y : A) → map f (xs 
 map_snoc f [] y = refl
 map_snoc f (x ∷ xs) y = ap (λ l. f x ∷ l) (map_snoc f xs y)
 
-at_snoc_old : (views : List Hand) (w : Hand) (j : ℕ) → j < length views → view_at (views ++ w ∷ []) j ≡ view_at views j
+at_snoc_old : (views : List Knowledge) (w : Knowledge) (j : ℕ) → j < length views → view_at (views ++ w ∷ []) j ≡ view_at views j
 at_snoc_old [] w j below = absurd (omega arith)
 at_snoc_old (v ∷ vs) w zero below = refl
 at_snoc_old (v ∷ vs) w (suc j) below = at_snoc_old vs w j (omega arith)
 
-at_snoc_new : (views : List Hand) (w : Hand) → view_at (views ++ w ∷ []) (length views) ≡ w
+at_snoc_new : (views : List Knowledge) (w : Knowledge) → view_at (views ++ w ∷ []) (length views) ≡ w
 at_snoc_new [] w = refl
 at_snoc_new (v ∷ vs) w = at_snoc_new vs w
 
 -- a fact of each place, with one more place
-pub each_more : (F : ℕ → Hand → Type 0) (n : ℕ) (views : List Hand) (w : Hand) → length views ≡ n → ((j : ℕ) → j < n → F j (view_at views j)) → F n w → (j : ℕ) → j < n + 1 → F j (view_at (views ++ w ∷ []) j)
+pub each_more : (F : ℕ → Knowledge → Type 0) (n : ℕ) (views : List Knowledge) (w : Knowledge) → length views ≡ n → ((j : ℕ) → j < n → F j (view_at views j)) → F n w → (j : ℕ) → j < n + 1 → F j (view_at (views ++ w ∷ []) j)
 each_more F n views w count old mine j l =
     ⊎_elim
     (λ (is : j ≡ n). subst (λ (i : ℕ). F i (view_at (views ++ w ∷ []) i)) (count ∙ sym is) (subst (F (length views)) (sym (at_snoc_new views w)) (subst (λ (i : ℕ). F i w) (sym count) mine)))
@@ -76,19 +76,19 @@ module _ {D : Type 0} where
         (cases_eq j n));
   }
 
-pub row_more : (number n d : ℕ) (owners row : List Hand) (v w : Hand) → IsRow number n owners row → v.pushed ≡ (view_at owners d).pushed → ring (length owners) number (n + 1) ≡ d → w ≡ given v
+pub row_more : (number n d : ℕ) (owners row : List Knowledge) (v w : Knowledge) → IsRow number n owners row → v.pushed ≡ (view_at owners d).pushed → ring (length owners) number (n + 1) ≡ d → w ≡ given v
     → IsRow number (n + 1) owners (row ++ w ∷ [])
 row_more number n d owners row v w h pushed is cut =
     let c = h.count in record {
       count = omega (arith, length-append row (w ∷ []));
-      parts = each_more (λ _ u. u.parts ≡ 1) n row w c h.parts (ap (λ (u : Hand). u.parts) cut);
+      parts = each_more (λ _ u. u.parts ≡ 1) n row w c h.parts (ap (λ (u : Knowledge). u.parts) cut);
       all = each_more (λ j u. u.pushed ≡ (view_at owners (ring (length owners) number (j + 1))).pushed) n row w c h.all
-          (ap (λ (u : Hand). u.pushed) cut ∙ pushed ∙ ap (λ (k : ℕ). (view_at owners k).pushed) (sym is));
-      none = each_more (λ _ u. u.taken ≡ []) n row w c h.none (ap (λ (u : Hand). u.taken) cut);
+          (ap (λ (u : Knowledge). u.pushed) cut ∙ pushed ∙ ap (λ (k : ℕ). (view_at owners k).pushed) (sym is));
+      none = each_more (λ _ u. u.taken ≡ []) n row w c h.none (ap (λ (u : Knowledge). u.taken) cut);
     }
 
 -- each place is the one that was written, or another
-pub set_each : (F : ℕ → Hand → Type 0) (views : List Hand) (n d : ℕ) (w : Hand) → d < length views → F d w → ((j : ℕ) → j ≢ d → j < n → F j (view_at views j)) → (j : ℕ) → j < n → F j (view_at (set views d w) j)
+pub set_each : (F : ℕ → Knowledge → Type 0) (views : List Knowledge) (n d : ℕ) (w : Knowledge) → d < length views → F d w → ((j : ℕ) → j ≢ d → j < n → F j (view_at views j)) → (j : ℕ) → j < n → F j (view_at (set views d w) j)
 set_each F views n d w below mine others j l =
     ⊎_elim
     (λ (is : j ≡ d). subst (λ (i : ℕ). F i (view_at (set views d w) i)) (sym is) (subst (F d) (sym (get_or-set_same views d w spent below)) mine))
@@ -96,25 +96,25 @@ set_each F views n d w below mine others j l =
     (cases_eq j d)
 
 -- one owner hands out a pass
-pub cut_more : (cuts more : ℕ → ℕ) (old new : List Hand) (d : ℕ) (v w : Hand) → AreCut cuts old new → d < length old → v ≡ view_at new d → 1 < v.parts → w ≡ kept v
+pub cut_more : (cuts more : ℕ → ℕ) (old new : List Knowledge) (d : ℕ) (v w : Knowledge) → AreCut cuts old new → d < length old → v ≡ view_at new d → 1 < v.parts → w ≡ kept v
     → more d ≡ cuts d + 1 → ((k : ℕ) → k ≢ d → more k ≡ cuts k) → AreCut more old (set new d w)
 cut_more cuts more old new d v w h below at many cut here else_ =
     let c = h.count in
     let b : d < length new = omega arith in
-    let p : v.parts ≡ (view_at new d).parts = ap (λ (u : Hand). u.parts) at in
-    let q : w.parts ≡ v.parts - 1 = ap (λ (u : Hand). u.parts) cut in
+    let p : v.parts ≡ (view_at new d).parts = ap (λ (u : Knowledge). u.parts) at in
+    let q : w.parts ≡ v.parts - 1 = ap (λ (u : Knowledge). u.parts) cut in
     let hp = h.parts d below in record {
       count = length-set new d w ∙ h.count;
       parts = set_each (λ k u. u.parts + more k ≡ (view_at old k).parts) new (length old) d w b (omega arith) (λ k isnt l. let e = else_ k isnt in let o = h.parts k l in omega arith);
-      all = set_each (λ k u. u.pushed ≡ (view_at old k).pushed) new (length old) d w b (ap (λ (u : Hand). u.pushed) (cut ∙ ap kept at) ∙ h.all d below) (λ k _ l. h.all k l);
-      none = set_each (λ k u. u.taken ≡ (view_at old k).taken) new (length old) d w b (ap (λ (u : Hand). u.taken) (cut ∙ ap kept at) ∙ h.none d below) (λ k _ l. h.none k l);
+      all = set_each (λ k u. u.pushed ≡ (view_at old k).pushed) new (length old) d w b (ap (λ (u : Knowledge). u.pushed) (cut ∙ ap kept at) ∙ h.all d below) (λ k _ l. h.all k l);
+      none = set_each (λ k u. u.taken ≡ (view_at old k).taken) new (length old) d w b (ap (λ (u : Knowledge). u.taken) (cut ∙ ap kept at) ∙ h.none d below) (λ k _ l. h.none k l);
     }
 
 -- the same counts by other words
-pub cut_same : (cuts more : ℕ → ℕ) (old new : List Hand) → AreCut cuts old new → ((k : ℕ) → k < length old → more k ≡ cuts k) → AreCut more old new
+pub cut_same : (cuts more : ℕ → ℕ) (old new : List Knowledge) → AreCut cuts old new → ((k : ℕ) → k < length old → more k ≡ cuts k) → AreCut more old new
 cut_same cuts more old new h same = record { count = h.count; parts = λ k l. (let e = same k l in let o = h.parts k l in omega arith); all = h.all; none = h.none }
 
-pub cut_none : (cuts : ℕ → ℕ) (old : List Hand) → ((k : ℕ) → k < length old → cuts k ≡ 0) → AreCut cuts old old
+pub cut_none : (cuts : ℕ → ℕ) (old : List Knowledge) → ((k : ℕ) → k < length old → cuts k ≡ 0) → AreCut cuts old old
 cut_none cuts old zero_ = record { count = refl; parts = λ k l. (let e = zero_ k l in omega arith); all = λ k l. refl; none = λ k l. refl }
 
 -- in the first part of the round, up to d

@@ -6,22 +6,22 @@ use Rattle.std.specs.List.{slice_get}
 use Rattle.std.proofs.lemmas.Bool.Decides.{nat_tests}
 use Rattle.crossbeam_deque.specs.declared.handles.Worker.{Worker}
 use Rattle.crossbeam_deque.specs.Handles.{view, worker_view, worker_deque, worker_flavor, stealer_deque}
-use Rattle.steal_pool.specs.declared.deque.Hand.{Hand}
+use Rattle.steal_pool.specs.declared.deque.Knowledge.{Knowledge}
 use Rattle.steal_pool.specs.declared.deque.Task.{Task}
-use Rattle.steal_pool.specs.declared.deque.Fair.{Fair}
+use Rattle.steal_pool.specs.declared.deque.DequeRule.{DequeRule}
 use Rattle.steal_pool.specs.declared.seat.Seat.{Seat}
-use Rattle.steal_pool.specs.declared.pool.Shift.{Shift}
+use Rattle.steal_pool.specs.declared.shift.Shift.{Shift}
 use Rattle.steal_pool.specs.Deque.{times, share, spent}
 use Rattle.steal_pool.specs.Ring.{ring, view_at, takings, IsShift}
-use Rattle.steal_pool.specs.Pool.{seat_views}
-use Rattle.steal_pool.specs.Shift.{shift_taken}
+use Rattle.steal_pool.specs.SeatViews.{seat_views}
+use Rattle.steal_pool.specs.Shift.{visited, shift_taken, shift_empty}
 use Rattle.steal_pool.specs.Rows.{owner_views, owner_deques, owner_flavors, seat_deques, IsAround, AreOwners, served, AreFifo, IsNewRow, AreRows}
-use Rattle.steal_pool.specs.Whole.{rings, shift_empty, shift_deques, IsPoolShift, IsPool, AreFresh}
+use Rattle.steal_pool.specs.Pool.{pool_deques, pool_parents, IsPoolShift, IsPoolOf, IsPool, IsNewShift, AreNew}
 use Rattle.steal_pool.proofs.Rows.{map_length, map_snoc}
-use Rattle.steal_pool.proofs.Filling.{get_snoc}
+use Rattle.steal_pool.proofs.Filled.{get_snoc}
 
 abbrev pub Own : Type 0
-Own = Worker Task Global Hand Fair
+Own = Worker Task Global Knowledge DequeRule
 
 get_middle : {A : Type 0} (xs rest : List A) (x : A) → slice_get (xs ++ x ∷ rest) (length xs) ≡ Some x
 get_middle [] rest x = refl
@@ -52,7 +52,7 @@ served_all deques k b = grind (arith, nat_tests)
 pub ring_zero : (deques number : ℕ) → number < deques → ring deques number 0 ≡ number
 ring_zero deques number b = grind (arith, nat_tests)
 
-takings_new : (views : List Hand) (n : ℕ) → length views ≡ n → ((j : ℕ) → j < n → (view_at views j).taken ≡ []) → takings views ≡ []
+takings_new : (views : List Knowledge) (n : ℕ) → length views ≡ n → ((j : ℕ) → j < n → (view_at views j).taken ≡ []) → takings views ≡ []
 takings_new [] n c none = refl
 takings_new (v ∷ vs) zero c none = absurd {A = takings (v ∷ vs) ≡ []} (omega arith)
 takings_new (v ∷ vs) (suc n) c none = ap (λ (l : List ℕ). l ++ takings vs) (none 0 (omega arith)) ∙ takings_new vs n (omega arith) (λ j l. none (suc j) (omega arith))
@@ -81,11 +81,11 @@ module _ (deques parents : ℕ) (of : List (RowsId × Global)) where
       let b : n < length owners = get_within owners n own at in
       let b' : n < deques = (let l = map_length (λ (o : Own). worker_view o) owners in let c = a.count in omega arith) in
       let v : view_at (owner_views owners) n ≡ worker_view own = view_of owners n own at in
-      let p = a.parts n b' in let s = served_all deques n b' in let q : (view_at (owner_views owners) n).parts ≡ (worker_view own).parts = ap (λ (v : Hand). v.parts) v in
+      let p = a.parts n b' in let s = served_all deques n b' in let q : (view_at (owner_views owners) n).parts ≡ (worker_view own).parts = ap (λ (v : Knowledge). v.parts) v in
       record {
         parts = omega arith;
-        all = ap (λ (v : Hand). v.pushed) (sym v) ∙ a.all n b';
-        none = ap (λ (v : Hand). v.taken) (sym v) ∙ a.none n b';
+        all = ap (λ (v : Knowledge). v.pushed) (sym v) ∙ a.all n b';
+        none = ap (λ (v : Knowledge). v.taken) (sym v) ∙ a.none n b';
         fifo = f n (worker_flavor own) (get_map (λ (o : Own). worker_flavor o) owners n own at);
         seats = r.each n others at';
         below = b';
@@ -161,7 +161,7 @@ module _ (deques parents : ℕ) (of : List (RowsId × Global)) where
       let l = map_length (λ (s : Shift). s.others) shifts in let c = h.count in let d = h.made.count in
       sym (append-nil (map (λ (s : Shift). s.others) shifts)) ∙ ap (λ (r : List (Vec Seat)). map (λ (s : Shift). s.others) shifts ++ r) (sym (none_left (map (λ (s : Shift). s.others) shifts) rows_left rows h.others (omega arith))) ∙ h.others
 
-  deques_are : (shifts : List Shift) → shift_deques shifts ≡ owner_deques (map (λ s. s.own) shifts)
+  deques_are : (shifts : List Shift) → pool_deques shifts ≡ owner_deques (map (λ s. s.own) shifts)
   deques_are [] = refl
   deques_are (s ∷ ss) = ap (λ (l : List (RowsId × Global)). worker_deque s.own ∷ l) (deques_are ss)
 
@@ -170,22 +170,34 @@ module _ (deques parents : ℕ) (of : List (RowsId × Global)) where
       (ap (λ (l : List Own). slice_get l i) (sym (own_of owners owners_left rows rows_left shifts n h is)) ∙ get_map (λ (s : Shift). s.own) shifts i s e)
       (ap (λ (l : List (Vec Seat)). slice_get l i) (sym (others_are owners owners_left rows rows_left shifts n h is)) ∙ get_map (λ (s : Shift). s.others) shifts i s e)
 
-  pub shifts_pool : 0 < deques → deques ≤ 64 → (owners owners_left : List Own) (rows rows_left : List (Vec Seat)) (shifts : List Shift) (n : ℕ) → ShiftsSoFar n owners rows owners_left rows_left shifts → n ≡ deques → owner_deques owners ≡ of → IsPool deques parents shifts
+  pub shifts_pool : 0 < deques → deques ≤ 64 → (owners owners_left : List Own) (rows rows_left : List (Vec Seat)) (shifts : List Shift) (n : ℕ) → ShiftsSoFar n owners rows owners_left rows_left shifts → n ≡ deques → owner_deques owners ≡ of → IsPoolOf deques parents shifts
   shifts_pool some few owners owners_left rows rows_left shifts n h is same = record {
     some = some;
     few = few;
     count = h.count ∙ is;
     each = λ i s e. (let p = part_of owners owners_left rows rows_left shifts n h is i s e in let f = h.each i s e in
-        record { named = f.0; of_parents = f.1; of_deques = f.2; own_parts = p.parts; seat_parts = λ j l. p.seats.parts j l });
+        record { number = f.0; parents_of = f.1; deques_of = f.2; own_parts = p.parts; seat_parts = λ j l. p.seats.parts j l });
     around = λ i s e. subst (λ (ds : List (RowsId × Global)). IsAround i (deques - 1) ds (seat_deques s.others.items))
         (sym (deques_are shifts ∙ ap (λ (os : List Own). owner_deques os) (own_of owners owners_left rows rows_left shifts n h is) ∙ same))
         (part_of owners owners_left rows rows_left shifts n h is i s e).seats.around;
   }
 
-  pub shifts_fresh : (owners owners_left : List Own) (rows rows_left : List (Vec Seat)) (shifts : List Shift) (n : ℕ) → ShiftsSoFar n owners rows owners_left rows_left shifts → n ≡ deques → AreFresh shifts
-  shifts_fresh owners owners_left rows rows_left shifts n h is i s e =
-      let p = part_of owners owners_left rows rows_left shifts n h is i s e in let f = h.each i s e in
-      (takings_new (worker_view s.own ∷ seat_views s.others.items) deques (part_count i s.own s.others p) (part_none i s.own s.others p), ap (rings s.deques s.number) f.3)
+  pub shifts_new : (owners owners_left : List Own) (rows rows_left : List (Vec Seat)) (shifts : List Shift) (n : ℕ) → ShiftsSoFar n owners rows owners_left rows_left shifts → n ≡ deques → AreNew deques parents shifts
+  shifts_new owners owners_left rows rows_left shifts n h is i s e =
+      let p = part_of owners owners_left rows rows_left shifts n h is i s e in let f = h.each i s e in record {
+        number = f.0;
+        parents_of = f.1;
+        deques_of = f.2;
+        none_taken = takings_new (worker_view s.own ∷ seat_views s.others.items) deques (part_count i s.own s.others p) (part_none i s.own s.others p);
+        none_empty = ap (visited s.deques s.number) f.3;
+      }
+
+  parents_of_pool : (shifts : List Shift) → 0 < length shifts → ((i : ℕ) (s : Shift) → slice_get shifts i ≡ Some s → s.parents ≡ parents) → pool_parents shifts ≡ parents
+  parents_of_pool [] some e = absurd (omega arith)
+  parents_of_pool (s ∷ ss) some e = e 0 s refl
+
+  pub shifts_parents : (owners owners_left : List Own) (rows rows_left : List (Vec Seat)) (shifts : List Shift) (n : ℕ) → ShiftsSoFar n owners rows owners_left rows_left shifts → 0 < n → pool_parents shifts ≡ parents
+  shifts_parents owners owners_left rows rows_left shifts n h some = let c = h.count in parents_of_pool shifts (omega arith) (λ i s e. (h.each i s e).1)
 
 pub shifts_begin : (deques parents : ℕ) (first owners : List Own) (rows : List (Vec Seat)) (owners_left : List Own) (rows_left : List (Vec Seat)) (shifts : List Shift) → AreOwners deques parents (served deques) (owner_views owners) → AreFifo (owner_flavors first)
     → AreRows deques parents deques (owner_deques first) rows → owner_deques owners ≡ owner_deques first → owner_flavors owners ≡ owner_flavors first → owners_left ≡ owners → rows_left ≡ rows → shifts ≡ []
@@ -194,3 +206,6 @@ shifts_begin deques parents first owners rows owners_left rows_left shifts a f r
     subst (λ (os : List Own). ShiftsSoFar deques parents (owner_deques os) 0 os rows_left os rows_left shifts) (sym eo)
     (subst (λ (rs : List (Vec Seat)). ShiftsSoFar deques parents (owner_deques owners) 0 owners rs owners rs shifts) (sym er)
     (shifts_none deques parents (owner_deques owners) owners rows owners rows shifts a (subst AreFifo (sym ef) f) (subst (λ (ds : List (RowsId × Global)). AreRows deques parents deques ds rows) (sym ed) r) refl refl es))
+
+pub are_pool : (deques parents : ℕ) (shifts : List Shift) → IsPoolOf deques parents shifts → pool_parents shifts ≡ parents → IsPool shifts
+are_pool deques parents shifts h is = subst (λ (n : ℕ). IsPoolOf n (pool_parents shifts) shifts) (sym h.count) (subst (λ (p : ℕ). IsPoolOf deques p shifts) (sym is) h)

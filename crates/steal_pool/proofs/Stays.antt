@@ -1,47 +1,66 @@
--- A step of one shift leaves the pool as it is.
+-- Shifts that have taken more are still all shifts of one pool.
 use Rattle.std.proofs.Common.{◌≡◌, ℕ, zero, suc, ◌+◌, ◌-◌, ◌<◌, ◌⊎◌, Some, List, [], ◌∷◌, map, length, set, sym, refl, ap, ◌∙◌, subst, ⊎_elim, arith, inl, inr, length-set}
 use Rattle.std.specs.Global.{Global}
 use Rattle.std.specs.List.{slice_get}
 use Rattle.atomic_blocks.specs.Lent.{RowsId}
 use Rattle.crossbeam_deque.specs.Handles.{worker_view, worker_deque, SameWorker}
-use Rattle.steal_pool.specs.declared.pool.Shift.{Shift}
+use Rattle.steal_pool.specs.declared.shift.Shift.{Shift}
 use Rattle.steal_pool.specs.Rows.{seat_deques, IsAround, KeepsParts}
-use Rattle.steal_pool.specs.Whole.{shift_deques, IsPoolShift, IsPool}
+use Rattle.steal_pool.specs.Shift.{StaysInPool}
+use Rattle.steal_pool.specs.Pool.{pool_deques, pool_parents, IsPoolShift, IsPoolOf, IsPool}
 
 module _ {A : Type 0} where
-  get_set : (xs : List A) (i j : ℕ) (t u : A) → slice_get (set xs i t) j ≡ Some u → ((j ≡ i) × (t ≡ u)) ⊎ (slice_get xs j ≡ Some u)
-  get_set [] i j t u e = inr e
-  get_set (x ∷ xs) zero zero t u e = inl (refl, cc)
-  get_set (x ∷ xs) zero (suc j) t u e = inr e
-  get_set (x ∷ xs) (suc i) zero t u e = inr e
-  get_set (x ∷ xs) (suc i) (suc j) t u e = ⊎_elim (λ (o : (j ≡ i) × (t ≡ u)). inl (ap suc o.0, o.1)) (λ (o : slice_get xs j ≡ Some u). inr o) (get_set xs i j t u e)
+  some_at : (xs ys : List A) (i : ℕ) (y : A) → length ys ≡ length xs → slice_get ys i ≡ Some y → (x : A) × (slice_get xs i ≡ Some x)
+  some_at xs [] i y l e = absurd cc
+  some_at [] (y ∷ ys) i z l e = absurd (omega arith)
+  some_at (x ∷ xs) (y ∷ ys) zero z l e = (x, refl)
+  some_at (x ∷ xs) (y ∷ ys) (suc i) z l e = some_at xs ys i z (omega arith) e
 
-  map_kept : {B : Type 0} (f : A → B) (xs : List A) (i : ℕ) (s t : A) → slice_get xs i ≡ Some s → f t ≡ f s → map f (set xs i t) ≡ map f xs
-  map_kept f [] i s t at e = refl
-  map_kept f (x ∷ xs) zero s t at e = let is : x ≡ s = cc in ap (λ d. d ∷ map f xs) (e ∙ sym (ap f is))
-  map_kept f (x ∷ xs) (suc i) s t at e = ap (λ l. f x ∷ l) (map_kept f xs i s t at e)
+  map_stays : {B : Type 0} (f : A → B) (xs ys : List A) → length ys ≡ length xs → ((i : ℕ) (x y : A) → slice_get xs i ≡ Some x → slice_get ys i ≡ Some y → f y ≡ f x) → map f ys ≡ map f xs
+  map_stays f [] [] l e = refl
+  map_stays f (x ∷ xs) [] l e = absurd (omega arith)
+  map_stays f [] (y ∷ ys) l e = absurd (omega arith)
+  map_stays f (x ∷ xs) (y ∷ ys) l e =
+      let h : f y ≡ f x = e 0 x y refl refl in let t : map f ys ≡ map f xs = map_stays f xs ys (omega arith) (λ i u v a b. e (suc i) u v a b) in ap (λ z. z ∷ map f ys) h ∙ ap (λ zs. f x ∷ zs) t
 
-pub pool_stays : (deques parents i : ℕ) (shifts : List Shift) (s t : Shift) → IsPool deques parents shifts → slice_get shifts i ≡ Some s → (t.number ≡ s.number) × (t.parents ≡ s.parents) × (t.deques ≡ s.deques)
-    → SameWorker s.own t.own × KeepsParts (worker_view s.own) (worker_view t.own) s.others.items t.others.items → IsPool deques parents (set shifts i t)
-pool_stays deques parents i shifts s t h at same kept =
-    let old = h.each i s at in
-    let ds : shift_deques (set shifts i t) ≡ shift_deques shifts = map_kept (λ (s : Shift). worker_deque s.own) shifts i s t at kept.0.0 in
-    let mine : IsPoolShift deques parents i t = record {
-      named = same.0 ∙ old.named;
-      of_parents = same.1 ∙ old.of_parents;
-      of_deques = same.2 ∙ old.of_deques;
-      own_parts = (let p = kept.1.same_parts 0 in let q = old.own_parts in omega arith);
-      seat_parts = λ j l. kept.1.same_parts (suc j) ∙ old.seat_parts j l;
-    } in
-    let around : IsAround i (deques - 1) (shift_deques shifts) (seat_deques t.others.items) = subst (IsAround i (deques - 1) (shift_deques shifts)) (sym kept.1.same_deques) (h.around i s at) in
-    record {
+same_parents : (old new : List Shift) → length new ≡ length old → ((i : ℕ) (s t : Shift) → slice_get old i ≡ Some s → slice_get new i ≡ Some t → StaysInPool s t) → pool_parents new ≡ pool_parents old
+same_parents [] [] l e = refl
+same_parents [] (t ∷ ts) l e = absurd (omega arith)
+same_parents (s ∷ ss) [] l e = absurd (omega arith)
+same_parents (s ∷ ss) (t ∷ ts) l e = (e 0 s t refl refl).parents
+
+pub pool_stays : (old new : List Shift) → IsPool old → length new ≡ length old → ((i : ℕ) (s t : Shift) → slice_get old i ≡ Some s → slice_get new i ≡ Some t → StaysInPool s t) → IsPool new
+pool_stays old new h l stays =
+    let deques : ℕ = length old in
+    let parents : ℕ = pool_parents old in
+    let ds : pool_deques new ≡ pool_deques old = map_stays (λ (s : Shift). worker_deque s.own) old new l (λ i s t a b. (stays i s t a b).own.0) in
+    let pool : IsPoolOf deques parents new = record {
       some = h.some;
       few = h.few;
-      count = length-set shifts i t ∙ h.count;
-      each = λ j u e. ⊎_elim (λ (o : (j ≡ i) × (t ≡ u)). subst (λ (k : ℕ). IsPoolShift deques parents k u) (sym o.0) (subst (IsPoolShift deques parents i) o.1 mine)) (λ (o : slice_get shifts j ≡ Some u). h.each j u o) (get_set shifts i j t u e);
-      around = λ j u e. subst (λ (l : List (RowsId × Global)). IsAround j (deques - 1) l (seat_deques u.others.items)) (sym ds)
-          (⊎_elim
-          (λ (o : (j ≡ i) × (t ≡ u)). subst (λ (k : ℕ). IsAround k (deques - 1) (shift_deques shifts) (seat_deques u.others.items)) (sym o.0) (subst (λ (u : Shift). IsAround i (deques - 1) (shift_deques shifts) (seat_deques u.others.items)) o.1 around))
-          (λ (o : slice_get shifts j ≡ Some u). h.around j u o)
-          (get_set shifts i j t u e));
-    }
+      count = l;
+      each = λ i t b. (
+          let o = some_at old new i t l b in let was = h.each i o.0 o.1 in let k = stays i o.0 t o.1 b in record {
+            number = k.number ∙ was.number;
+            parents_of = k.parents ∙ was.parents_of;
+            deques_of = k.deques ∙ was.deques_of;
+            own_parts = (let p = k.passes.same_parts 0 in let q = was.own_parts in omega arith);
+            seat_parts = λ j m. k.passes.same_parts (suc j) ∙ was.seat_parts j m;
+          });
+      around = λ i t b. (
+          let o = some_at old new i t l b in let k = stays i o.0 t o.1 b in
+          subst (λ (qs : List (RowsId × Global)). IsAround i (deques - 1) qs (seat_deques t.others.items)) (sym ds)
+          (subst (IsAround i (deques - 1) (pool_deques old)) (sym k.passes.same_deques) (h.around i o.0 o.1)));
+    } in
+    subst (λ (n : ℕ). IsPoolOf n (pool_parents new) new) (sym l) (subst (λ (p : ℕ). IsPoolOf deques p new) (sym (same_parents old new l stays)) pool)
+
+pub stays_same : (s : Shift) → StaysInPool s s
+stays_same s = record { number = refl; parents = refl; deques = refl; own = (refl, refl, refl, omega arith); passes = record { same_deques = refl; same_parts = λ j. refl } }
+
+pub stays_more : (s t u : Shift) → StaysInPool s t → StaysInPool t u → StaysInPool s u
+stays_more s t u a b = record {
+  number = b.number ∙ a.number;
+  parents = b.parents ∙ a.parents;
+  deques = b.deques ∙ a.deques;
+  own = (b.own.0 ∙ a.own.0, b.own.1 ∙ a.own.1, b.own.2 ∙ a.own.2, (let m = a.own.3 in let n = b.own.3 in omega arith));
+  passes = record { same_deques = b.passes.same_deques ∙ a.passes.same_deques; same_parts = λ j. b.passes.same_parts j ∙ a.passes.same_parts j };
+}

@@ -6,10 +6,10 @@ use Rattle.std.proofs.lemmas.Bool.{cases_eq}
 use Rattle.std.proofs.lemmas.Bool.Decides.{nat_tests}
 use Rattle.crossbeam_deque.specs.Tasks.{Pushes, Takes, Forks, Merges, Learns}
 use Rattle.crossbeam_deque.proofs.Lists.{at_set, at_snoc}
-use Rattle.steal_pool.specs.declared.deque.Hand.{Hand}
+use Rattle.steal_pool.specs.declared.deque.Knowledge.{Knowledge}
 use Rattle.steal_pool.specs.declared.deque.Task.{Task}
 use Rattle.steal_pool.specs.declared.deque.Task.TheVariants.{Number, End}
-use Rattle.steal_pool.specs.Deque.{hand, one, times, total, numbers, EndsLast, NoEnd, Knows, Shared, GotTask, Got, PutTask, Put, kept, given, both, spent, Settled, Learned}
+use Rattle.steal_pool.specs.Deque.{knowledge, one, times, total, numbers, EndsLast, NoEnd, Knows, RuleHolds, GotTask, Got, CanPut, PutTask, Put, kept, given, both, spent, Settled, Learned}
 
 pub times-append : (x : ℕ) (xs ys : List ℕ) → times x (xs ++ ys) ≡ times x xs + times x ys
 times-append x [] ys = omega arith
@@ -21,43 +21,43 @@ times_same x = let e : (x == x) ≡ true = grind (arith, nat_tests) in ap one e
 full_not_empty : (n : ℕ) (l : List ℕ) → ¬ (n ∷ l ≡ [])
 full_not_empty n l e = cc
 
-total_set : (f : Hand → ℕ) (views : List Hand) (port : ℕ) (v w : Hand) → get_elem? views port ≡ some v → total f (set views port w) + f v ≡ total f views + f w
+total_set : (f : Knowledge → ℕ) (views : List Knowledge) (port : ℕ) (v w : Knowledge) → get_elem? views port ≡ some v → total f (set views port w) + f v ≡ total f views + f w
 total_set f [] port v w at = absurd (some-ne-none v (sym at))
 total_set f (u ∷ us) zero v w at = let e : u ≡ v = cc in let e' : f u ≡ f v = ap f e in omega arith
 total_set f (u ∷ us) (suc p) v w at = let e : total f (set us p w) + f v ≡ total f us + f w = total_set f us p v w at in omega arith
 
-total_snoc : (f : Hand → ℕ) (views : List Hand) (w : Hand) → total f (views ++ w ∷ []) ≡ total f views + f w
+total_snoc : (f : Knowledge → ℕ) (views : List Knowledge) (w : Knowledge) → total f (views ++ w ∷ []) ≡ total f views + f w
 total_snoc f [] w = omega arith
 total_snoc f (u ∷ us) w = omega (arith, total_snoc f us w)
 
-total_at : (f : Hand → ℕ) (views : List Hand) (port : ℕ) (v : Hand) → get_elem? views port ≡ some v → f v ≤ total f views
+total_at : (f : Knowledge → ℕ) (views : List Knowledge) (port : ℕ) (v : Knowledge) → get_elem? views port ≡ some v → f v ≤ total f views
 total_at f [] port v at = absurd (some-ne-none v (sym at))
 total_at f (u ∷ us) zero v at = let e : u ≡ v = cc in let e' : f u ≡ f v = ap f e in omega arith
 total_at f (u ∷ us) (suc p) v at = let e : f v ≤ total f us = total_at f us p v at in omega arith
 
-total_two : (f : Hand → ℕ) (views : List Hand) (port other : ℕ) (v u : Hand) → other ≢ port → get_elem? views port ≡ some v → get_elem? views other ≡ some u → f v + f u ≤ total f views
+total_two : (f : Knowledge → ℕ) (views : List Knowledge) (port other : ℕ) (v u : Knowledge) → other ≢ port → get_elem? views port ≡ some v → get_elem? views other ≡ some u → f v + f u ≤ total f views
 total_two f [] port other v u apart at at' = absurd (some-ne-none v (sym at))
 total_two f (x ∷ xs) zero zero v u apart at at' = absurd (apart refl)
 total_two f (x ∷ xs) zero (suc o) v u apart at at' = let e : x ≡ v = cc in let e' : f x ≡ f v = ap f e in let t : f u ≤ total f xs = total_at f xs o u at' in omega arith
 total_two f (x ∷ xs) (suc p) zero v u apart at at' = let e : x ≡ u = cc in let e' : f x ≡ f u = ap f e in let t : f v ≤ total f xs = total_at f xs p v at in omega arith
 total_two f (x ∷ xs) (suc p) (suc o) v u apart at at' = let t : f v + f u ≤ total f xs = total_two f xs p o v u (λ e. apart (ap suc e)) at at' in omega arith
 
-total_none : (f : Hand → ℕ) (views : List Hand) → ((j : ℕ) (u : Hand) → get_elem? views j ≡ some u → f u ≡ 0) → total f views ≡ 0
+total_none : (f : Knowledge → ℕ) (views : List Knowledge) → ((j : ℕ) (u : Knowledge) → get_elem? views j ≡ some u → f u ≡ 0) → total f views ≡ 0
 total_none f [] none = refl
 total_none f (u ∷ us) none = let a : f u ≡ 0 = none 0 u refl in let b : total f us ≡ 0 = total_none f us (λ j w at. none (suc j) w at) in omega arith
 
 -- where all others add nothing
-total_only : (f : Hand → ℕ) (views : List Hand) (port : ℕ) (v : Hand) → get_elem? views port ≡ some v → ((j : ℕ) (u : Hand) → j ≢ port → get_elem? views j ≡ some u → f u ≡ 0) → total f views ≡ f v
+total_only : (f : Knowledge → ℕ) (views : List Knowledge) (port : ℕ) (v : Knowledge) → get_elem? views port ≡ some v → ((j : ℕ) (u : Knowledge) → j ≢ port → get_elem? views j ≡ some u → f u ≡ 0) → total f views ≡ f v
 total_only f [] port v at none = absurd (some-ne-none v (sym at))
 total_only f (u ∷ us) zero v at none = let e : u ≡ v = cc in let e' : f u ≡ f v = ap f e in let b : total f us ≡ 0 = total_none f us (λ j w there. none (suc j) w (λ z. let e : suc j ≡ 0 = z in absurd (omega arith)) there) in omega arith
 total_only f (u ∷ us) (suc p) v at none = let a : f u ≡ 0 = none 0 u (λ z. let e : 0 ≡ suc p = z in absurd (omega arith)) refl in
     let b : total f us ≡ f v = total_only f us p v at (λ j w apart there. none (suc j) w (λ z. let e : suc j ≡ suc p = z in apart (omega arith)) there) in omega arith
 
-abbrev pub KnowAll : List ℕ → List Task → List Hand → Type 0
-KnowAll pushed items views = (port : ℕ) (v : Hand) → get_elem? views port ≡ some v → Knows pushed items v
+abbrev pub KnowAll : List ℕ → List Task → List Knowledge → Type 0
+KnowAll pushed items views = (port : ℕ) (v : Knowledge) → get_elem? views port ≡ some v → Knows pushed items v
 
-known_set : (pushed : List ℕ) (items : List Task) (views : List Hand) (port : ℕ) (w : Hand) → Knows pushed items w
-    → ((j : ℕ) (u : Hand) → j ≢ port → get_elem? views j ≡ some u → Knows pushed items u) → KnowAll pushed items (set views port w)
+known_set : (pushed : List ℕ) (items : List Task) (views : List Knowledge) (port : ℕ) (w : Knowledge) → Knows pushed items w
+    → ((j : ℕ) (u : Knowledge) → j ≢ port → get_elem? views j ≡ some u → Knows pushed items u) → KnowAll pushed items (set views port w)
 known_set pushed items views port w mine others j u at =
     ⊎_elim (λ (x : (j ≡ port) × (w ≡ u)). subst (Knows pushed items) x.1 mine) (λ (x : (j ≢ port) × (get_elem? views j ≡ some u)). others j u x.0 x.1) (at_set views port j w u at)
 
@@ -65,26 +65,26 @@ or_cases : (a b : Bool) → (a || b) ≡ true → (a ≡ true) ⊎ (b ≡ true)
 or_cases true b e = inl refl
 or_cases false b e = inr e
 
-at_end : (l : List Hand) (a b : Hand) (j : ℕ) → get_elem? (l ++ a ∷ []) j ≡ some b → (get_elem? l j ≡ some b) ⊎ (a ≡ b)
+at_end : (l : List Knowledge) (a b : Knowledge) (j : ℕ) → get_elem? (l ++ a ∷ []) j ≡ some b → (get_elem? l j ≡ some b) ⊎ (a ≡ b)
 at_end l a b j e = at_snoc l a b j e
 
-pub begins : Shared [] (hand 64 [] [] false false ∷ [])
+pub begins : RuleHolds [] (knowledge 64 [] [] false false ∷ [])
 begins = record {
   pushed = [];
   ends_last = tt;
   parts = refl;
   each = λ x. refl;
   known = λ port v at.
-      let w : Hand = hand 64 [] [] false false in
+      let w : Knowledge = knowledge 64 [] [] false false in
       let k : Knows [] [] w = record { all = λ _. refl; «open» = λ _ _. tt; ended = λ _ _. refl; idle = λ _. refl } in
       ⊎_elim (λ (x : get_elem? [] port ≡ some v). absurd (some-ne-none v (sym x))) (λ (x : w ≡ v). subst (Knows [] []) x k) (at_end [] w v port at);
 }
 
 -- who has every part knows that no other has one
-alone : (views : List Hand) (port j : ℕ) (v u : Hand) → total (λ v. v.parts) views ≡ 64 → get_elem? views port ≡ some v → v.parts ≡ 64 → j ≢ port → get_elem? views j ≡ some u → u.parts ≡ 0
+alone : (views : List Knowledge) (port j : ℕ) (v u : Knowledge) → total (λ v. v.parts) views ≡ 64 → get_elem? views port ≡ some v → v.parts ≡ 64 → j ≢ port → get_elem? views j ≡ some u → u.parts ≡ 0
 alone views port j v u all at whole apart there = let t : v.parts + u.parts ≤ total (λ v. v.parts) views = total_two (λ v. v.parts) views port j v u apart at there in omega arith
 
-nothing : (pushed : List ℕ) (items : List Task) (u : Hand) → u.parts ≡ 0 → u.taken ≡ [] → Knows pushed items u
+nothing : (pushed : List ℕ) (items : List Task) (u : Knowledge) → u.parts ≡ 0 → u.taken ≡ [] → Knows pushed items u
 nothing pushed items u none idle = record { all = λ some_part. absurd (omega arith); «open» = λ some_part _. absurd (omega arith); ended = λ some_part _. absurd (omega arith); idle = λ _. idle }
 
 numbers-append : (xs ys : List Task) → numbers (xs ++ ys) ≡ numbers xs ++ numbers ys
@@ -107,9 +107,9 @@ end_last [] last = (refl, tt)
 end_last (Number n ∷ xs) last = end_last xs last
 end_last (End ∷ xs) last = (numbers-append xs (End ∷ []) ∙ ap (λ (l : List ℕ). l ++ []) last.0, end_last xs last.1)
 
-pub puts_number : (port : ℕ) (v : Hand) (n : ℕ) → v.parts ≡ 64 → v.closed ≡ false → v.ended ≡ false → Pushes Shared port v (Number n ∷ []) (Put v (Number n ∷ []))
+puts_number : (port : ℕ) (v : Knowledge) (n : ℕ) → v.parts ≡ 64 → v.closed ≡ false → v.ended ≡ false → Pushes RuleHolds port v (Number n ∷ []) (Put v (Number n ∷ []))
 puts_number port v n whole free fresh items views h at =
-    let w : Hand = hand v.parts (v.pushed ++ n ∷ []) v.taken v.closed v.ended in
+    let w : Knowledge = knowledge v.parts (v.pushed ++ n ∷ []) v.taken v.closed v.ended in
     let mine : Knows h.pushed items v = h.known port v at in
     let queued : numbers (items ++ Number n ∷ []) ≡ numbers items ++ n ∷ [] = numbers-append items (Number n ∷ []) in
     let none : NoEnd items = mine.«open» (omega arith) free in (
@@ -136,9 +136,9 @@ puts_number port v n whole free fresh items views h at =
       refl,
     )
 
-pub puts_end : (port : ℕ) (v : Hand) → v.parts ≡ 64 → Pushes Shared port v (End ∷ []) (Put v (End ∷ []))
+puts_end : (port : ℕ) (v : Knowledge) → v.parts ≡ 64 → Pushes RuleHolds port v (End ∷ []) (Put v (End ∷ []))
 puts_end port v whole items views h at =
-    let w : Hand = hand v.parts v.pushed v.taken true v.ended in
+    let w : Knowledge = knowledge v.parts v.pushed v.taken true v.ended in
     let mine : Knows h.pushed items v = h.known port v at in
     let queued : numbers (items ++ End ∷ []) ≡ numbers items ++ [] = numbers-append items (End ∷ []) in (
       w,
@@ -164,10 +164,14 @@ puts_end port v whole items views h at =
       refl,
     )
 
-takes_one : (port : ℕ) (v : Hand) → 0 < v.parts → (t : Task) (items : List Task) (views : List Hand) → Shared (t ∷ items) views → get_elem? views port ≡ some v
-    → (w : Hand) × Shared items (set views port w) × GotTask v t w
+pub puts : (port : ℕ) (v : Knowledge) (task : Task) → CanPut v task → Pushes RuleHolds port v (task ∷ []) (Put v (task ∷ []))
+puts port v (Number n) can = puts_number port v n can.0 can.1 can.2
+puts port v End can = puts_end port v can
+
+takes_one : (port : ℕ) (v : Knowledge) → 0 < v.parts → (t : Task) (items : List Task) (views : List Knowledge) → RuleHolds (t ∷ items) views → get_elem? views port ≡ some v
+    → (w : Knowledge) × RuleHolds items (set views port w) × GotTask v t w
 takes_one port v some_part (Number n) items views h at =
-    let w : Hand = hand v.parts v.pushed (v.taken ++ n ∷ []) v.closed v.ended in
+    let w : Knowledge = knowledge v.parts v.pushed (v.taken ++ n ∷ []) v.closed v.ended in
     let mine : Knows h.pushed (Number n ∷ items) v = h.known port v at in (
       w,
       record {
@@ -190,9 +194,9 @@ takes_one port v some_part (Number n) items views h at =
       ),
     )
 takes_one port v some_part End items views h at =
-    let w : Hand = hand v.parts v.pushed v.taken v.closed true in
+    let w : Knowledge = knowledge v.parts v.pushed v.taken v.closed true in
     let mine : Knows h.pushed (End ∷ items) v = h.known port v at in
-    let closed : (u : Hand) → Knows h.pushed (End ∷ items) u → 0 < u.parts → u.closed ≡ false → NoEnd items = λ u k p e. absurd (k.«open» p e) in (
+    let closed : (u : Knowledge) → Knows h.pushed (End ∷ items) u → 0 < u.parts → u.closed ≡ false → NoEnd items = λ u k p e. absurd (k.«open» p e) in (
       w,
       record {
         pushed = h.pushed;
@@ -207,16 +211,16 @@ takes_one port v some_part End items views h at =
       refl,
     )
 
-pub takes : (port : ℕ) (v : Hand) → 0 < v.parts → Takes Shared port v 1 (Got v)
+pub takes : (port : ℕ) (v : Knowledge) → 0 < v.parts → Takes RuleHolds port v 1 (Got v)
 takes port v p [] items views some_task few h at = absurd (omega arith)
 takes port v p (t ∷ []) items views some_task few h at = takes_one port v p t items views h at
 takes port v p (t ∷ s ∷ ts) items views some_task few h at = absurd (omega arith)
 
-pub forks : (port : ℕ) (v : Hand) → 1 < v.parts → Forks Shared port v (kept v) (given v)
+pub forks : (port : ℕ) (v : Knowledge) → 1 < v.parts → Forks RuleHolds port v (kept v) (given v)
 forks port v more items views h at =
-    let l : Hand = kept v in let r : Hand = given v in
+    let l : Knowledge = kept v in let r : Knowledge = given v in
     let mine : Knows h.pushed items v = h.known port v at in
-    let vs : List Hand = set views port l in record {
+    let vs : List Knowledge = set views port l in record {
       pushed = h.pushed;
       ends_last = h.ends_last;
       parts = (let s = total_set (λ v. v.parts) views port v l at in let p = h.parts in omega (arith, total_snoc (λ v. v.parts) vs r));
@@ -231,10 +235,10 @@ forks port v more items views h at =
           (at_end vs r u j there);
     }
 
-pub merges : (port : ℕ) (v : Hand) (other : ℕ) (u : Hand) → 0 < v.parts → 0 < u.parts → Merges Shared port v other u (both v u) spent
+pub merges : (port : ℕ) (v : Knowledge) (other : ℕ) (u : Knowledge) → 0 < v.parts → 0 < u.parts → Merges RuleHolds port v other u (both v u) spent
 merges port v other u p q items views h at two at' =
-    let b : Hand = both v u in
-    let vs : List Hand = set views port b in
+    let b : Knowledge = both v u in
+    let vs : List Knowledge = set views port b in
     let was : get_elem? views other ≡ some u = ⊎_elim (λ (x : (other ≡ port) × (b ≡ u)). absurd (two x.0)) (λ (x : (other ≢ port) × (get_elem? views other ≡ some u)). x.1) (at_set views port other b u at') in
     let mine : Knows h.pushed items v = h.known port v at in
     let theirs : Knows h.pushed items u = h.known other u was in record {
@@ -254,7 +258,7 @@ merges port v other u p q items views h at two at' =
           (λ i y _ here. h.known i y here) j w there);
     }
 
-pub learns : (port : ℕ) (v : Hand) → Learns Shared port v (λ items. Learned v)
+pub learns : (port : ℕ) (v : Knowledge) → Learns RuleHolds port v (λ items. Learned v)
 learns port v items views h at =
     let few : v.parts ≤ 64 = (let t = total_at (λ v. v.parts) views port v at in let p = h.parts in omega arith) in
     let mine : Knows h.pushed items v = h.known port v at in record {

@@ -1,20 +1,19 @@
 // The end of a pool.
-ghost use Rattle.std.specs.Prelude.{◌≡◌, map, length};
+ghost use Rattle.std.specs.Prelude.{◌≡◌};
 ghost use Rattle.std.specs.List.{concat};
-ghost use Rattle.steal_pool.specs.Shift.{shift_taken, IsProper, IsWhole};
-ghost use Rattle.steal_pool.specs.Whole.{IsPool, pool_parents, AllEnded};
+ghost use Rattle.steal_pool.specs.Pool.{IsPool, pool_parents, lists_taken, IsProper, IsWhole, AllEnded};
 ghost use Rattle.steal_pool.specs.Taken.{taken_parents, taken_lists};
 
-use crate::back::{apart, settle};
-use crate::pool::Shift;
+use crate::giving_back::{apart, settle};
+use crate::shift::Shift;
 use crate::taken::Taken;
 use std::snapshot::Snapshot;
 
 /// Ends a pool, and says what its shifts took.
 pub fn finish(shifts: Vec<Shift>) -> Taken
-    requires { IsPool (length shifts.items) (pool_parents shifts.items) shifts.items }
+    requires { IsPool shifts.items }
     ensures parents { taken_parents result ≡ pool_parents shifts.items }
-    ensures lists { taken_lists result ≡ map (λ s. shift_taken s) shifts.items }
+    ensures lists { taken_lists result ≡ lists_taken shifts.items }
     ensures proper { IsProper (taken_parents result) (concat (taken_lists result)) }
     ensures whole { AllEnded shifts.items → IsWhole (taken_parents result) (concat (taken_lists result)) }
 {

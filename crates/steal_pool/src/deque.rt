@@ -1,7 +1,7 @@
 // The rule of one deque, and its steps.
-ghost use Rattle.std.specs.Prelude.{◌≡◌, ◌+◌, ◌<◌, ◌≤◌, ℕ, List, [], ◌∷◌, ◌++◌, true, false, length, IfOk, IfErr, IfSome, MatchOption, MatchResult};
+ghost use Rattle.std.specs.Prelude.{◌≡◌, ◌+◌, ◌<◌, ◌≤◌, ℕ, List, [], ◌∷◌, ◌++◌, true, false, length, IfOk, IfErr, IfSome, OnOk, MatchOption, MatchResult};
 ghost use Rattle.crossbeam_deque.specs.Handles.{view, IsPassOf, SamePass, worker_deque, stealer_deque, stealer_flavor, worker_flavor, worker_view, worker_port, SameWorker};
-ghost use Rattle.steal_pool.specs.Deque.{hand, Shared, times, GotTask, PutTask, share, kept, given, both, IsFilled};
+ghost use Rattle.steal_pool.specs.Deque.{knowledge, RuleHolds, times, GotTask, CanPut, PutTask, share, kept, given, both, IsFilled};
 
 use crossbeam_deque::protocol::{Join, Lesson, Outcome, Protocol, Split};
 use crossbeam_deque::{Pass, Steal, Stealer, Worker};
@@ -19,7 +19,7 @@ pub enum Task {
 
 // What a pass knows of its deque: its parts of the right to know the whole, all numbers that were pushed, which of them it took, and whether
 // it took an end mark and so found no number there. No value of it is made.
-pub struct Hand {
+pub struct Knowledge {
     pub parts: u64,
     pub pushed: LinkedList<u64>,
     pub taken: LinkedList<u64>,
@@ -27,22 +27,22 @@ pub struct Hand {
     pub ended: bool,
 }
 
-pub struct Fair;
+pub struct DequeRule;
 
-impl Protocol<Task, Hand> for Fair {
+impl Protocol<Task, Knowledge> for DequeRule {
     ghost use Rattle.std.specs.Prelude.{false, []};
-    ghost use Rattle.steal_pool.specs.Deque.{hand, Shared};
+    ghost use Rattle.steal_pool.specs.Deque.{knowledge, RuleHolds};
 
-    ghost holds = { Shared };
+    ghost holds = { RuleHolds };
 
-    ghost first = { hand 64 [] [] false false };
+    ghost first = { knowledge 64 [] [] false false };
 
-    ghost guest = { hand 0 [] [] false false };
+    ghost guest = { knowledge 0 [] [] false false };
 }
 
 pub struct Puts;
 
-impl Outcome<Task, Hand> for Puts {
+impl Outcome<Task, Knowledge> for Puts {
     ghost use Rattle.steal_pool.specs.Deque.{Put};
 
     ghost then = { Put };
@@ -50,7 +50,7 @@ impl Outcome<Task, Hand> for Puts {
 
 pub struct Takes;
 
-impl Outcome<Task, Hand> for Takes {
+impl Outcome<Task, Knowledge> for Takes {
     ghost use Rattle.steal_pool.specs.Deque.{Got};
 
     ghost then = { Got };
@@ -58,7 +58,7 @@ impl Outcome<Task, Hand> for Takes {
 
 pub struct Cut;
 
-impl Split<Hand> for Cut {
+impl Split<Knowledge> for Cut {
     ghost use Rattle.steal_pool.specs.Deque.{kept, given};
 
     ghost left = { kept };
@@ -66,7 +66,7 @@ impl Split<Hand> for Cut {
     ghost right = { given };
 }
 
-impl Join<Hand> for Cut {
+impl Join<Knowledge> for Cut {
     ghost use Rattle.steal_pool.specs.Deque.{both as joined, spent as used_up};
 
     ghost both = { joined };
@@ -76,20 +76,20 @@ impl Join<Hand> for Cut {
 
 pub struct Total;
 
-impl Lesson<Task, Hand> for Total {
+impl Lesson<Task, Knowledge> for Total {
     ghost use Rattle.steal_pool.specs.Deque.{Learned};
 
     ghost fact = { λ v _. Learned v };
 }
 
-pub type Owner = Worker<Task, Global, Hand, Fair>;
+pub type Owner = Worker<Task, Global, Knowledge, DequeRule>;
 
-pub type Thief = Stealer<Task, Global, Hand, Fair>;
+pub type Thief = Stealer<Task, Global, Knowledge, DequeRule>;
 
-pub type Token = Pass<Task, Hand, Global>;
+pub type Token = Pass<Task, Knowledge, Global>;
 
 /// Takes from the worker's own deque.
-pub fn pop_one<R: Wait>(rt: &R, own: &mut Owner) -> Task
+pub(crate) fn pop_one<R: Wait>(rt: &R, own: &mut Owner) -> Task
     requires { (0 < (worker_view own.old).parts) × (worker_flavor own.old ≡ 0) }
     ensures same { SameWorker own.old own.new }
     ensures got { GotTask (worker_view own.old) result (worker_view own.new) }
@@ -103,7 +103,7 @@ pub fn pop_one<R: Wait>(rt: &R, own: &mut Owner) -> Task
 }
 
 /// Takes from another's deque. An attempt that lost against another taker is made again.
-pub fn steal_one<R: Wait>(rt: &R, thief: &Thief, token: &mut Token) -> Task
+pub(crate) fn steal_one<R: Wait>(rt: &R, thief: &Thief, token: &mut Token) -> Task
     requires { IsPassOf (stealer_deque thief.now) token.old × (0 < (view token.old).parts) }
     ensures same { SamePass token.old token.new }
     ensures got { GotTask (view token.old) result (view token.new) }
@@ -117,29 +117,37 @@ pub fn steal_one<R: Wait>(rt: &R, thief: &Thief, token: &mut Token) -> Task
     unreachable!()
 }
 
+/// Puts a task last, by the owner who has every part. A deque that can't grow is a want of memory.
+fn put(own: &mut Owner, task: Task) -> Result<(), AllocError>
+    requires { CanPut (worker_view own.old) task }
+    ensures same { SameWorker own.old own.new }
+    ensures put { OnOk result (PutTask (worker_view own.old) task (worker_view own.new)) }
+{
+    match own.push_as::<Puts>(task) {
+        Ok(()) => Ok(()),
+        Err(_) => Err(AllocError),
+    }
+}
+
 /// A new deque with its share of the numbers, and behind them the end marks.
-pub fn filled(alloc: Global, number: u64, parents: u64, workers: u64) -> Result<Owner, AllocError>
-    requires { 0 < workers }
+pub(crate) fn filled(alloc: Global, number: u64, parents: u64, workers: u64) -> Result<Owner, AllocError>
+    requires { number < workers }
     ensures { IfOk result (λ own. IsFilled (worker_flavor own) (worker_view own) (share workers number parents)) }
 {
     let mut own = Owner::fifo_as(alloc, 64)?;
-    for p in 0..parents {
-        if p % workers == number {
-            if own.push_as::<Puts>(Task::Number(p)).is_err() {
-                return Err(AllocError);
-            }
-        }
+    let mut next = number;
+    while next < parents {
+        put(&mut own, Task::Number(next))?;
+        next = next.saturating_add(workers);
     }
     for _ in 0..workers {
-        if own.push_as::<Puts>(Task::End).is_err() {
-            return Err(AllocError);
-        }
+        put(&mut own, Task::End)?;
     }
     Ok(own)
 }
 
 /// Hands out a pass of the deque.
-pub fn hand_out(own: &mut Owner) -> Token
+pub(crate) fn hand_out(own: &mut Owner) -> Token
     requires { 1 < (worker_view own.old).parts }
     ensures same { SameWorker own.old own.new × IsPassOf (worker_deque own.old) result }
     ensures cut { (worker_view own.new ≡ kept (worker_view own.old)) × (view result ≡ given (worker_view own.old)) }
@@ -148,7 +156,7 @@ pub fn hand_out(own: &mut Owner) -> Token
 }
 
 /// Takes a pass back.
-pub fn take_back(own: &mut Owner, token: Token)
+pub(crate) fn take_back(own: &mut Owner, token: Token)
     requires { IsPassOf (worker_deque own.old) token × (0 < (worker_view own.old).parts) × (0 < (view token).parts) }
     ensures same { SameWorker own.old own.new }
     ensures joined { worker_view own.new ≡ both (worker_view own.old) (view token) }

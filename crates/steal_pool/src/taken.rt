@@ -1,5 +1,5 @@
 // What a pool's shifts took, all together.
-use crate::pool::Shift;
+use crate::shift::Shift;
 use std::snapshot::Snapshot;
 
 /// What the shifts of a pool took, each by itself. Its lists are known to contracts alone.

@@ -1,8 +1,8 @@
 use Rattle.std.proofs.Common.{◌≡◌, ◌∙◌, ℕ, List, ap, sym, subst, map}
 use Rattle.std.specs.List.{concat}
-use Rattle.steal_pool.specs.declared.pool.Shift.{Shift}
-use Rattle.steal_pool.specs.Shift.{shift_taken, IsProper, IsWhole}
-use Rattle.steal_pool.specs.Whole.{pool_parents}
+use Rattle.steal_pool.specs.declared.shift.Shift.{Shift}
+use Rattle.steal_pool.specs.Shift.{shift_taken}
+use Rattle.steal_pool.specs.Pool.{pool_parents}
 use Rattle.steal_pool.proofs.TakenOnce.{when_back, rows_round, places_parts, all_proper, all_whole}
 use Rattle.steal_pool.proofs.closing.finish.Goals as goal
 
