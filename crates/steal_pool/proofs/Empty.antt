@@ -74,3 +74,7 @@ not_among x (y ∷ ys) none h =
     (λ (here : y ≡ x). let o : one (x == y) ≡ 1 = ap (λ (z : ℕ). one (x == z)) here ∙ times_same x in absurd (omega arith))
     (λ (there : Contains ys x). not_among x ys (omega arith) there)
     (⊎_elim (λ (a : Contains (y ∷ []) x). ⊎_elim (λ (none : Contains [] x). absurd (nothing_in x none)) (λ (is : y ≡ x). inl is) (Contains-push_cases [] y x a)) (λ (b : Contains ys x). inr b) (Contains-append_cases (y ∷ []) ys x h))
+
+pub ended_as : {A B : Type 0} (r : Option ℕ) → MatchOption r A (λ _. A → ⊥) → (A → B) → (B → A) → MatchOption r B (λ _. B → ⊥)
+ended_as None h to from = to h
+ended_as (Some p) h to from = λ b. h (from b)

@@ -4,10 +4,10 @@ pub mod Seats
 pub mod Rows
 pub mod Round
 pub mod Filled
+pub mod Stays
 pub mod Shifts
 pub mod Empty
 pub mod Kept
-pub mod Stays
 pub mod GivenBack
 pub mod TakenOnce
 pub mod Crossing

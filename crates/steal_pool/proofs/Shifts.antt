@@ -19,6 +19,7 @@ use Rattle.steal_pool.specs.Rows.{owner_views, owner_deques, owner_flavors, seat
 use Rattle.steal_pool.specs.Pool.{pool_deques, pool_parents, IsPoolShift, IsPoolOf, IsPool, IsNewShift, AreNew}
 use Rattle.steal_pool.proofs.Rows.{map_length, map_snoc}
 use Rattle.steal_pool.proofs.Filled.{get_snoc}
+use Rattle.steal_pool.proofs.Stays.{got_or}
 
 abbrev pub Own : Type 0
 Own = Worker Task Global Knowledge DequeRule
@@ -183,7 +184,9 @@ module _ (deques parents : ℕ) (of : List (RowsId × Global)) where
   }
 
   pub shifts_new : (owners owners_left : List Own) (rows rows_left : List (Vec Seat)) (shifts : List Shift) (n : ℕ) → ShiftsSoFar n owners rows owners_left rows_left shifts → n ≡ deques → AreNew deques parents shifts
-  shifts_new owners owners_left rows rows_left shifts n h is i s e =
+  shifts_new owners owners_left rows rows_left shifts n h is i d l =
+      let s : Shift = slice_index_or shifts i d in
+      let e : slice_get shifts i ≡ Some s = got_or shifts i d l in
       let p = part_of owners owners_left rows rows_left shifts n h is i s e in let f = h.each i s e in record {
         number = f.0;
         parents_of = f.1;

@@ -1,5 +1,5 @@
 -- Shifts that have taken more are still all shifts of one pool.
-use Rattle.std.proofs.Common.{◌≡◌, ℕ, zero, suc, ◌+◌, ◌-◌, ◌<◌, ◌⊎◌, Some, List, [], ◌∷◌, map, length, set, sym, refl, ap, ◌∙◌, subst, ⊎_elim, arith, inl, inr, length-set}
+use Rattle.std.proofs.Common.{◌≡◌, ℕ, zero, suc, ◌+◌, ◌-◌, ◌<◌, ◌⊎◌, Some, List, [], ◌∷◌, map, length, slice_index_or, sym, refl, ap, ◌∙◌, subst, ⊎_elim, arith}
 use Rattle.std.specs.Global.{Global}
 use Rattle.std.specs.List.{slice_get}
 use Rattle.atomic_blocks.specs.Lent.{RowsId}
@@ -7,9 +7,19 @@ use Rattle.crossbeam_deque.specs.Handles.{worker_view, worker_deque, SameWorker}
 use Rattle.steal_pool.specs.declared.shift.Shift.{Shift}
 use Rattle.steal_pool.specs.Rows.{seat_deques, IsAround, KeepsParts}
 use Rattle.steal_pool.specs.Shift.{StaysInPool}
-use Rattle.steal_pool.specs.Pool.{pool_deques, pool_parents, IsPoolShift, IsPoolOf, IsPool}
+use Rattle.steal_pool.specs.Pool.{pool_deques, pool_parents, IsPoolShift, IsPoolOf, IsPool, AllStay}
 
 module _ {A : Type 0} where
+  pub got_is : (xs : List A) (i : ℕ) (x d : A) → slice_get xs i ≡ Some x → (i < length xs) × (slice_index_or xs i d ≡ x)
+  got_is [] i x d e = absurd cc
+  got_is (y ∷ ys) zero x d e = (omega arith, cc)
+  got_is (y ∷ ys) (suc i) x d e = let h = got_is ys i x d e in let l = h.0 in (omega arith, h.1)
+
+  pub got_or : (xs : List A) (i : ℕ) (d : A) → i < length xs → slice_get xs i ≡ Some (slice_index_or xs i d)
+  got_or [] i d l = absurd (omega arith)
+  got_or (y ∷ ys) zero d l = refl
+  got_or (y ∷ ys) (suc i) d l = got_or ys i d (omega arith)
+
   some_at : (xs ys : List A) (i : ℕ) (y : A) → length ys ≡ length xs → slice_get ys i ≡ Some y → (x : A) × (slice_get xs i ≡ Some x)
   some_at xs [] i y l e = absurd cc
   some_at [] (y ∷ ys) i z l e = absurd (omega arith)
@@ -29,8 +39,15 @@ same_parents [] (t ∷ ts) l e = absurd (omega arith)
 same_parents (s ∷ ss) [] l e = absurd (omega arith)
 same_parents (s ∷ ss) (t ∷ ts) l e = (e 0 s t refl refl).parents
 
-pub pool_stays : (old new : List Shift) → IsPool old → length new ≡ length old → ((i : ℕ) (s t : Shift) → slice_get old i ≡ Some s → slice_get new i ≡ Some t → StaysInPool s t) → IsPool new
-pool_stays old new h l stays =
+stay_at : (old new : List Shift) → AllStay old new → (i : ℕ) (s t : Shift) → slice_get old i ≡ Some s → slice_get new i ≡ Some t → StaysInPool s t
+stay_at old new h i s t a b =
+    let o = got_is old i s s a in let n = got_is new i t s b in
+    subst (λ (u : Shift). StaysInPool u t) o.1 (subst (StaysInPool (slice_index_or old i s)) n.1 (h.each i s o.0))
+
+pub pool_stays : (old new : List Shift) → IsPool old → AllStay old new → IsPool new
+pool_stays old new h all =
+    let l : length new ≡ length old = all.count in
+    let stays : (i : ℕ) (s t : Shift) → slice_get old i ≡ Some s → slice_get new i ≡ Some t → StaysInPool s t = stay_at old new all in
     let deques : ℕ = length old in
     let parents : ℕ = pool_parents old in
     let ds : pool_deques new ≡ pool_deques old = map_stays (λ (s : Shift). worker_deque s.own) old new l (λ i s t a b. (stays i s t a b).own.0) in

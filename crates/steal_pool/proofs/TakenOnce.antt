@@ -21,6 +21,7 @@ use Rattle.steal_pool.proofs.Shares.{one_other, same_from}
 use Rattle.steal_pool.proofs.Shifts.{Own, ring_zero}
 use Rattle.steal_pool.proofs.Rows.{map_length}
 use Rattle.steal_pool.proofs.Empty.{nothing_in}
+use Rattle.steal_pool.proofs.Stays.{got_is}
 use Rattle.steal_pool.proofs.GivenBack.{total-append}
 
 -- f at the n numbers from `first` on, added up
@@ -302,7 +303,8 @@ all_whole deques parents shifts final h ended x below =
     let met : (k : ℕ) → k < deques → (view_at final k).ended ≡ true = λ k l.
     let n = map_length (λ (s : Shift). worker_view s.own) shifts in let m = h.pool.count in
     let o = own_at shifts k (omega arith) in let s : Shift = o.0 in let kept = s.kept in let b = kept.own in
-    let done : 0 < s.done = some_met s.deques s.number s.done 0 (ended k s o.1 0 (omega arith)) in
+    let at = got_is shifts k s s o.1 in
+    let done : 0 < s.done = some_met s.deques s.number s.done 0 ((subst HasEnded at.1 (ended k s at.0)).every 0 (omega arith)) in
     h.back.ended k (omega arith) (ap (λ (v : Knowledge). v.ended) o.2 ∙ kept.ended 0 done) in
     all_taken x deques parents shifts final h ∙ full_whole deques parents final h.pool.some f met x below
 

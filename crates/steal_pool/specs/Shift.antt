@@ -41,8 +41,8 @@ abbrev pub WereFoundEmpty : Shift → Type 0
 WereFoundEmpty s = (j : ℕ) → j < s.done → (view_at (shift_views s) j).ended ≡ true
 
 -- every deque of the pool was found empty
-abbrev pub HasEnded : Shift → Type 0
-HasEnded s = (d : ℕ) → d < shift_deques s → Contains (shift_empty s) d
+pub record HasEnded (s : Shift) : Type 0 where
+  pub every : (d : ℕ) → d < shift_deques s → Contains (shift_empty s) d
 
 -- the same shift of the same pool: it may have taken more
 pub record StaysInPool (old new : Shift) : Type 0 where
