@@ -4,6 +4,7 @@ use Rattle.std.specs.List.{Contains}
 use Rattle.crossbeam_deque.specs.Handles.{worker_view, SameWorker}
 use Rattle.steal_pool.specs.declared.shift.Shift.{Shift}
 use Rattle.steal_pool.specs.declared.deque.Knowledge.{Knowledge}
+use Rattle.steal_pool.specs.Deque.{share}
 use Rattle.steal_pool.specs.Ring.{ring, view_at, takings}
 use Rattle.steal_pool.specs.SeatViews.{seat_views}
 use Rattle.steal_pool.specs.Rows.{KeepsParts}
@@ -26,6 +27,10 @@ shift_views s = worker_view s.own ∷ seat_views s.others.items
 -- the numbers that the shift took, in order
 abbrev pub shift_taken : Shift → List ℕ
 shift_taken s = takings (shift_views s)
+
+-- Each deque was filled with its share of the numbers: those whose rest by the number of deques is the deque's own number
+abbrev pub KnowsShares : Shift → Type 0
+KnowsShares s = (j : ℕ) → j < shift_deques s → (view_at (shift_views s) j).pushed ≡ share (shift_deques s) (ring (shift_deques s) (shift_number s) j) (shift_parents s)
 
 -- the deques that a shift visits first
 abbrev pub visited : ℕ → ℕ → ℕ → List ℕ

@@ -9,7 +9,9 @@ use crate::shift::Shift;
 use crate::taken::Taken;
 use std::snapshot::Snapshot;
 
-/// Ends a pool, and says what its shifts took.
+/// Ends a pool, and says what its shifts took together: no number twice, and each number once where every shift has ended.
+///
+/// It wants all shifts of one pool, in the order of their numbers, as `fill` gave them. It takes no memory.
 pub fn finish(shifts: Vec<Shift>) -> Taken
     requires { IsPool shifts.items }
     ensures parents { taken_parents result ≡ pool_parents shifts.items }

@@ -1,4 +1,7 @@
-// The rule of one deque, and its steps.
+// One deque: its rule, and the steps that keep it.
+//
+// A step that finds a deque empty can't be noted in what a pass knows. So end marks stand behind the numbers, and who takes one knows that no number
+// is left.
 ghost use Rattle.std.specs.Prelude.{◌≡◌, ◌+◌, ◌<◌, ◌≤◌, ℕ, List, [], ◌∷◌, ◌++◌, true, false, length, IfOk, IfErr, IfSome, OnOk, MatchOption, MatchResult};
 ghost use Rattle.crossbeam_deque.specs.Handles.{view, IsPassOf, SamePass, worker_deque, stealer_deque, stealer_flavor, worker_flavor, worker_view, worker_port, SameWorker};
 ghost use Rattle.steal_pool.specs.Deque.{knowledge, RuleHolds, times, GotTask, CanPut, PutTask, share, kept, given, both, IsFilled};
@@ -17,8 +20,8 @@ pub enum Task {
     End,
 }
 
-// What a pass knows of its deque: its parts of the right to know the whole, all numbers that were pushed, which of them it took, and whether
-// it took an end mark and so found no number there. No value of it is made.
+// What a pass knows of its deque: its parts of the right to know the whole, all numbers that were pushed, which of them it took, whether an end mark
+// may stand there, and whether it took one. It exists in proofs alone.
 pub struct Knowledge {
     pub parts: u64,
     pub pushed: LinkedList<u64>,
@@ -27,6 +30,7 @@ pub struct Knowledge {
     pub ended: bool,
 }
 
+// What was pushed is what was taken and what is queued, each number as often, and behind an end mark stands no number.
 pub struct DequeRule;
 
 impl Protocol<Task, Knowledge> for DequeRule {
@@ -40,6 +44,7 @@ impl Protocol<Task, Knowledge> for DequeRule {
     ghost guest = { knowledge 0 [] [] false false };
 }
 
+// A task joins at the back.
 pub struct Puts;
 
 impl Outcome<Task, Knowledge> for Puts {
@@ -48,6 +53,7 @@ impl Outcome<Task, Knowledge> for Puts {
     ghost then = { Put };
 }
 
+// A task leaves at the front.
 pub struct Takes;
 
 impl Outcome<Task, Knowledge> for Takes {
@@ -56,6 +62,7 @@ impl Outcome<Task, Knowledge> for Takes {
     ghost then = { Got };
 }
 
+// A pass gives one of its parts away, or takes another's parts in.
 pub struct Cut;
 
 impl Split<Knowledge> for Cut {
@@ -74,6 +81,7 @@ impl Join<Knowledge> for Cut {
     ghost spent = { used_up };
 }
 
+// What can be known from a pass's parts.
 pub struct Total;
 
 impl Lesson<Task, Knowledge> for Total {
@@ -82,13 +90,16 @@ impl Lesson<Task, Knowledge> for Total {
     ghost fact = { λ v _. Learned v };
 }
 
+/// The end of a deque whose worker pushes, and takes first.
 pub type Owner = Worker<Task, Global, Knowledge, DequeRule>;
 
+/// The end of a deque that another's worker takes at.
 pub type Thief = Stealer<Task, Global, Knowledge, DequeRule>;
 
+/// The pass of a thief.
 pub type Token = Pass<Task, Knowledge, Global>;
 
-/// Takes from the worker's own deque.
+/// Takes a task from the worker's own deque.
 pub(crate) fn pop_one<R: Wait>(rt: &R, own: &mut Owner) -> Task
     requires { (0 < (worker_view own.old).parts) × (worker_flavor own.old ≡ 0) }
     ensures same { SameWorker own.old own.new }
@@ -102,7 +113,7 @@ pub(crate) fn pop_one<R: Wait>(rt: &R, own: &mut Owner) -> Task
     unreachable!()
 }
 
-/// Takes from another's deque. An attempt that lost against another taker is made again.
+/// Takes a task from another's deque. An attempt that lost against another taker is made again.
 pub(crate) fn steal_one<R: Wait>(rt: &R, thief: &Thief, token: &mut Token) -> Task
     requires { IsPassOf (stealer_deque thief.now) token.old × (0 < (view token.old).parts) }
     ensures same { SamePass token.old token.new }
@@ -129,7 +140,7 @@ fn put(own: &mut Owner, task: Task) -> Result<(), AllocError>
     }
 }
 
-/// A new deque with its share of the numbers, and behind them the end marks.
+/// A new deque with its share of the numbers below `parents`, each `workers` more than the one before, and behind them an end mark for each worker.
 pub(crate) fn filled(alloc: Global, number: u64, parents: u64, workers: u64) -> Result<Owner, AllocError>
     requires { number < workers }
     ensures { IfOk result (λ own. IsFilled (worker_flavor own) (worker_view own) (share workers number parents)) }

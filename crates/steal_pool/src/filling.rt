@@ -1,4 +1,4 @@
-// Filling a pool.
+// The deques of a new pool, and the seats at them.
 ghost use Rattle.std.specs.Prelude.{◌≡◌, ◌+◌, ◌-◌, ◌<◌, ◌≤◌, ℕ, length, IfOk};
 ghost use Rattle.steal_pool.specs.Rows.{owner_views, owner_deques, owner_flavors, seat_deques, AreOwners, AreFifo, AreRows, served};
 
@@ -7,7 +7,7 @@ use crate::seating::seats_of;
 use crate::seat::Seat;
 use std::alloc::{AllocError, Global};
 
-/// The deques, each with its share.
+/// A deque for each worker, with its share of the numbers.
 pub(crate) fn owners_of(alloc: Global, parents: u64, workers: usize) -> Result<Vec<Owner>, AllocError>
     requires { (0 < workers) × (workers ≤ 64) }
     ensures owners { IfOk result (λ owners. AreOwners workers parents (served 0) (owner_views owners.items)) }
@@ -20,7 +20,7 @@ pub(crate) fn owners_of(alloc: Global, parents: u64, workers: usize) -> Result<V
     Ok(owners)
 }
 
-/// The seats of all shifts.
+/// The seats of each shift.
 pub(crate) fn rows_of(
     alloc: Global,
     owners: &mut [Owner],

@@ -1,4 +1,4 @@
-// Giving the passes back to the owners.
+// Giving the passes of a pool back to the owners of its deques, who then know what was taken.
 ghost use Rattle.std.specs.Prelude.{◌≡◌, ◌+◌, ◌-◌, ◌<◌, ◌≤◌, ℕ, [], Some, map, length};
 ghost use Rattle.std.specs.List.{slice_get};
 ghost use Rattle.arrayvec.specs.ArrayVec.{array_vec_len};
@@ -20,7 +20,7 @@ pub type Owners = ArrayVec<Option<Owner>, 64>;
 /// The seats of a pool's shifts.
 pub type SeatRows = ArrayVec<Option<Vec<Seat>>, 64>;
 
-/// The owners and the seats of all shifts.
+/// Takes the shifts apart.
 pub(crate) fn apart(shifts: Vec<Shift>) -> (Owners, SeatRows)
     requires { length shifts.items ≤ 64 }
     ensures owners { result.0.items ≡ map (λ s. Some s.own) shifts.items }
@@ -48,8 +48,8 @@ pub(crate) fn ring_place(deques: usize, number: usize, j: usize) -> usize
     }
 }
 
-/// Gives the pass of a seat back.
-pub(crate) fn join(place: &mut Option<Owner>, seat: Seat)
+/// Gives the pass of a seat back to the owner at this place.
+pub(crate) fn give_back(place: &mut Option<Owner>, seat: Seat)
     requires of { place_deque place.old ≡ Some (stealer_deque seat.thief) }
     requires parts { (0 < (place_view place.old).parts) × (0 < (view seat.token).parts) }
     ensures same { place_deque place.new ≡ place_deque place.old }
@@ -73,7 +73,7 @@ pub(crate) fn give_row(owners: &mut [Option<Owner>], number: usize, row: Vec<Sea
     let mut row = row;
     while let Some(seat) = row.pop() {
         let place = ring_place(deques, number, row.len() + 1);
-        join(&mut owners[place], seat);
+        give_back(&mut owners[place], seat);
     }
 }
 
@@ -92,7 +92,7 @@ pub(crate) fn give_rows(owners: &mut [Option<Owner>], rows: SeatRows)
     }
 }
 
-/// What is known of a deque.
+/// What an owner then knows.
 pub(crate) fn learn(place: &mut Option<Owner>)
     ensures same { place_view place.new ≡ place_view place.old }
     ensures learned { Learned (place_view place.old) }
@@ -102,7 +102,7 @@ pub(crate) fn learn(place: &mut Option<Owner>)
     }
 }
 
-/// What is known of all deques.
+/// What all owners then know.
 pub(crate) fn learn_all(owners: &mut [Option<Owner>])
     ensures same { place_views owners.new ≡ place_views owners.old }
     ensures learned { (k : ℕ) → k < length owners.old → Learned (view_at (place_views owners.old) k) }

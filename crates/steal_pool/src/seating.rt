@@ -1,4 +1,4 @@
-// The seats of one shift.
+// Seating a shift at the deques of the others.
 ghost use Rattle.std.specs.Prelude.{◌≡◌, ◌+◌, ◌-◌, ◌<◌, ℕ, length, IfOk};
 ghost use Rattle.crossbeam_deque.specs.Handles.{view, stealer_deque, worker_deque, worker_view, SameWorker};
 ghost use Rattle.steal_pool.specs.Deque.{kept, given};
@@ -10,7 +10,7 @@ use crate::deque::{Owner, hand_out};
 use crate::seat::Seat;
 use std::alloc::{AllocError, Global};
 
-/// A seat at the deque.
+/// A seat at this deque.
 pub(crate) fn seat_at(own: &mut Owner) -> Result<Seat, AllocError>
     requires { 1 < (worker_view own.old).parts }
     ensures same { SameWorker own.old own.new }

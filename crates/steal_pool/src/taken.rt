@@ -2,7 +2,7 @@
 use crate::shift::Shift;
 use std::snapshot::Snapshot;
 
-/// What the shifts of a pool took, each by itself. Its lists are known to contracts alone.
+/// What the shifts of a pool took. The list of each is known to contracts alone, and takes no memory.
 #[derive(Drop)]
 pub struct Taken {
     pub(crate) parents: u64,

@@ -1,4 +1,4 @@
-// The part of one worker.
+// Taking the next number.
 ghost use Rattle.std.specs.Prelude.{◌≡◌, ◌+◌, ◌<◌, ◌≤◌, ℕ, List, [], ◌∷◌, ◌++◌, length, MatchOption};
 ghost use Rattle.std.specs.List.{Contains};
 ghost use Rattle.crossbeam_deque.specs.Handles.{view, IsPassOf, SamePass, stealer_deque, worker_flavor, worker_view, SameWorker};
@@ -11,7 +11,7 @@ use crate::deque::{Owner, Task, pop_one};
 use crate::seat::Seat;
 use std::sync::Wait;
 
-/// The next number: from the own deque, and where that is at its end from the others in turn.
+/// The next number: from the own deque, and once that was found empty from the others in turn. None where all were found empty.
 pub(crate) fn next_number<R: Wait>(
     rt: &R,
     deques: usize,
