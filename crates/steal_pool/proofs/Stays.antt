@@ -1,13 +1,13 @@
 -- Shifts that have taken more are still all shifts of one pool.
-use Rattle.std.proofs.Common.{◌≡◌, ℕ, zero, suc, ◌+◌, ◌-◌, ◌<◌, ◌⊎◌, Some, List, [], ◌∷◌, map, length, slice_index_or, sym, refl, ap, ◌∙◌, subst, ⊎_elim, arith}
+use Rattle.std.proofs.Common.{◌≡◌, ℕ, zero, suc, ◌-◌, ◌<◌, Some, List, [], ◌∷◌, map, length, slice_index_or, sym, refl, ap, ◌∙◌, subst, arith}
 use Rattle.std.specs.Global.{Global}
 use Rattle.std.specs.List.{slice_get}
 use Rattle.atomic_blocks.specs.Lent.{RowsId}
-use Rattle.crossbeam_deque.specs.Handles.{worker_view, worker_deque, SameWorker}
+use Rattle.crossbeam_deque.specs.Handles.{worker_deque}
 use Rattle.steal_pool.specs.declared.shift.Shift.{Shift}
-use Rattle.steal_pool.specs.Rows.{seat_deques, IsAround, KeepsParts}
+use Rattle.steal_pool.specs.Rows.{seat_deques, IsAround}
 use Rattle.steal_pool.specs.Shift.{StaysInPool}
-use Rattle.steal_pool.specs.Pool.{pool_deques, pool_parents, IsPoolShift, IsPoolOf, IsPool, AllStay}
+use Rattle.steal_pool.specs.Pool.{pool_deques, pool_parents, IsPoolOf, IsPool, AllStay}
 
 module _ {A : Type 0} where
   pub got_is : (xs : List A) (i : ℕ) (x d : A) → slice_get xs i ≡ Some x → (i < length xs) × (slice_index_or xs i d ≡ x)
@@ -26,14 +26,17 @@ module _ {A : Type 0} where
   some_at (x ∷ xs) (y ∷ ys) zero z l e = (x, refl)
   some_at (x ∷ xs) (y ∷ ys) (suc i) z l e = some_at xs ys i z (omega arith) e
 
-  map_stays : {B : Type 0} (f : A → B) (xs ys : List A) → length ys ≡ length xs → ((i : ℕ) (x y : A) → slice_get xs i ≡ Some x → slice_get ys i ≡ Some y → f y ≡ f x) → map f ys ≡ map f xs
+  map_stays : {B : Type 0} (f : A → B) (xs ys : List A) → length ys ≡ length xs
+      → ((i : ℕ) (x y : A) → slice_get xs i ≡ Some x → slice_get ys i ≡ Some y → f y ≡ f x) → map f ys ≡ map f xs
   map_stays f [] [] l e = refl
   map_stays f (x ∷ xs) [] l e = absurd (omega arith)
   map_stays f [] (y ∷ ys) l e = absurd (omega arith)
   map_stays f (x ∷ xs) (y ∷ ys) l e =
-      let h : f y ≡ f x = e 0 x y refl refl in let t : map f ys ≡ map f xs = map_stays f xs ys (omega arith) (λ i u v a b. e (suc i) u v a b) in ap (λ z. z ∷ map f ys) h ∙ ap (λ zs. f x ∷ zs) t
+      let h : f y ≡ f x = e 0 x y refl refl in let t : map f ys ≡ map f xs = map_stays f xs ys (omega arith) (λ i u v a b. e (suc i) u v a b) in
+      ap (λ z. z ∷ map f ys) h ∙ ap (λ zs. f x ∷ zs) t
 
-same_parents : (old new : List Shift) → length new ≡ length old → ((i : ℕ) (s t : Shift) → slice_get old i ≡ Some s → slice_get new i ≡ Some t → StaysInPool s t) → pool_parents new ≡ pool_parents old
+same_parents : (old new : List Shift) → length new ≡ length old
+    → ((i : ℕ) (s t : Shift) → slice_get old i ≡ Some s → slice_get new i ≡ Some t → StaysInPool s t) → pool_parents new ≡ pool_parents old
 same_parents [] [] l e = refl
 same_parents [] (t ∷ ts) l e = absurd (omega arith)
 same_parents (s ∷ ss) [] l e = absurd (omega arith)
@@ -71,7 +74,14 @@ pool_stays old new h all =
     subst (λ (n : ℕ). IsPoolOf n (pool_parents new) new) (sym l) (subst (λ (p : ℕ). IsPoolOf deques p new) (sym (same_parents old new l stays)) pool)
 
 pub stays_same : (s : Shift) → StaysInPool s s
-stays_same s = record { number = refl; parents = refl; deques = refl; own = (refl, refl, refl, omega arith); passes = record { same_deques = refl; same_parts = λ j. refl } }
+stays_same s = record {
+  number = refl;
+  parents = refl;
+  deques = refl;
+  own = (refl, refl, refl, omega arith);
+  passes =
+      record { same_deques = refl; same_parts = λ j. refl };
+}
 
 pub stays_more : (s t u : Shift) → StaysInPool s t → StaysInPool t u → StaysInPool s u
 stays_more s t u a b = record {

@@ -1,15 +1,14 @@
 -- Each step keeps the rule of a deque.
-use Rattle.std.proofs.Common.{◌≡◌, ◌≢◌, ℕ, zero, suc, ◌+◌, ◌-◌, ◌<◌, ◌≤◌, ◌||◌, ◌==◌, ◌⊎◌, Bool, true, false, true≢false, List, [], ◌∷◌, ◌++◌, length, set, sym, refl, ap, ◌∙◌, subst, ⊎_elim, append_assoc, arith, inl, inr}
+use Rattle.std.proofs.Common.{◌≡◌, ◌≢◌, ℕ, zero, suc, ◌+◌, ◌<◌, ◌≤◌, ◌||◌, ◌==◌, ◌⊎◌, Bool, true, false, true≢false, List, [], ◌∷◌, ◌++◌, set, sym, refl, ap, ◌∙◌, subst, ⊎_elim, arith, inl, inr}
 use mathlib.Core.Option.{some, some-ne-none}
 use lib.ListN.{get_elem?}
-use Rattle.std.proofs.lemmas.Bool.{cases_eq}
 use Rattle.std.proofs.lemmas.Bool.Decides.{nat_tests}
 use Rattle.crossbeam_deque.specs.Tasks.{Pushes, Takes, Forks, Merges, Learns}
 use Rattle.crossbeam_deque.proofs.Lists.{at_set, at_snoc}
 use Rattle.steal_pool.specs.declared.deque.Knowledge.{Knowledge}
 use Rattle.steal_pool.specs.declared.deque.Task.{Task}
 use Rattle.steal_pool.specs.declared.deque.Task.TheVariants.{Number, End}
-use Rattle.steal_pool.specs.Deque.{knowledge, one, times, total, numbers, EndsLast, NoEnd, Knows, RuleHolds, GotTask, Got, CanPut, PutTask, Put, kept, given, both, spent, Settled, Learned}
+use Rattle.steal_pool.specs.Deque.{knowledge, one, times, total, numbers, EndsLast, NoEnd, Knows, RuleHolds, GotTask, Got, CanPut, Put, kept, given, both, spent, Learned}
 
 pub times-append : (x : ℕ) (xs ys : List ℕ) → times x (xs ++ ys) ≡ times x xs + times x ys
 times-append x [] ys = omega arith
@@ -21,7 +20,8 @@ times_same x = let e : (x == x) ≡ true = grind (arith, nat_tests) in ap one e
 full_not_empty : (n : ℕ) (l : List ℕ) → ¬ (n ∷ l ≡ [])
 full_not_empty n l e = cc
 
-total_set : (f : Knowledge → ℕ) (views : List Knowledge) (port : ℕ) (v w : Knowledge) → get_elem? views port ≡ some v → total f (set views port w) + f v ≡ total f views + f w
+total_set : (f : Knowledge → ℕ) (views : List Knowledge) (port : ℕ) (v w : Knowledge) → get_elem? views port ≡ some v
+    → total f (set views port w) + f v ≡ total f views + f w
 total_set f [] port v w at = absurd (some-ne-none v (sym at))
 total_set f (u ∷ us) zero v w at = let e : u ≡ v = cc in let e' : f u ≡ f v = ap f e in omega arith
 total_set f (u ∷ us) (suc p) v w at = let e : total f (set us p w) + f v ≡ total f us + f w = total_set f us p v w at in omega arith
@@ -35,11 +35,14 @@ total_at f [] port v at = absurd (some-ne-none v (sym at))
 total_at f (u ∷ us) zero v at = let e : u ≡ v = cc in let e' : f u ≡ f v = ap f e in omega arith
 total_at f (u ∷ us) (suc p) v at = let e : f v ≤ total f us = total_at f us p v at in omega arith
 
-total_two : (f : Knowledge → ℕ) (views : List Knowledge) (port other : ℕ) (v u : Knowledge) → other ≢ port → get_elem? views port ≡ some v → get_elem? views other ≡ some u → f v + f u ≤ total f views
+total_two : (f : Knowledge → ℕ) (views : List Knowledge) (port other : ℕ) (v u : Knowledge) → other ≢ port → get_elem? views port ≡ some v
+    → get_elem? views other ≡ some u → f v + f u ≤ total f views
 total_two f [] port other v u apart at at' = absurd (some-ne-none v (sym at))
 total_two f (x ∷ xs) zero zero v u apart at at' = absurd (apart refl)
-total_two f (x ∷ xs) zero (suc o) v u apart at at' = let e : x ≡ v = cc in let e' : f x ≡ f v = ap f e in let t : f u ≤ total f xs = total_at f xs o u at' in omega arith
-total_two f (x ∷ xs) (suc p) zero v u apart at at' = let e : x ≡ u = cc in let e' : f x ≡ f u = ap f e in let t : f v ≤ total f xs = total_at f xs p v at in omega arith
+total_two f (x ∷ xs) zero (suc o) v u apart at at' = let e : x ≡ v = cc in let e' : f x ≡ f v = ap f e in
+    let t : f u ≤ total f xs = total_at f xs o u at' in omega arith
+total_two f (x ∷ xs) (suc p) zero v u apart at at' = let e : x ≡ u = cc in let e' : f x ≡ f u = ap f e in
+    let t : f v ≤ total f xs = total_at f xs p v at in omega arith
 total_two f (x ∷ xs) (suc p) (suc o) v u apart at at' = let t : f v + f u ≤ total f xs = total_two f xs p o v u (λ e. apart (ap suc e)) at at' in omega arith
 
 total_none : (f : Knowledge → ℕ) (views : List Knowledge) → ((j : ℕ) (u : Knowledge) → get_elem? views j ≡ some u → f u ≡ 0) → total f views ≡ 0
@@ -47,11 +50,14 @@ total_none f [] none = refl
 total_none f (u ∷ us) none = let a : f u ≡ 0 = none 0 u refl in let b : total f us ≡ 0 = total_none f us (λ j w at. none (suc j) w at) in omega arith
 
 -- where all others add nothing
-total_only : (f : Knowledge → ℕ) (views : List Knowledge) (port : ℕ) (v : Knowledge) → get_elem? views port ≡ some v → ((j : ℕ) (u : Knowledge) → j ≢ port → get_elem? views j ≡ some u → f u ≡ 0) → total f views ≡ f v
+total_only : (f : Knowledge → ℕ) (views : List Knowledge) (port : ℕ) (v : Knowledge) → get_elem? views port ≡ some v
+    → ((j : ℕ) (u : Knowledge) → j ≢ port → get_elem? views j ≡ some u → f u ≡ 0) → total f views ≡ f v
 total_only f [] port v at none = absurd (some-ne-none v (sym at))
-total_only f (u ∷ us) zero v at none = let e : u ≡ v = cc in let e' : f u ≡ f v = ap f e in let b : total f us ≡ 0 = total_none f us (λ j w there. none (suc j) w (λ z. let e : suc j ≡ 0 = z in absurd (omega arith)) there) in omega arith
+total_only f (u ∷ us) zero v at none = let e : u ≡ v = cc in let e' : f u ≡ f v = ap f e in
+    let b : total f us ≡ 0 = total_none f us (λ j w there. none (suc j) w (λ z. let e : suc j ≡ 0 = z in absurd (omega arith)) there) in omega arith
 total_only f (u ∷ us) (suc p) v at none = let a : f u ≡ 0 = none 0 u (λ z. let e : 0 ≡ suc p = z in absurd (omega arith)) refl in
-    let b : total f us ≡ f v = total_only f us p v at (λ j w apart there. none (suc j) w (λ z. let e : suc j ≡ suc p = z in apart (omega arith)) there) in omega arith
+    let b : total f us ≡ f v = total_only f us p v at
+    (λ j w apart there. none (suc j) w (λ z. let e : suc j ≡ suc p = z in apart (omega arith)) there) in omega arith
 
 abbrev pub KnowAll : List ℕ → List Task → List Knowledge → Type 0
 KnowAll pushed items views = (port : ℕ) (v : Knowledge) → get_elem? views port ≡ some v → Knows pushed items v
@@ -59,7 +65,8 @@ KnowAll pushed items views = (port : ℕ) (v : Knowledge) → get_elem? views po
 known_set : (pushed : List ℕ) (items : List Task) (views : List Knowledge) (port : ℕ) (w : Knowledge) → Knows pushed items w
     → ((j : ℕ) (u : Knowledge) → j ≢ port → get_elem? views j ≡ some u → Knows pushed items u) → KnowAll pushed items (set views port w)
 known_set pushed items views port w mine others j u at =
-    ⊎_elim (λ (x : (j ≡ port) × (w ≡ u)). subst (Knows pushed items) x.1 mine) (λ (x : (j ≢ port) × (get_elem? views j ≡ some u)). others j u x.0 x.1) (at_set views port j w u at)
+    ⊎_elim (λ (x : (j ≡ port) × (w ≡ u)). subst (Knows pushed items) x.1 mine) (λ (x : (j ≢ port) × (get_elem? views j ≡ some u)). others j u x.0 x.1)
+    (at_set views port j w u at)
 
 or_cases : (a b : Bool) → (a || b) ≡ true → (a ≡ true) ⊎ (b ≡ true)
 or_cases true b e = inl refl
@@ -81,11 +88,19 @@ begins = record {
 }
 
 -- who has every part knows that no other has one
-alone : (views : List Knowledge) (port j : ℕ) (v u : Knowledge) → total (λ v. v.parts) views ≡ 64 → get_elem? views port ≡ some v → v.parts ≡ 64 → j ≢ port → get_elem? views j ≡ some u → u.parts ≡ 0
-alone views port j v u all at whole apart there = let t : v.parts + u.parts ≤ total (λ v. v.parts) views = total_two (λ v. v.parts) views port j v u apart at there in omega arith
+alone : (views : List Knowledge) (port j : ℕ) (v u : Knowledge) → total (λ v. v.parts) views ≡ 64 → get_elem? views port ≡ some v → v.parts ≡ 64
+    → j ≢ port → get_elem? views j ≡ some u → u.parts ≡ 0
+alone views port j v u all at whole apart there = let t : v.parts + u.parts ≤ total (λ v. v.parts) views = total_two
+    (λ v. v.parts) views port j v u apart at there in omega arith
 
 nothing : (pushed : List ℕ) (items : List Task) (u : Knowledge) → u.parts ≡ 0 → u.taken ≡ [] → Knows pushed items u
-nothing pushed items u none idle = record { all = λ some_part. absurd (omega arith); «open» = λ some_part _. absurd (omega arith); ended = λ some_part _. absurd (omega arith); idle = λ _. idle }
+nothing pushed items u none idle = record {
+  all = λ some_part. absurd (omega arith);
+  «open» = λ some_part _. absurd
+      (omega arith);
+  ended = λ some_part _. absurd (omega arith);
+  idle = λ _. idle;
+}
 
 numbers-append : (xs ys : List Task) → numbers (xs ++ ys) ≡ numbers xs ++ numbers ys
 numbers-append [] ys = refl
@@ -107,7 +122,8 @@ end_last [] last = (refl, tt)
 end_last (Number n ∷ xs) last = end_last xs last
 end_last (End ∷ xs) last = (numbers-append xs (End ∷ []) ∙ ap (λ (l : List ℕ). l ++ []) last.0, end_last xs last.1)
 
-puts_number : (port : ℕ) (v : Knowledge) (n : ℕ) → v.parts ≡ 64 → v.closed ≡ false → v.ended ≡ false → Pushes RuleHolds port v (Number n ∷ []) (Put v (Number n ∷ []))
+puts_number : (port : ℕ) (v : Knowledge) (n : ℕ) → v.parts ≡ 64 → v.closed ≡ false → v.ended ≡ false
+    → Pushes RuleHolds port v (Number n ∷ []) (Put v (Number n ∷ []))
 puts_number port v n whole free fresh items views h at =
     let w : Knowledge = knowledge v.parts (v.pushed ++ n ∷ []) v.taken v.closed v.ended in
     let mine : Knows h.pushed items v = h.known port v at in
@@ -168,7 +184,8 @@ pub puts : (port : ℕ) (v : Knowledge) (task : Task) → CanPut v task → Push
 puts port v (Number n) can = puts_number port v n can.0 can.1 can.2
 puts port v End can = puts_end port v can
 
-takes_one : (port : ℕ) (v : Knowledge) → 0 < v.parts → (t : Task) (items : List Task) (views : List Knowledge) → RuleHolds (t ∷ items) views → get_elem? views port ≡ some v
+takes_one : (port : ℕ) (v : Knowledge) → 0 < v.parts → (t : Task) (items : List Task) (views : List Knowledge) → RuleHolds (t ∷ items) views
+    → get_elem? views port ≡ some v
     → (w : Knowledge) × RuleHolds items (set views port w) × GotTask v t w
 takes_one port v some_part (Number n) items views h at =
     let w : Knowledge = knowledge v.parts v.pushed (v.taken ++ n ∷ []) v.closed v.ended in
@@ -183,7 +200,13 @@ takes_one port v some_part (Number n) items views h at =
             let e = h.each x in
             omega (arith, times-append x v.taken (n ∷ []));
         known = known_set h.pushed items views port w
-            (record { all = mine.all; «open» = mine.«open»; ended = λ p e. absurd (full_not_empty n (numbers items) (mine.ended p e)); idle = λ z. absurd (omega arith) })
+            (record {
+              all = mine.all;
+              «open» = mine.«open»;
+              ended = λ p e. absurd
+                  (full_not_empty n (numbers items) (mine.ended p e));
+              idle = λ z. absurd (omega arith);
+            })
             (λ j u apart there. let k : Knows h.pushed (Number n ∷ items) u = h.known j u there in
             record { all = k.all; «open» = k.«open»; ended = λ p e. absurd (full_not_empty n (numbers items) (k.ended p e)); idle = k.idle });
       },
@@ -228,10 +251,22 @@ forks port v more items views h at =
       known = λ j u there.
           ⊎_elim
           (λ (x : get_elem? vs j ≡ some u). known_set h.pushed items views port l
-          (record { all = λ _. mine.all (omega arith); «open» = λ _ e. mine.«open» (omega arith) e; ended = λ _ e. mine.ended (omega arith) e; idle = λ z. absurd (omega arith) })
+          (record {
+            all = λ _. mine.all (omega arith);
+            «open» = λ _ e. mine.«open» (omega arith) e;
+            ended = λ _ e. mine.ended
+                (omega arith) e;
+            idle = λ z. absurd (omega arith);
+          })
           (λ i w apart here. h.known i w here) j u x)
           (λ (x : r ≡ u). subst (Knows h.pushed items) x
-          (record { all = λ _. mine.all (omega arith); «open» = λ _ e. mine.«open» (omega arith) e; ended = λ _ e. absurd (true≢false (sym e)); idle = λ z. absurd (omega arith) }))
+          (record {
+            all = λ _. mine.all (omega arith);
+            «open» = λ _ e. mine.«open» (omega arith) e;
+            ended = λ _ e. absurd
+                (true≢false (sym e));
+            idle = λ z. absurd (omega arith);
+          }))
           (at_end vs r u j there);
     }
 
@@ -239,13 +274,15 @@ pub merges : (port : ℕ) (v : Knowledge) (other : ℕ) (u : Knowledge) → 0 < 
 merges port v other u p q items views h at two at' =
     let b : Knowledge = both v u in
     let vs : List Knowledge = set views port b in
-    let was : get_elem? views other ≡ some u = ⊎_elim (λ (x : (other ≡ port) × (b ≡ u)). absurd (two x.0)) (λ (x : (other ≢ port) × (get_elem? views other ≡ some u)). x.1) (at_set views port other b u at') in
+    let was : get_elem? views other ≡ some u = ⊎_elim (λ (x : (other ≡ port) × (b ≡ u)). absurd (two x.0))
+    (λ (x : (other ≢ port) × (get_elem? views other ≡ some u)). x.1) (at_set views port other b u at') in
     let mine : Knows h.pushed items v = h.known port v at in
     let theirs : Knows h.pushed items u = h.known other u was in record {
       pushed = h.pushed;
       ends_last = h.ends_last;
       parts = (let s = total_set (λ v. v.parts) views port v b at in let t = total_set (λ v. v.parts) vs other u spent at' in let k = h.parts in omega arith);
-      each = λ x. (let s = total_set (λ v. times x v.taken) views port v b at in let t = total_set (λ v. times x v.taken) vs other u spent at' in let e = h.each x in
+      each = λ x. (let s = total_set (λ v. times x v.taken) views port v b at in let t = total_set (λ v. times x v.taken) vs other u spent at' in
+          let e = h.each x in
           omega (arith, times-append x v.taken u.taken));
       known = known_set h.pushed items vs other spent (nothing h.pushed items spent refl refl)
           (λ j w apart there. known_set h.pushed items views port b

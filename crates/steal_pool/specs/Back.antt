@@ -51,7 +51,8 @@ pub record AreBack (first now all left : List Knowledge) : Type 0 where
   pub more : (k : ℕ) → k < length first → (view_at first k).parts ≤ (view_at now k).parts
   pub ended : (k : ℕ) → k < length first → (view_at first k).ended ≡ true → (view_at now k).ended ≡ true
   pub parts : total (λ v. v.parts) now + total (λ v. v.parts) left ≡ total (λ v. v.parts) first + total (λ v. v.parts) all
-  pub each : (x : ℕ) → total (λ v. times x v.taken) now + total (λ v. times x v.taken) left ≡ total (λ v. times x v.taken) first + total (λ v. times x v.taken) all
+  pub each : (x : ℕ) → total (λ v. times x v.taken) now + total (λ v. times x v.taken) left ≡ total (λ v. times x v.taken) first + total
+      (λ v. times x v.taken) all
 
 -- the row of shift i goes round the places, and each of its passes has a part
 abbrev pub GoesRound : ℕ → List (Option (RowsId × Global)) → Option (Vec Seat) → Type 0

@@ -1,6 +1,6 @@
 -- The views of a shift's passes.
-use Rattle.std.specs.Prelude.{List, ◌∷◌, map}
-use Rattle.crossbeam_deque.specs.Handles.{view, worker_view}
+use Rattle.std.specs.Prelude.{List, map}
+use Rattle.crossbeam_deque.specs.Handles.{view}
 use Rattle.steal_pool.specs.declared.deque.Knowledge.{Knowledge}
 use Rattle.steal_pool.specs.declared.seat.Seat.{Seat}
 

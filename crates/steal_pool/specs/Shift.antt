@@ -1,5 +1,5 @@
 -- What contracts see of a shift.
-use Rattle.std.specs.Prelude.{◌≡◌, ℕ, zero, suc, ◌+◌, ◌-◌, ◌<◌, true, List, [], ◌∷◌, ◌++◌}
+use Rattle.std.specs.Prelude.{◌≡◌, ℕ, zero, suc, ◌<◌, true, List, [], ◌∷◌, ◌++◌}
 use Rattle.std.specs.List.{Contains}
 use Rattle.crossbeam_deque.specs.Handles.{worker_view, SameWorker}
 use Rattle.steal_pool.specs.declared.shift.Shift.{Shift}
@@ -30,7 +30,8 @@ shift_taken s = takings (shift_views s)
 
 -- Each deque was filled with its share of the numbers: those whose rest by the number of deques is the deque's own number
 abbrev pub KnowsShares : Shift → Type 0
-KnowsShares s = (j : ℕ) → j < shift_deques s → (view_at (shift_views s) j).pushed ≡ share (shift_deques s) (ring (shift_deques s) (shift_number s) j) (shift_parents s)
+KnowsShares s = (j : ℕ) → j < shift_deques s → (view_at (shift_views s) j).pushed ≡ share (shift_deques s) (ring (shift_deques s) (shift_number s) j)
+    (shift_parents s)
 
 -- the deques that a shift visits first
 abbrev pub visited : ℕ → ℕ → ℕ → List ℕ

@@ -141,7 +141,12 @@ fn put(own: &mut Owner, task: Task) -> Result<(), AllocError>
 }
 
 /// A new deque with its share of the numbers below `parents`, each `workers` more than the one before, and behind them an end mark for each worker.
-pub(crate) fn filled(alloc: Global, number: u64, parents: u64, workers: u64) -> Result<Owner, AllocError>
+pub(crate) fn filled(
+    alloc: Global,
+    number: u64,
+    parents: u64,
+    workers: u64,
+) -> Result<Owner, AllocError>
     requires { number < workers }
     ensures { IfOk result (λ own. IsFilled (worker_flavor own) (worker_view own) (share workers number parents)) }
 {

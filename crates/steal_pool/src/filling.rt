@@ -3,12 +3,16 @@ ghost use Rattle.std.specs.Prelude.{◌≡◌, ◌+◌, ◌-◌, ◌<◌, ◌≤
 ghost use Rattle.steal_pool.specs.Rows.{owner_views, owner_deques, owner_flavors, seat_deques, AreOwners, AreFifo, AreRows, served};
 
 use crate::deque::{Owner, filled};
-use crate::seating::seats_of;
 use crate::seat::Seat;
+use crate::seating::seats_of;
 use std::alloc::{AllocError, Global};
 
 /// A deque for each worker, with its share of the numbers.
-pub(crate) fn owners_of(alloc: Global, parents: u64, workers: usize) -> Result<Vec<Owner>, AllocError>
+pub(crate) fn owners_of(
+    alloc: Global,
+    parents: u64,
+    workers: usize,
+) -> Result<Vec<Owner>, AllocError>
     requires { (0 < workers) × (workers ≤ 64) }
     ensures owners { IfOk result (λ owners. AreOwners workers parents (served 0) (owner_views owners.items)) }
     ensures fifo { IfOk result (λ owners. AreFifo (owner_flavors owners.items)) }

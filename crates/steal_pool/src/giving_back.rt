@@ -10,8 +10,8 @@ ghost use Rattle.steal_pool.specs.Rows.{IsAround};
 ghost use Rattle.steal_pool.specs.Back.{place_view, place_deque, place_views, place_deques, seat_places, rows_views, HaveParts, AreBack, GoesRound};
 
 use crate::deque::{Owner, Total, take_back};
-use crate::shift::Shift;
 use crate::seat::Seat;
+use crate::shift::Shift;
 use arrayvec::ArrayVec;
 
 /// The owners of a pool's deques. A place may be blank.

@@ -38,7 +38,7 @@ pub(crate) fn next_number<R: Wait>(
     }
     while *done <= others.len() {
         match others[*done - 1].take(rt) {
-            Task::Number(p) => return Some(p),
+            Task::Number(stolen) => return Some(stolen),
             Task::End => *done += 1,
         }
     }

@@ -1,4 +1,4 @@
-use Rattle.std.proofs.Common.{◌≡◌, sym, arith}
+use Rattle.std.proofs.Common.{arith}
 use Rattle.steal_pool.proofs.Filled.{owners_none, owners_more, owners_all}
 use Rattle.steal_pool.proofs.filling.owners_of.Goals as goal
 

@@ -1,4 +1,4 @@
-use Rattle.std.proofs.Common.{◌≡◌, ◌++◌, Some, map, length}
+use Rattle.std.proofs.Common.{◌≡◌, ◌++◌, Some, map}
 use Rattle.steal_pool.proofs.giving_back.apart.Given as goal
 
 abbrev pub invariant-loop-shift : goal.invariant-loop-shift

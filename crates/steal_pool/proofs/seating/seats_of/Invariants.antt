@@ -1,4 +1,4 @@
-use Rattle.std.proofs.Common.{◌≡◌, ◌+◌, ◌-◌, length}
+use Rattle.std.proofs.Common.{◌+◌, ◌-◌, length}
 use Rattle.steal_pool.proofs.Rows.{upper, lower}
 use Rattle.steal_pool.proofs.Round.{IsRound}
 use Rattle.steal_pool.proofs.seating.seats_of.Given as goal

@@ -6,4 +6,5 @@ returns-clause-empty g c = visited_grow _ _ _ _ c.next_number.ensures.done
 
 pub returns-clause-ended : goal.returns-clause-ended
 returns-clause-ended g c =
-    ended_as c.next_number.result (ended_from _ _ _ c.next_number.result c.next_number.ensures.shift.own c.next_number.ensures.left) (λ all. record { every = all }) (λ ended. ended.every)
+    ended_as c.next_number.result (ended_from _ _ _ c.next_number.result c.next_number.ensures.shift.own c.next_number.ensures.left)
+    (λ all. record { every = all }) (λ ended. ended.every)
