@@ -27,11 +27,7 @@ fn take_all<R: Wait>(rt: &R, counts: &[AtomicU64], shift: &mut Shift)
 }
 
 /// Takes all numbers of a pool in four threads.
-fn take_in_threads<R: Threads + Wait + Sync>(
-    rt: &R,
-    counts: &[AtomicU64],
-    shifts: &mut Vec<Shift>,
-)
+fn take_in_threads<R: Threads + Wait + Sync>(rt: &R, counts: &[AtomicU64], shifts: &mut Vec<Shift>)
     ensures same { AllStay shifts.old.items shifts.new.items }
     ensures ended { AllEnded shifts.new.items }
 {

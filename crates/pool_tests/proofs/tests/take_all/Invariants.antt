@@ -1,4 +1,3 @@
-use Rattle.std.proofs.Common.{◌≡◌}
 use Rattle.steal_pool.specs.Shift.{StaysInPool}
 use Rattle.pool_tests.proofs.tests.take_all.Given as goal
 
