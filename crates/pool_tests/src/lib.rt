@@ -1,0 +1,5 @@
+//! Tests of pools whose numbers workers take and steal.
+#![tactic(auto)]
+
+#[cfg(test)]
+mod tests;

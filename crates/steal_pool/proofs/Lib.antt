@@ -1,0 +1,13 @@
+pub mod Steps
+pub mod Shares
+pub mod Seats
+pub mod Rows
+pub mod Round
+pub mod Filled
+pub mod Stays
+pub mod Shifts
+pub mod Empty
+pub mod Kept
+pub mod GivenBack
+pub mod TakenOnce
+pub mod Crossing

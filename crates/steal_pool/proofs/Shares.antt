@@ -1,0 +1,244 @@
+-- The deques' shares, and what a shift has taken of them.
+use Rattle.std.proofs.Common.{◌≡◌, ◌≢◌, ℕ, zero, suc, ◌+◌, ◌-◌, ◌%◌, ◌^◌, min, ◌<◌, ◌≤◌, ◌==◌, ◌⊎◌, Bool, true, false, cond, List, [], ◌∷◌, ◌++◌, length, set, sym, refl, ap, ◌∙◌, subst, ⊎_elim, append_assoc, arith, inl, inr, length-set, get_or-set_same, get_or-set_other, append-nil}
+use Rattle.std.proofs.lemmas.Bool.{cases_eq, cases_lt}
+use Rattle.std.proofs.Math.Nat.{mod-eq_of_lt, mod-add-mod, add-mod_right}
+use Rattle.std.proofs.lemmas.Bool.Decides.{nat_tests}
+use Rattle.steal_pool.specs.declared.deque.Knowledge.{Knowledge}
+use Rattle.steal_pool.specs.declared.deque.Task.TheVariants.{Number, End}
+use Rattle.steal_pool.specs.Deque.{knowledge, one, times, share, spent, GotTask, PutTask, IsFilled}
+use Rattle.steal_pool.specs.Ring.{ring, view_at, takings, IsShift}
+use Rattle.steal_pool.proofs.Steps.{times-append, times_same}
+
+pub same_from : (a b : ℕ) → (a == b) ≡ true → a ≡ b
+same_from a b e = grind (arith, nat_tests)
+
+pub one_other : (x y : ℕ) → x ≢ y → one (x == y) ≡ 0
+one_other x y apart = let e : (x == y) ≡ false = grind (arith, nat_tests) in ap one e
+
+-- which numbers a share has, each once
+pub share_times : (deques number x n : ℕ) → (times x (share deques number n) ≡ 0) ⊎ ((times x (share deques number n) ≡ 1) × (x < n) × (x % deques ≡ number))
+share_times deques number x zero = inl refl
+share_times deques number x (suc p) =
+    elim (p % deques == number) as (λ b. (p % deques == number) ≡ b → (times x (cond b (share deques number p ++ p ∷ []) (share deques number p)) ≡ 0)
+    ⊎ ((times x (cond b (share deques number p ++ p ∷ []) (share deques number p)) ≡ 1) × (x < suc p) × (x % deques ≡ number))) [
+      | true ↦ λ e.
+          let rest : p % deques ≡ number = same_from (p % deques) number e in
+          let sum : times x (share deques number p ++ p ∷ []) ≡ times x (share deques number p) + (one (x == p) + 0) = times-append x
+          (share deques number p) (p ∷ []) in
+          ⊎_elim
+          (λ (is : x ≡ p).
+          let o : one (x == p) ≡ 1 = ap (λ (y : ℕ). one (x == y)) (sym is) ∙ times_same x in
+          let r : x % deques ≡ number = ap (λ (y : ℕ). y % deques) is ∙ rest in
+          ⊎_elim (λ (z : times x (share deques number p) ≡ 0). inr (omega arith, omega arith, r))
+          (λ (h : (times x (share deques number p) ≡ 1) × (x < p) × (x % deques ≡ number)). let l = h.1 in absurd (omega arith))
+          (share_times deques number x p))
+          (λ (isnt : x ≢ p).
+          let o : one (x == p) ≡ 0 = one_other x p isnt in
+          ⊎_elim (λ (z : times x (share deques number p) ≡ 0). inl (omega arith))
+          (λ (h : (times x (share deques number p) ≡ 1) × (x < p) × (x % deques ≡ number)). let l = h.1 in let t = h.0 in
+          inr (omega arith, omega arith, h.2)) (share_times deques number x p))
+          (cases_eq x p)
+      | false ↦ λ e. ⊎_elim (λ z. inl z) (λ (h : (times x (share deques number p) ≡ 1) × (x < p) × (x % deques ≡ number)). inr
+          (h.0, omega arith, h.2)) (share_times deques number x p)
+    ] refl
+
+ring_apart : (deques number i j : ℕ) → number < deques → i < deques → j < deques → ring deques number i ≡ ring deques number j → i ≡ j
+ring_apart deques number i j a b c e = grind (arith, nat_tests)
+
+takings_empty : (views : List Knowledge) → ((j : ℕ) → j < length views → (view_at views j).taken ≡ []) → takings views ≡ []
+takings_empty [] none = refl
+takings_empty (v ∷ vs) none = ap (λ (l : List ℕ). l ++ takings vs) (none 0 (omega arith)) ∙ takings_empty vs (λ j l. none (suc j) (omega arith))
+
+-- the last deque that was visited gains a number
+takings_more : (views : List Knowledge) (d : ℕ) (w : Knowledge) (p : ℕ) → d < length views → w.taken ≡ (view_at views d).taken ++ p ∷ []
+    → ((j : ℕ) → d < j → j < length views → (view_at views j).taken ≡ [])
+    → takings (set views d w) ≡ takings views ++ p ∷ []
+takings_more [] d w p below is later = absurd (omega arith)
+takings_more (v ∷ vs) zero w p below is later =
+    let rest : takings vs ≡ [] = takings_empty vs (λ j l. later (suc j) (omega arith) (omega arith)) in
+    ap (λ (l : List ℕ). w.taken ++ l) rest ∙ append-nil w.taken ∙ is
+    ∙ ap (λ (l : List ℕ). l ++ p ∷ []) (sym (append-nil v.taken) ∙ ap (λ (l : List ℕ). v.taken ++ l) (sym rest))
+takings_more (v ∷ vs) (suc d) w p below is later =
+    ap (λ (l : List ℕ). v.taken ++ l) (takings_more vs d w p (omega arith) is (λ j a b. later (suc j) (omega arith) (omega arith)))
+    ∙ sym (append_assoc v.taken (takings vs) (p ∷ []))
+
+takings_same : (views : List Knowledge) (d : ℕ) (w : Knowledge) → w.taken ≡ (view_at views d).taken → takings (set views d w) ≡ takings views
+takings_same [] d w is = refl
+takings_same (v ∷ vs) zero w is = ap (λ (l : List ℕ). l ++ takings vs) is
+takings_same (v ∷ vs) (suc d) w is = ap (λ (l : List ℕ). v.taken ++ l) (takings_same vs d w is)
+
+-- a number that no view has taken is not among the takings
+takings_none : (x : ℕ) (views : List Knowledge) → ((j : ℕ) → j < length views → times x (view_at views j).taken ≡ 0) → times x (takings views) ≡ 0
+takings_none x [] none = refl
+takings_none x (v ∷ vs) none = let a : times x v.taken ≡ 0 = none 0 (omega arith) in
+    let b : times x (takings vs) ≡ 0 = takings_none x vs (λ j l. none (suc j) (omega arith)) in omega (arith, times-append x v.taken (takings vs))
+
+each_set : (F : ℕ → Knowledge → Type 0) (views : List Knowledge) (n done : ℕ) (w : Knowledge) → done < length views → F done w
+    → ((j : ℕ) → j ≢ done → j < n → F j (view_at views j)) → (j : ℕ) → j < n → F j (view_at (set views done w) j)
+each_set F views n done w below mine others j l =
+    ⊎_elim
+    (λ (is : j ≡ done). subst (λ (i : ℕ). F i (view_at (set views done w) i)) (sym is) (subst (F done) (sym (get_or-set_same views done w spent below)) mine))
+    (λ (isnt : j ≢ done). subst (F j) (sym (get_or-set_other views done j w spent isnt)) (others j isnt l))
+    (cases_eq j done)
+
+shift_set : (deques number parents done after : ℕ) (views : List Knowledge) (w : Knowledge) → IsShift deques number parents done views → done < deques
+    → done ≤ after → after ≤ done + 1 → 0 < w.parts
+    → w.pushed ≡ (view_at views done).pushed → (done < after → w.ended ≡ true) → ((x : ℕ) → times x w.taken ≤ times x w.pushed)
+    → IsShift deques number parents after (set views done w)
+shift_set deques number parents done after views w s more a b part same met proper =
+    let count = s.count in
+    let below : done < length views = omega arith in record {
+      count = length-set views done w ∙ s.count;
+      own = s.own;
+      within = omega arith;
+      part = each_set (λ _ v. 0 < v.parts) views deques done w below part (λ j _ l. s.part j l);
+      all = each_set (λ j v. v.pushed ≡ share deques (ring deques number j) parents) views deques done w below (same ∙ s.all done more) (λ j _ l. s.all j l);
+      ended = λ j l. each_set (λ j v. j < after → v.ended ≡ true) views deques done w below met (λ i isnt _ m. s.ended i (omega arith)) j (omega arith) l;
+      later = λ j m l. each_set (λ j v. after < j → v.taken ≡ []) views deques done w below (λ z. absurd (omega arith))
+          (λ i isnt k z. s.later i (omega arith) k) j l m;
+      proper = λ j x l. each_set (λ _ v. times x v.taken ≤ times x v.pushed) views deques done w below (proper x) (λ i _ k. s.proper i x k) j l;
+    }
+
+pub took : (deques number parents done : ℕ) (views : List Knowledge) (w : Knowledge) (p : ℕ) → IsShift deques number parents done views
+    → done < deques → GotTask (view_at views done) (Number p) w
+    → IsShift deques number parents done (set views done w) × (p < parents) × (times p (takings views) ≡ 0) ×
+    (takings (set views done w) ≡ takings views ++ p ∷ [])
+took deques number parents done views w p s more got =
+    let v : Knowledge = view_at views done in
+    let count : length views ≡ deques = s.count in
+    let taken : w.taken ≡ v.taken ++ p ∷ [] = ap (λ (h : Knowledge). h.taken) got.0 in
+    let pushed : w.pushed ≡ v.pushed = ap (λ (h : Knowledge). h.pushed) got.0 in
+    let parts : w.parts ≡ v.parts = ap (λ (h : Knowledge). h.parts) got.0 in
+    let some_part : 0 < v.parts = s.part done more in
+    let there : times p v.pushed ≡ times p (share deques (ring deques number done) parents) = ap (times p) (s.all done more) in
+    let fewer : times p v.taken < times p v.pushed = got.1 in
+    let Shared : Type 0 = (times p v.taken ≡ 0) × (p < parents) × (p % deques ≡ ring deques number done) in
+    let here : Shared = ⊎_elim (λ (z : times p (share deques (ring deques number done) parents) ≡ 0). absurd {A = Shared} (omega arith))
+    (λ (h : (times p (share deques (ring deques number done) parents) ≡ 1) × (p < parents) × (p % deques ≡ ring deques number done)). let t = h.0 in
+    (omega arith, h.1, h.2))
+    (share_times deques (ring deques number done) p parents) in (
+      shift_set deques number parents done done views w s more (omega arith) (omega arith) (omega arith) pushed (λ z. absurd (omega arith))
+          (λ x. let sum : times x w.taken ≡ times x v.taken + (one (x == p) + 0) = ap (times x) taken ∙ times-append x v.taken (p ∷ []) in
+          let same : times x w.pushed ≡ times x v.pushed = ap (times x) pushed in
+          let old : times x v.taken ≤ times x v.pushed = s.proper done x more in
+          ⊎_elim
+          (λ (is : x ≡ p). let o : one (x == p) ≡ 1 = ap (λ (y : ℕ). one (x == y)) (sym is) ∙ times_same x in
+          let t : times x v.taken ≡ times p v.taken = ap (λ (y : ℕ). times y v.taken) is in
+          let u : times x v.pushed ≡ times p v.pushed = ap (λ (y : ℕ). times y v.pushed) is in omega arith)
+          (λ (isnt : x ≢ p). let o : one (x == p) ≡ 0 = one_other x p isnt in omega arith)
+          (cases_eq x p)),
+      here.1,
+      takings_none p views (λ j l. let l' : j < deques = omega arith in
+          ⊎_elim
+          (λ (is : j ≡ done). ap (λ (i : ℕ). times p (view_at views i).taken) is ∙ here.0)
+          (λ (isnt : j ≢ done).
+          let most : times p (view_at views j).taken ≤ times p (view_at views j).pushed = s.proper j p l' in
+          let of : times p (view_at views j).pushed ≡ times p (share deques (ring deques number j) parents) = ap (times p) (s.all j l') in
+          ⊎_elim (λ (z : times p (share deques (ring deques number j) parents) ≡ 0). omega arith)
+          (λ (h : (times p (share deques (ring deques number j) parents) ≡ 1) × (p < parents) × (p % deques ≡ ring deques number j)).
+          absurd (isnt (ring_apart deques number j done s.own l' more (sym h.2 ∙ here.2))))
+          (share_times deques (ring deques number j) p parents))
+          (cases_eq j done)),
+      takings_more views done w p (omega arith) taken (λ j a l. s.later j a (omega arith)),
+    )
+
+pub met_end : (deques number parents done : ℕ) (views : List Knowledge) (w : Knowledge) → IsShift deques number parents done views → done < deques
+    → GotTask (view_at views done) End w
+    → IsShift deques number parents (done + 1) (set views done w) × (takings (set views done w) ≡ takings views)
+met_end deques number parents done views w s more got =
+    let v : Knowledge = view_at views done in
+    let taken : w.taken ≡ v.taken = ap (λ (h : Knowledge). h.taken) got in
+    let pushed : w.pushed ≡ v.pushed = ap (λ (h : Knowledge). h.pushed) got in
+    let parts : w.parts ≡ v.parts = ap (λ (h : Knowledge). h.parts) got in
+    let some_part : 0 < v.parts = s.part done more in (
+      shift_set deques number parents done (done + 1) views w s more (omega arith) (omega arith) (omega arith) pushed (λ _. ap (λ (h : Knowledge). h.ended) got)
+          (λ x. let a : times x w.taken ≡ times x v.taken = ap (times x) taken in let b : times x w.pushed ≡ times x v.pushed = ap (times x) pushed in
+          let old : times x v.taken ≤ times x v.pushed = s.proper done x more in omega arith),
+      takings_same views done w taken,
+    )
+
+rest_small : (x w : ℕ) → x < w → x % w ≡ x
+rest_small x w l = mod-eq_of_lt l
+
+-- between two numbers of a deque there are as many as there are deques
+rest_moves : (p i w : ℕ) → 0 < i → i < w → (p + i) % w ≢ p % w
+rest_moves p i w some few same =
+    let r : ℕ = p % w in
+    let below : r < w = omega arith in
+    let e : (r + i) % w ≡ (p + i) % w = mod-add-mod p w i in
+    ⊎_elim
+    (λ (l : r + i < w). let s = rest_small (r + i) w l in absurd (omega arith))
+    (λ (m : w ≤ r + i).
+    let back : ℕ = r + i - w in
+    let sum : back + w ≡ r + i = omega arith in
+    let t : (back + w) % w ≡ back % w = add-mod_right back w in
+    let u : (back + w) % w ≡ (r + i) % w = ap (λ (y : ℕ). y % w) sum in
+    let s = rest_small back w (omega arith) in absurd (omega arith))
+    (cases_lt (r + i) w)
+
+share_own : (deques number p : ℕ) → p % deques ≡ number → share deques number (suc p) ≡ share deques number p ++ p ∷ []
+share_own deques number p is = let e : (p % deques == number) ≡ true = grind (arith, nat_tests) in
+    ap (λ (b : Bool). cond b (share deques number p ++ p ∷ []) (share deques number p)) e
+
+share_other : (deques number p : ℕ) → p % deques ≢ number → share deques number (suc p) ≡ share deques number p
+share_other deques number p isnt = let e : (p % deques == number) ≡ false = grind (arith, nat_tests) in
+    ap (λ (b : Bool). cond b (share deques number p ++ p ∷ []) (share deques number p)) e
+
+share_gap : (deques number p j : ℕ) → p % deques ≡ number → j < deques → share deques number (suc p + j) ≡ share deques number p ++ p ∷ []
+share_gap deques number p zero is l = let e : suc p + zero ≡ suc p = omega arith in ap (share deques number) e ∙ share_own deques number p is
+share_gap deques number p (suc j) is l =
+    let e : suc p + suc j ≡ suc (p + suc j) = omega arith in
+    let f : suc p + j ≡ p + suc j = omega arith in
+    ap (share deques number) e ∙ share_other deques number (p + suc j)
+    (λ (z : (p + suc j) % deques ≡ number). rest_moves p (suc j) deques (omega arith) l (z ∙ sym is))
+    ∙ ap (share deques number) (sym f) ∙ share_gap deques number p j is (omega arith)
+
+share_before : (deques number p : ℕ) → number < deques → p ≤ number → share deques number p ≡ []
+share_before deques number zero a b = refl
+share_before deques number (suc p) a b =
+    let small : p % deques ≡ p = rest_small p deques (omega arith) in
+    share_other deques number p (λ (z : p % deques ≡ number). absurd (omega arith)) ∙ share_before deques number p a (omega arith)
+
+-- A deque was given the numbers of its share that lie below `next`, which is its next number or beyond the parents
+pub record IsFilling (deques number parents next : ℕ) (flavor : ℕ) (v : Knowledge) : Type 0 where
+  pub fifo : flavor ≡ 0
+  pub view : v ≡ knowledge 64 (share deques number (min next parents)) [] false false
+  pub next_own : next < parents → next % deques ≡ number
+
+pub filling_first : (deques number parents flavor : ℕ) (v : Knowledge) → number < deques → flavor ≡ 0 → v ≡ knowledge 64 [] [] false false
+    → IsFilling deques number parents number flavor v
+filling_first deques number parents flavor v below fifo is = record {
+  fifo = fifo;
+  view = is ∙ ap (λ (l : List ℕ). knowledge 64 l [] false false) (sym (share_before deques number (min number parents) below (omega arith)));
+  next_own = λ _. rest_small number deques below;
+}
+
+pub filling_more : (deques number parents next after flavor flavor' : ℕ) (v w : Knowledge) → IsFilling deques number parents next flavor v
+    → number < deques → next < parents → after ≡ min (next + deques) (2 ^ 64 - 1) → parents < 2 ^ 64
+    → flavor' ≡ flavor → PutTask v (Number next) w → IsFilling deques number parents after flavor' w
+filling_more deques number parents next after flavor flavor' v w h own more is fits same put =
+    let j : ℕ = min after parents - next - 1 in
+    let e : suc next + j ≡ min after parents = omega arith in
+    let now : min next parents ≡ next = omega arith in
+    let all : v.pushed ++ next ∷ [] ≡ share deques number (min after parents) =
+    ap (λ (l : List ℕ). l ++ next ∷ []) (ap (λ (u : Knowledge). u.pushed) h.view ∙ ap (share deques number) now)
+    ∙ sym (share_gap deques number next j (h.next_own more) (omega arith)) ∙ ap (share deques number) e in
+    record {
+      fifo = same ∙ h.fifo;
+      view = put ∙ ap (λ (u : Knowledge). knowledge u.parts (v.pushed ++ next ∷ []) u.taken u.closed u.ended) h.view
+          ∙ ap (λ (l : List ℕ). knowledge 64 l [] false false) all;
+      next_own = λ l. let f : after ≡ next + deques = omega arith in ap (λ (y : ℕ). y % deques) f ∙ add-mod_right next deques ∙ h.next_own more;
+    }
+
+pub filling_last : (deques number parents next flavor : ℕ) (v : Knowledge) → IsFilling deques number parents next flavor v → parents ≤ next
+    → IsFilled flavor v (share deques number parents)
+filling_last deques number parents next flavor v h done =
+    let e : min next parents ≡ parents = omega arith in
+    let view : v ≡ knowledge 64 (share deques number parents) [] false false = h.view ∙ ap (λ (n : ℕ). knowledge 64 (share deques number n) [] false false) e in
+    record {
+      fifo = h.fifo;
+      parts = ap (λ (u : Knowledge). u.parts) view;
+      all = ap (λ (u : Knowledge). u.pushed) view;
+      none = ap (λ (u : Knowledge). u.taken) view;
+      fresh = ap (λ (u : Knowledge). u.ended) view;
+    }
