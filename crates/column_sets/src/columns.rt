@@ -52,7 +52,12 @@ pub fn bases_of_columns(
     requires columns { AreColumns field (height columns.now) columns.now }
     ensures { IfOk result (λ v. AreMasks (length columns.now) (λ X. IsBasisOfColumns field rank columns.now (members X)) v.items) }
 {
-    sets_of_size(alloc, columns.len(), rank, |set| independent_in(field, columns, set))
+    sets_of_size(
+        alloc,
+        columns.len(),
+        rank,
+        |set| independent_in(field, columns, set),
+    )
 }
 
 /// The bases of at most 10 columns of that rank, from the lowest mask up. It takes no memory.
@@ -61,5 +66,9 @@ pub fn few_bases_of_columns(field: Field, columns: &[Column], rank: usize) -> Fe
     requires columns { AreColumns field (height columns.now) columns.now }
     ensures { AreMasks (length columns.now) (λ X. IsBasisOfColumns field rank columns.now (members X)) result.items }
 {
-    few_sets_of_size(columns.len(), rank, |set| independent_in(field, columns, set))
+    few_sets_of_size(
+        columns.len(),
+        rank,
+        |set| independent_in(field, columns, set),
+    )
 }

@@ -3,6 +3,7 @@
 
 /// What stands for a number that is the order of no field: for one code, and for two.
 const NO_CODES: [u8; 9] = [0; 9];
+
 const NONE: [[u8; 9]; 9] = [NO_CODES; 9];
 
 /// The sum of two codes.

@@ -59,20 +59,20 @@ module _ (t : MoveTable) (h : KeepsMove t) where
       → (rows back : List ℕ) → rows ≡ slice_set t.rows p x → back ≡ slice_set t.back p y → KeepsMove (record t { rows = rows; back = back })
   rows_kept f i k x y p l m o bx by e rows back re be =
       subst (λ (v : List ℕ). KeepsMove (record t { rows = v; back = back })) (sym re) (subst (λ (v : List ℕ). KeepsMove (record t { rows = slice_set t.rows p x; back = v })) (sym be) (subst (λ (p : ℕ). KeepsMove (record t { rows = slice_set t.rows p x; back = slice_set t.back p y })) (sym e) (record {
-    fields = h.fields;
-    rank_positive = h.rank_positive;
-    rank_most = h.rank_most;
-    size_most = h.size_most;
-    powers = h.powers;
-    rows = length-set t.rows (row_place t.shape f i k) x ∙ h.rows;
-    back = length-set t.back (row_place t.shape f i k) y ∙ h.back;
-    scalars = h.scalars;
-    labels = h.labels;
-    row_codes = set_codes t.rows f i k x h.rows l m o bx h.row_codes;
-    back_codes = set_codes t.back f i k y h.back l m o by h.back_codes;
-    scalar_codes = h.scalar_codes;
-    label_columns = h.label_columns;
-  })))
+        fields = h.fields;
+        rank_positive = h.rank_positive;
+        rank_most = h.rank_most;
+        size_most = h.size_most;
+        powers = h.powers;
+        rows = length-set t.rows (row_place t.shape f i k) x ∙ h.rows;
+        back = length-set t.back (row_place t.shape f i k) y ∙ h.back;
+        scalars = h.scalars;
+        labels = h.labels;
+        row_codes = set_codes t.rows f i k x h.rows l m o bx h.row_codes;
+        back_codes = set_codes t.back f i k y h.back l m o by h.back_codes;
+        scalar_codes = h.scalar_codes;
+        label_columns = h.label_columns;
+      })))
 
   pub scalar_kept : (f j x p : ℕ) → f < length t.shape.factors → j < t.shape.size → x < slice_index t.shape.factors f → p ≡ scalar_place t.shape f j
       → (scalars : List ℕ) → scalars ≡ slice_set t.scalars p x → KeepsMove (record t { scalars = scalars })

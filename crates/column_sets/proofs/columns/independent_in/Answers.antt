@@ -11,5 +11,5 @@ independent-requires-clause-columns c =
 pub returns : goal.returns
 returns c =
     let s = named_are_independent c.args.field c.laws.ensures (height c.args.columns.now) _ (column c.args.columns.now) c.requires.columns (members c.args.set) c.picked-columns.result.items c.picked-columns.ensures
-        c.as_slice.result.now c.as_slice.ensures.value in
+    c.as_slice.result.now c.as_slice.ensures.value in
     (λ t. s.0 (c.independent.ensures.0 t), λ i. c.independent.ensures.1 (s.1 i))

@@ -33,7 +33,7 @@ loop-set-preserved g c =
             few = one_more_set c.args.k c.loop-set.set c.loop-set.sets.items c.if-takes.sets.items e (ones c.args.n c.args.k c.loop-set.set t.0) c.loop-set.invariant.few;
           })
       | else-takes w ↦ record {
-          taken = same_taken c.loop-set.set c.args.n c.args.k _ c.loop-set.sets.items c.loop-set.invariant.taken c.if-takes.sets.items (ap (λ (v : ArrayVec ℕ). v.items) w.sets-is) (c.takes.ensures.no w.if-takes.false);
-          few = no_more_sets c.args.k c.loop-set.set c.loop-set.sets.items c.if-takes.sets.items (ap (λ (v : ArrayVec ℕ). v.items) w.sets-is) c.loop-set.invariant.few;
-        }
+        taken = same_taken c.loop-set.set c.args.n c.args.k _ c.loop-set.sets.items c.loop-set.invariant.taken c.if-takes.sets.items (ap (λ (v : ArrayVec ℕ). v.items) w.sets-is) (c.takes.ensures.no w.if-takes.false);
+        few = no_more_sets c.args.k c.loop-set.set c.loop-set.sets.items c.if-takes.sets.items (ap (λ (v : ArrayVec ℕ). v.items) w.sets-is) c.loop-set.invariant.few;
+      }
     ]
