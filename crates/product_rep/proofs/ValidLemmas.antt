@@ -1,52 +1,69 @@
 -- What makes a table a move.
-use Rattle.std.proofs.Common.{◌≡◌, ◌<◌, ◌≤◌, ◌+◌, ◌*◌, ◌↔◌, ℕ, Bool, IsTrue, List, length, replicate, sym, subst, arith, slice_index}
+use Rattle.std.proofs.Common.{◌≡◌, ◌<◌, ◌≤◌, ◌+◌, ◌*◌, ◌↔◌, ℕ, Bool, IsTrue, List, length, sym, ◌∙◌, ap, subst, arith, slice_index}
 use Rattle.std.proofs.lemmas.List.{get_or-replicate}
 use Rattle.matroid_theory.specs.declared.Mode.TheVariants.{Linear}
 use Rattle.matroid_theory.specs.Field.{degree}
 use Rattle.matroid_theory.specs.Move.{MoveTable, ArePermutation, IsMove, move_of}
 use Rattle.matroid_theory.proofs.FieldLaws.{field_laws}
 use Rattle.product_rep.specs.declared.moves.Move.TheInside.{Inside}
-use Rattle.product_rep.specs.Tables.{table, KeepsTable}
-use Rattle.product_rep.specs.Valid.{block, HasBlock, AreInverseCodes, IsFactorPart}
+use Rattle.product_rep.specs.Tables.{table, KeepsMove}
+use Rattle.product_rep.specs.Valid.{block, HasBlock, AreCodes, AreInverseCodes, IsFactorPart}
 use Rattle.product_rep.proofs.PiecesLemmas.{place_below}
 
+-- the size and the rank, as a function reads them
+pub size_is : (a : Inside) (t : MoveTable) (n : ℕ) → table a ≡ t → n ≡ a.size → n ≡ t.shape.size
+size_is a t n v e = e ∙ ap (λ (t : MoveTable). t.shape.size) v
+
+pub rank_is : (a : Inside) (t : MoveTable) (n : ℕ) → table a ≡ t → n ≡ a.rank → n ≡ t.shape.rank
+rank_is a t n v e = e ∙ ap (λ (t : MoveTable). t.shape.rank) v
+
 -- a list of as many matrices as factors has that of each factor
-pub has_block : (a : Inside) (t : MoveTable) (xs ys : List ℕ) (n f : ℕ) → table a ≡ t → KeepsTable a → n ≡ a.rank → length xs ≡ length a.factors * a.rank * a.rank → ys ≡ xs → f < length t.shape.factors → HasBlock n f ys
-has_block a t xs ys n f v h e l y b =
-    let b : f < length a.factors = subst (λ (t : MoveTable). f < length t.shape.factors) (sym v) b in
-    let m : length a.factors ≤ 3 = h.fields.few in
-    subst (λ (r : ℕ). HasBlock r f ys) (sym e) (subst (λ (ys : List ℕ). HasBlock a.rank f ys) (sym y) (record {
+pub has_block : (t : MoveTable) (xs ys : List ℕ) (n f : ℕ) → KeepsMove t → n ≡ t.shape.rank → length xs ≡ length t.shape.factors * t.shape.rank * t.shape.rank → ys ≡ xs → f < length t.shape.factors → HasBlock n f ys
+has_block t xs ys n f h e l y b =
+    let m : length t.shape.factors ≤ 3 = h.fields.few in
+    subst (λ (r : ℕ). HasBlock r f ys) (sym e) (subst (λ (ys : List ℕ). HasBlock t.shape.rank f ys) (sym y) (record {
       rank = h.rank_most;
       factor = omega arith;
-      places = λ i k o p. subst (λ (n : ℕ). (f * a.rank + i) * a.rank + k < n) (sym l) (place_below (length a.factors * a.rank) a.rank (f * a.rank + i) k (place_below (length a.factors) a.rank f i b o) p);
+      places = λ i k o p. subst (λ (n : ℕ). (f * t.shape.rank + i) * t.shape.rank + k < n) (sym l)
+          (place_below (length t.shape.factors * t.shape.rank) t.shape.rank (f * t.shape.rank + i) k (place_below (length t.shape.factors) t.shape.rank f i b o) p);
     }))
 
+-- its matrix has codes, in the terms of equal ones
+pub block_codes : (q s r m n f g : ℕ) (xs ys : List ℕ) → q ≡ s → r ≡ n → m ≡ n → g ≡ f → ys ≡ xs → AreCodes s n (block n f xs) → AreCodes q r (block m g ys)
+block_codes q s r m n f g xs ys qe re me ge ye h =
+    subst (λ (q : ℕ). AreCodes q r (block m g ys)) (sym qe)
+    (subst (λ (r : ℕ). AreCodes s r (block m g ys)) (sym re)
+    (subst (λ (m : ℕ). AreCodes s n (block m g ys)) (sym me)
+    (subst (λ (g : ℕ). AreCodes s n (block n g ys)) (sym ge)
+    (subst (λ (ys : List ℕ). AreCodes s n (block n f ys)) (sym ye) h))))
+
 -- what a test says of matrices, in the terms of equal ones
-pub same_test : (q s r n f : ℕ) (xs vs ys ws : List ℕ) (b : Bool) → q ≡ s → r ≡ n → xs ≡ vs → ys ≡ ws → (IsTrue b ↔ AreInverseCodes q r (block r f xs) (block r f ys)) → IsTrue b ↔ AreInverseCodes s n (block n f vs) (block n f ws)
-same_test q s r n f xs vs ys ws b qe re xe ye h =
-    subst (λ (q : ℕ). IsTrue b ↔ AreInverseCodes q n (block n f vs) (block n f ws)) qe
-    (subst (λ (r : ℕ). IsTrue b ↔ AreInverseCodes q r (block r f vs) (block r f ws)) re
-    (subst (λ (xs : List ℕ). IsTrue b ↔ AreInverseCodes q r (block r f xs) (block r f ws)) xe
-    (subst (λ (ys : List ℕ). IsTrue b ↔ AreInverseCodes q r (block r f xs) (block r f ys)) ye h)))
+pub same_test : (q s r n f g m h : ℕ) (xs vs ys ws : List ℕ) (b : Bool) → q ≡ s → r ≡ n → f ≡ g → m ≡ n → h ≡ g → xs ≡ vs → ys ≡ ws
+    → (IsTrue b ↔ AreInverseCodes q r (block r f xs) (block m h ys)) → IsTrue b ↔ AreInverseCodes s n (block n g vs) (block n g ws)
+same_test q s r n f g m h xs vs ys ws b qe re fe me he xe ye d =
+    subst (λ (q : ℕ). IsTrue b ↔ AreInverseCodes q n (block n g vs) (block n g ws)) qe
+    (subst (λ (r : ℕ). IsTrue b ↔ AreInverseCodes q r (block r g vs) (block n g ws)) re
+    (subst (λ (f : ℕ). IsTrue b ↔ AreInverseCodes q r (block r f vs) (block n g ws)) fe
+    (subst (λ (m : ℕ). IsTrue b ↔ AreInverseCodes q r (block r f vs) (block m g ws)) me
+    (subst (λ (h : ℕ). IsTrue b ↔ AreInverseCodes q r (block r f vs) (block m h ws)) he
+    (subst (λ (xs : List ℕ). IsTrue b ↔ AreInverseCodes q r (block r f xs) (block m h ws)) xe
+    (subst (λ (ys : List ℕ). IsTrue b ↔ AreInverseCodes q r (block r f xs) (block m h ys)) ye d))))))
 
 -- a table whose factors and labels are those of a move
-own_move : (a : Inside) → KeepsTable a → ((f : ℕ) → f < length a.factors → IsFactorPart (table a) f) → ArePermutation a.size (move_of (table a)).label (move_of (table a)).place → IsMove Linear (table a).shape (move_of (table a))
-own_move a h p l = record {
-  powers = λ f b. subst (λ (x : ℕ). x < degree (slice_index a.factors f)) (sym (power f b)) (field_laws (slice_index a.factors f) (h.fields.fields f b)).degree_positive;
+pub is_move : (t : MoveTable) → KeepsMove t → ((f : ℕ) → f < length t.shape.factors → IsFactorPart t f) → ArePermutation t.shape.size (move_of t).label (move_of t).place → IsMove Linear t.shape (move_of t)
+is_move t h p l = record {
+  powers = λ f b. subst (λ (x : ℕ). x < degree (slice_index t.shape.factors f)) (sym (power f b)) (field_laws (slice_index t.shape.factors f) (h.fields.fields f b)).degree_positive;
   allowed = power;
-  codes = λ f i k b o m. (p f b).matrices.codes i o k m;
-  back_codes = λ f i k b o m. (p f b).matrices.back_codes i o k m;
+  codes = h.row_codes;
+  back_codes = h.back_codes;
   inverse = λ f b. record {
     right = λ i j o m. (p f b).matrices.right i o j m;
     left = λ i j o m. (p f b).matrices.left i o j m;
   };
-  scalars = λ f j b o. ((p f b).scalars j o).below;
+  scalars = h.scalar_codes;
   nonzero = λ f j b o. ((p f b).scalars j o).nonzero;
   labels = l;
 }
   where
-    power : (f : ℕ) → f < length a.factors → slice_index (replicate (length a.factors) 0) f ≡ 0
-    power f b = get_or-replicate (length a.factors) f 0 0 b
-
-pub is_move : (a : Inside) (t : MoveTable) → table a ≡ t → KeepsTable a → ((f : ℕ) → f < length t.shape.factors → IsFactorPart t f) → ArePermutation t.shape.size (move_of t).label (move_of t).place → IsMove Linear t.shape (move_of t)
-is_move a t v h = subst (λ (t : MoveTable). ((f : ℕ) → f < length t.shape.factors → IsFactorPart t f) → ArePermutation t.shape.size (move_of t).label (move_of t).place → IsMove Linear t.shape (move_of t)) v (own_move a h)
+    power : (f : ℕ) → f < length t.shape.factors → slice_index t.powers f ≡ 0
+    power f b = ap (λ (xs : List ℕ). slice_index xs f) h.powers ∙ get_or-replicate (length t.shape.factors) f 0 0 b

@@ -2,6 +2,7 @@
 #![tactic(auto)]
 
 mod factors;
+mod matrices;
 mod moves;
 mod rep;
 

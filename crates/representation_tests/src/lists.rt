@@ -2,7 +2,9 @@
 ghost use Rattle.std.specs.Prelude.{◌≡◌};
 
 use arrayvec::ArrayVec;
-use column_sets::{complement, few_sets_of_size, first_of_size, first_set, in_set, set_count, sets_of_size};
+use column_sets::{
+    complement, few_sets_of_size, first_of_size, first_set, in_set, set_count, sets_of_size,
+};
 use field_tables::Mask;
 use small_lists::{followed_by, list_of};
 use std::test::Fail;

@@ -2,30 +2,28 @@ use Rattle.std.proofs.Common.{◌≡◌, ◌<◌, ℕ, sym, ◌∙◌, ap, subst
 use Rattle.std.specs.Bool.{◌==◌}
 use Rattle.std.specs.List.{position}
 use Rattle.std.specs.Prelude.{unwrap_or}
-use Rattle.std.proofs.lemmas.Bool.{false≢true}
-use Rattle.matroid_theory.specs.Move.{MoveTable}
-use Rattle.product_rep.specs.declared.moves.Move.TheInside.{Inside}
-use Rattle.product_rep.specs.Tables.{table}
 use Rattle.product_rep.proofs.moves.Move.has_label.Goals as goal
 
-size_is : (a : Inside) (t : MoveTable) (n : ℕ) → table a ≡ t → n ≡ a.size → n ≡ t.shape.size
-size_is a t n v e = e ∙ ap (λ (t : MoveTable). t.shape.size) v
+pub place-requires : goal.place-requires
+place-requires c = subst (λ (x : ℕ). x < c.args.self.now.shape.size) (sym c.label.ensures) (c.laws.ensures.label_columns c.args.j c.requires)
 
 pub returns-then-place-j : goal.returns-then-place-j
-returns-then-place-j c = (
-  λ t. absurd (false≢true t),
-  λ d. absurd (c.if-place-j.true (c.place-2.ensures ∙ ap (λ (x : ℕ). unwrap_or (position (λ l. l == x) c.args.self.now.labels) 0) c.label-2.ensures ∙ d.there)),
-)
-
-pub returns : goal.returns
-returns c =
-    let n : c.from-size.result ≡ c.args.self.now.shape.size = size_is c.self.inside c.args.self.now c.from-size.result c.self.view_is c.from-size.ensures in
-    let back : c.label-3.result ≡ slice_index c.args.self.now.labels (unwrap_or (position (λ l. l == c.args.j) c.args.self.now.labels) 0) = c.label-3.ensures ∙ ap (λ (x : ℕ). slice_index c.args.self.now.labels x) c.place-3.ensures in (
+returns-then-place-j c =
+    let there : c.place.result ≡ unwrap_or (position (λ l. l == slice_index c.args.self.now.labels c.args.j) c.args.self.now.labels) 0 =
+    c.place.ensures.place ∙ ap (λ (x : ℕ). unwrap_or (position (λ l. l == x) c.args.self.now.labels) 0) c.label.ensures in
+    let back : c.label-then-place-j.result ≡ slice_index c.args.self.now.labels (unwrap_or (position (λ l. l == c.args.j) c.args.self.now.labels) 0) =
+    c.label-then-place-j.ensures ∙ ap (λ (x : ℕ). slice_index c.args.self.now.labels x) c.place-then-place-j.ensures.place in (
       λ t. record {
-        below = subst (λ (x : ℕ). x < c.args.self.now.shape.size) c.label.ensures (subst (λ (m : ℕ). c.label.result < m) n c.if-label-size.false);
-        inverse_below = subst (λ (x : ℕ). x < c.args.self.now.shape.size) c.place.ensures (subst (λ (m : ℕ). c.place.result < m) n c.if-place-size.false);
-        there = sym (c.place-2.ensures ∙ ap (λ (x : ℕ). unwrap_or (position (λ l. l == x) c.args.self.now.labels) 0) c.label-2.ensures) ∙ c.if-place-j.false;
+        below = c.laws.ensures.label_columns c.args.j c.requires;
+        inverse_below = subst (λ (x : ℕ). x < c.args.self.now.shape.size) c.place-then-place-j.ensures.place c.place-then-place-j.ensures.below;
+        there = sym there ∙ c.if-place-j.true;
         back = sym back ∙ eqb-true _ _ t;
       },
       λ d. eq-eqb _ _ (back ∙ d.back),
     )
+
+pub returns-else-place-j : goal.returns-else-place-j
+returns-else-place-j c = (
+  λ t. absurd (c.if-place-j.false (eqb-true _ _ t)),
+  λ d. absurd (c.if-place-j.false (c.place.ensures.place ∙ ap (λ (x : ℕ). unwrap_or (position (λ l. l == x) c.args.self.now.labels) 0) c.label.ensures ∙ d.there)),
+)

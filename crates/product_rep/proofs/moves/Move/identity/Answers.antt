@@ -1,10 +1,20 @@
-use Rattle.std.proofs.Common.{◌≡◌, ◌<◌, ◌*◌, ◌+◌, ℕ, ◌≤◌, List, length, replicate, sym, ◌∙◌, ap, subst, slice_index}
+use Rattle.std.proofs.Common.{◌≡◌, ◌<◌, ◌*◌, ◌+◌, ℕ, ◌≤◌, List, length, replicate, refl, sym, ◌∙◌, ap, subst, slice_index}
 use Rattle.std.proofs.lemmas.List.{get_or-replicate, length-replicate}
+use Rattle.matroid_theory.specs.Field.{IsOrder}
 use Rattle.matroid_theory.specs.Matrix.{unit}
+use Rattle.matroid_theory.proofs.Dimension.{unit_code}
+use Rattle.matroid_theory.proofs.FieldLaws.{field_laws}
 use Rattle.matroid_theory.specs.Rep.{Rep, size, count}
 use Rattle.product_rep.proofs.PiecesLemmas.{place_below}
 use Rattle.product_rep.proofs.IdentityLemmas.{identity_valid, identity_takes}
 use Rattle.product_rep.proofs.moves.Move.identity.Goals as goal
+
+-- the codes of the unit matrix, and the code 1
+unit_below : (q x i k : ℕ) → IsOrder q → x ≡ unit i k → x < q
+unit_below q x i k o e = subst (λ (x : ℕ). x < q) (sym e) (unit_code q (field_laws q o) i k)
+
+one_below : (q x : ℕ) → IsOrder q → x ≡ 1 → x < q
+one_below q x o e = subst (λ (x : ℕ). x < q) (sym e) (field_laws q o).two
 
 pub invariant_of-result : goal.invariant_of-result
 invariant_of-result c =
@@ -19,6 +29,13 @@ invariant_of-result c =
       back = c.unit_rows-2.ensures.length ∙ (λ u. e u * c.rank-rank.result * c.rank-rank.result);
       scalars = ap (λ (xs : List ℕ). length xs) c.ones.ensures ∙ length-replicate (c.count-count.result * c.size-size.result) 1 ∙ (λ u. e u * c.size-size.result);
       labels = c.numbers.ensures.length;
+      powers = refl;
+      row_codes = λ f i k l m o. unit_below (slice_index c.factors-factors.result f) _ i k (c.count-count.ensures.are_factors.fields f l) (c.unit_rows.ensures.codes f i k (subst (λ (n : ℕ). f < n) (sym e) l) m o);
+      back_codes = λ f i k l m o. unit_below (slice_index c.factors-factors.result f) _ i k (c.count-count.ensures.are_factors.fields f l) (c.unit_rows-2.ensures.codes f i k (subst (λ (n : ℕ). f < n) (sym e) l) m o);
+      scalar_codes = λ f j l m. one_below (slice_index c.factors-factors.result f) _ (c.count-count.ensures.are_factors.fields f l)
+          (ap (λ (xs : List ℕ). slice_index xs (f * c.size-size.result + j)) c.ones.ensures
+          ∙ get_or-replicate (c.count-count.result * c.size-size.result) (f * c.size-size.result + j) 1 0 (place_below c.count-count.result c.size-size.result f j (subst (λ (n : ℕ). f < n) (sym e) l) m));
+      label_columns = λ j l. subst (λ (x : ℕ). x < c.size-size.result) (sym (c.numbers.ensures.entries j l)) l;
     }
 
 -- what the function has, in the terms of the representation
@@ -57,3 +74,14 @@ returns-clause-takes c =
     (rows_are c.args.rep.now c.count-count.result c.rank-rank.result c.unit_rows.result.items e c.rank-rank.ensures c.unit_rows.ensures.codes)
     (scalars_are c.args.rep.now c.count-count.result c.size-size.result c.ones.result.items e c.size-size.ensures.value c.ones.ensures)
     (labels_are c.args.rep.now c.size-size.result c.numbers.result.items c.size-size.ensures.value c.numbers.ensures.entries)
+
+pub returns-clause-entries : goal.returns-clause-entries
+returns-clause-entries c =
+    let e : c.count-count.result ≡ count c.args.rep.now = c.count-count.ensures.count ∙ ap (λ (fs : List ℕ). length fs) c.factors-factors.ensures in
+    record {
+      powers = powers_are c.args.rep.now _ c.factors-factors.ensures;
+      rows = rows_are c.args.rep.now c.count-count.result c.rank-rank.result c.unit_rows.result.items e c.rank-rank.ensures c.unit_rows.ensures.codes;
+      back = rows_are c.args.rep.now c.count-count.result c.rank-rank.result c.unit_rows-2.result.items e c.rank-rank.ensures c.unit_rows-2.ensures.codes;
+      scalars = scalars_are c.args.rep.now c.count-count.result c.size-size.result c.ones.result.items e c.size-size.ensures.value c.ones.ensures;
+      labels = labels_are c.args.rep.now c.size-size.result c.numbers.result.items c.size-size.ensures.value c.numbers.ensures.entries;
+    }

@@ -3,6 +3,6 @@ use Rattle.product_rep.proofs.moves.Move.is_move.Goals as goal
 
 pub returns-then-has_factors : goal.returns-then-has_factors
 returns-then-has_factors c = (
-  λ l. is_move c.self.inside c.args.self.now c.self.view_is c.self.invariant (c.has_factors.ensures.0 c.if-has_factors.true) (c.has_labels.ensures.0 l),
+  λ l. is_move c.args.self.now c.laws.ensures (c.has_factors.ensures.0 c.if-has_factors.true) (c.has_labels.ensures.0 l),
   λ m. c.has_labels.ensures.1 m.labels,
 )

@@ -1,4 +1,4 @@
-use Rattle.std.proofs.Common.{◌≡◌, ◌≤◌, ◌+◌, ◌*◌, ℕ, [], ◌<◌, ◌-◌, length, List, sym, ◌∙◌, ap, subst, arith, take, drop, Some, length-drop}
+use Rattle.std.proofs.Common.{◌≡◌, ◌≤◌, ◌+◌, ◌*◌, ℕ, [], ◌<◌, ◌-◌, length, List, sym, ◌∙◌, ap, arith, take, drop, Some, length-drop}
 use Rattle.std.specs.List.{slice_index_or, slice_get}
 use Rattle.std.proofs.lemmas.List.{length-take-le, take_rest}
 use Rattle.std.proofs.lemmas.Option.{slice_get-get_or}

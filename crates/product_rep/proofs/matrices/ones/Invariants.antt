@@ -1,5 +1,5 @@
 use Rattle.std.proofs.Common.{◌≡◌, replicate}
-use Rattle.product_rep.proofs.moves.ones.Given as goal
+use Rattle.product_rep.proofs.matrices.ones.Given as goal
 
 abbrev pub invariant-loop : goal.invariant-loop
 invariant-loop l = l.list.items ≡ replicate l.counter 1

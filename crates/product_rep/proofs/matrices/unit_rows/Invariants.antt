@@ -1,6 +1,6 @@
 use Rattle.std.proofs.Common.{◌≡◌, ◌<◌, ◌/◌, ◌%◌, ℕ, length, slice_index}
 use Rattle.matroid_theory.specs.Matrix.{unit}
-use Rattle.product_rep.proofs.moves.unit_rows.Given as goal
+use Rattle.product_rep.proofs.matrices.unit_rows.Given as goal
 
 abbrev pub invariant-loop-place : goal.invariant-loop-place
 invariant-loop-place l =

@@ -2,7 +2,7 @@ use Rattle.std.proofs.Common.{◌≡◌, ◌+◌, ◌/◌, ◌%◌, ℕ, ◌∙�
 use mir.Val.{bool_byte}
 use Rattle.matroid_theory.specs.Matrix.{unit}
 use Rattle.product_rep.proofs.IdentityLemmas.{one_more, unit-at}
-use Rattle.product_rep.proofs.moves.unit_rows.Goals as goal
+use Rattle.product_rep.proofs.matrices.unit_rows.Goals as goal
 
 -- the code that a test gives
 byte : (b : Bool) (x : ℕ) → x ≡ bool_byte b → x ≡ (if b then 1 else 0)

@@ -1,5 +1,5 @@
 use Rattle.std.proofs.Common.{◌≡◌, ◌<◌, ℕ, length, slice_index}
-use Rattle.product_rep.proofs.moves.numbers.Given as goal
+use Rattle.product_rep.proofs.matrices.numbers.Given as goal
 
 abbrev pub invariant-loop-j : goal.invariant-loop-j
 invariant-loop-j l =

@@ -1,7 +1,0 @@
-use Rattle.std.proofs.Common.{◌<◌, ℕ}
-use Rattle.product_rep.specs.Valid.{block, IsUnitRow}
-use Rattle.product_rep.proofs.moves.has_unit_rows.Given as goal
-
--- the rows before this one are those of the identity matrix
-abbrev pub invariant-loop-i : goal.invariant-loop-i
-invariant-loop-i l = (i : ℕ) → i < l.i → IsUnitRow l.field l.rank (block l.rank l.factor l.left) (block l.rank l.factor l.right) i
