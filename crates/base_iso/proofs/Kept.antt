@@ -55,7 +55,7 @@ module _ (M N : Matroid) (p u : ℕ → ℕ) (h : AreIsomorphicBy M N p u) (a : 
       omega arith
 
   pub alike_kept : AreAlike M N
-  alike_kept = record { ranks = h.ranks; sizes = h.sizes; bases = number_kept; empty = h.bases 0 0 (pow_pos M.size) (pow_pos M.size) (λ j l. ap (λ x. x == 1) (bit_at-zero (p j) ∙ sym (bit_at-zero j))) }
+  alike_kept = record { ranks = h.ranks; sizes = h.sizes; bases = number_kept }
 
 -- a count over a list as a count over its places
 size_first : (n : ℕ) (S : ℕ → Bool) → size_below (suc n) S ≡ cond (S 0) 1 0 + size_below n (λ i. S (suc i))
