@@ -1,12 +1,11 @@
 -- The image of a set, element by element.
-use Rattle.std.proofs.Common.{◌≡◌, ◌≢◌, ℕ, ◌+◌, ◌*◌, ◌/◌, ◌%◌, ◌^◌, ◌<◌, sym, ◌∙◌, ap, subst, arith, true, false, List, length, inl, inr, bit_and, bit_or, w16}
+use Rattle.std.proofs.Common.{◌≡◌, ◌≢◌, ℕ, ◌+◌, ◌*◌, ◌%◌, ◌^◌, ◌<◌, sym, ◌∙◌, ap, subst, arith, true, false, List, length, inl, inr, bit_or, w16}
 use Rattle.std.specs.Bool.{◌==◌}
 use Rattle.std.specs.Int.{bit_at}
 use Rattle.std.specs.List.{slice_index}
 use Rattle.std.proofs.lemmas.Bool.{cases_lt}
-use Rattle.std.proofs.lemmas.Nat.Bits.{shr_and_one, same_from_bits, bit_at-lt, bit_at_set_same, bit_at_set_other}
+use Rattle.std.proofs.lemmas.Nat.Bits.{same_from_bits, bit_at-lt, bit_at_set_same, bit_at_set_other}
 use Rattle.matroid_theory.specs.Matroid.{members}
-use Rattle.matroid_theory.proofs.Sums.{other_number}
 use Rattle.base_iso.specs.Started.{AreLabels, IsImage}
 use Rattle.base_iso.proofs.Places.{stands}
 use Rattle.base_iso.proofs.Inverses.{same_bit}

@@ -1,4 +1,4 @@
-use Rattle.std.proofs.Common.{◌≡◌, ◌≤◌, ◌*◌, ◌^◌, ◌%◌, ℕ, sym, ◌∙◌, ap, arith, length, bit_or, eqb-true, eq-eqb}
+use Rattle.std.proofs.Common.{◌≡◌, ◌^◌, ℕ, sym, ◌∙◌, ap, length, bit_or, eqb-true, eq-eqb}
 use Rattle.std.specs.Bool.{◌==◌, nat_lt}
 use Rattle.std.specs.List.{count_by}
 use Rattle.base_iso.proofs.Images.{one_image}
