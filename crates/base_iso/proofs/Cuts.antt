@@ -3,16 +3,19 @@ use Rattle.std.proofs.Common.{◌≡◌, ℕ, ◌+◌, ◌-◌, ◌<◌, ◌≤�
 use Rattle.std.specs.Bool.{◌==◌, Decides}
 use Rattle.std.specs.List.{Contains, IsAnyAnswer, slice_index}
 use Rattle.std.proofs.lemmas.Bool.Decides.{Decides-eqb}
-use Rattle.std.proofs.lemmas.List.Elements.{contains_decides, Decides-contains}
+use Rattle.std.proofs.lemmas.List.Elements.{contains_decides, Decides-contains, All-contains}
 use Rattle.std.proofs.lemmas.Bool.{cases_lt, cases_eq, iff_false}
 use Rattle.std.proofs.Math.Seq.{get_or-append_seam}
 use Rattle.std.proofs.Math.ListN.{get_or-append}
 use Rattle.std.proofs.lemmas.List.{get_or_default}
+use Rattle.std.proofs.lemmas.Nat.Bits.{bit_at-zero}
+use Rattle.matroid_theory.specs.Matrix.{size_below}
+use Rattle.matroid_theory.proofs.Bases.{size_none}
+use Rattle.bases.specs.BaseLists.{IsBaseList}
 use Rattle.matroid_theory.specs.Matroid.{members}
 use Rattle.matroid_theory.specs.Minor.{Matroid, AreIsomorphicBy}
 use Rattle.matroid_theory.specs.Move.{ArePermutation}
 use Rattle.base_iso.specs.Started.{AreLabels, IsImage, CarriesBases, CarriesLast, KeepsCount, Begins, NoneBegins}
-use Rattle.base_iso.specs.Counted.{AreAlike}
 use Rattle.base_iso.proofs.Inverses.{is_mask, no_member}
 
 -- the images of bases under an isomorphism that begins with the labels are bases
@@ -110,16 +113,20 @@ module _ (labels longer : List ℕ) (j : ℕ) (e : longer ≡ labels ++ j ∷ []
         g X Y (subst (λ (n : ℕ). 2 ^ n ≤ X) s b, l) m y)
   ]
 
--- with no labels at all, only the empty set is to be carried
-pub none_carried : (M N : Matroid) → AreAlike M N → (labels : List ℕ) → labels ≡ [] → CarriesBases M N labels
-none_carried M N s labels e = subst (CarriesBases M N) (sym e) none
+-- with no labels at all, only the empty set is to be carried, and no base is empty
+none_in : (n : ℕ) → size_below n (members 0) ≡ 0
+none_in n = (λ i. size_below n (λ j. bit_at-zero j i == 1)) ∙ size_none n
+
+pub none_carried : (M N : Matroid) → IsBaseList M → (labels : List ℕ) → labels ≡ [] → CarriesBases M N labels
+none_carried M N a labels e = subst (CarriesBases M N) (sym e) none
   where
     none : CarriesBases M N []
     none X Y l m y =
         let x : X ≡ 0 = omega arith in
-        let b : Y < 2 ^ 0 = is_mask 0 Y (λ j _. y.others j (λ i k. absurd (omega arith))) in
-        let z : 0 ≡ Y = omega arith in
-        subst (Contains N.bases) z ((s.empty).0 (subst (Contains M.bases) x m))
+        let r : size_below M.size (members 0) ≡ M.rank = All-contains (λ X. size_below M.size (members X) ≡ M.rank) M.bases 0 a.of_rank (subst (Contains M.bases) x m) in
+        let z : size_below M.size (members 0) ≡ 0 = none_in M.size in
+        let p : 0 < M.rank = a.rank_positive in
+        absurd (omega arith)
 
 -- a relabelling that gives the next element this label begins with the longer labels
 pub begins_more : (labels : List ℕ) (j : ℕ) (p : ℕ → ℕ) → Begins labels p → p (length labels) ≡ j → Begins (labels ++ j ∷ []) p

@@ -1,23 +1,15 @@
 -- The image of a set, element by element.
-use Rattle.std.proofs.Common.{◌≡◌, ◌≢◌, ℕ, ◌+◌, ◌*◌, ◌/◌, ◌%◌, ◌^◌, ◌<◌, sym, ◌∙◌, ap, subst, arith, true, false, List, length, inl, inr, bit_and, bit_or, w16}
+use Rattle.std.proofs.Common.{◌≡◌, ◌≢◌, ℕ, ◌+◌, ◌*◌, ◌%◌, ◌^◌, ◌<◌, sym, ◌∙◌, ap, subst, arith, true, false, List, length, inl, inr, bit_or, w16}
 use Rattle.std.specs.Bool.{◌==◌}
 use Rattle.std.specs.Int.{bit_at}
 use Rattle.std.specs.List.{slice_index}
 use Rattle.std.proofs.lemmas.Bool.{cases_lt}
-use Rattle.std.proofs.lemmas.Nat.Bits.{shr_and_one, same_from_bits, bit_at-lt, bit_at_set_same, bit_at_set_other}
+use Rattle.std.proofs.lemmas.Nat.Bits.{same_from_bits, bit_at-lt, bit_at_set_same, bit_at_set_other}
 use Rattle.matroid_theory.specs.Matroid.{members}
-use Rattle.matroid_theory.proofs.Sums.{other_number}
 use Rattle.base_iso.specs.Started.{AreLabels, IsImage}
 use Rattle.base_iso.proofs.Places.{stands}
 use Rattle.base_iso.proofs.Inverses.{same_bit}
 use Rattle.std.proofs.lemmas.List.{get_or_default}
-
--- the test of a bit
-pub inside : (set i : ℕ) → bit_and (set / 2 ^ i) 1 ≡ 1 → members set i ≡ true
-inside set i e = ap (λ x. x == 1) (sym (shr_and_one set i) ∙ e)
-
-pub outside : (set i : ℕ) → bit_and (set / 2 ^ i) 1 ≢ 1 → members set i ≡ false
-outside set i n = other_number _ 1 (λ e. n (shr_and_one set i ∙ e))
 
 -- a set has one image
 pub one_image : (labels : List ℕ) (X Y Z : ℕ) → IsImage labels X Y → IsImage labels X Z → Y ≡ Z
@@ -37,11 +29,11 @@ pub record IsImageBelow (labels : List ℕ) (n X Y : ℕ) : Type 0 where
 
 module _ (labels : List ℕ) (i set image : ℕ) (h : AreLabels 16 labels) (l : i < length labels) (m : IsImageBelow labels i set image) where
   -- an element in the set
-  pub one_in : bit_and (set / 2 ^ i) 1 ≡ 1 → IsImageBelow labels (i + 1) set (bit_or image (1 * 2 ^ slice_index labels i % 65536))
+  pub one_in : members set i ≡ true → IsImageBelow labels (i + 1) set (bit_or image (1 * 2 ^ slice_index labels i % 65536))
   one_in t = record {
     labelled = λ k b. elim (cases_lt k i) [
       | inl s ↦ other (slice_index labels k) (h.apart k i s l) ∙ m.labelled k s
-      | inr s ↦ (let e : i ≡ k = omega arith in subst (λ k. members new (slice_index labels k) ≡ members set k) e (same ∙ sym (inside set i t)))
+      | inr s ↦ (let e : i ≡ k = omega arith in subst (λ k. members new (slice_index labels k) ≡ members set k) e (same ∙ sym t))
     ];
     others = λ j o. other j (λ e. o i (omega arith) (sym e)) ∙ m.others j (λ k b. o k (omega arith));
   }
@@ -56,11 +48,11 @@ module _ (labels : List ℕ) (i set image : ℕ) (h : AreLabels 16 labels) (l : 
       other j n = ap (λ x. x == 1) (bit_at_set_other w16 image (slice_index labels i) (h.below i l) j n)
 
   -- an element outside
-  pub one_out : bit_and (set / 2 ^ i) 1 ≢ 1 → IsImageBelow labels (i + 1) set image
+  pub one_out : members set i ≡ false → IsImageBelow labels (i + 1) set image
   one_out t = record {
     labelled = λ k b. elim (cases_lt k i) [
       | inl s ↦ m.labelled k s
-      | inr s ↦ (let e : i ≡ k = omega arith in subst (λ k. members image (slice_index labels k) ≡ members set k) e (m.others (slice_index labels i) (λ k s. h.apart k i s l) ∙ sym (outside set i t)))
+      | inr s ↦ (let e : i ≡ k = omega arith in subst (λ k. members image (slice_index labels k) ≡ members set k) e (m.others (slice_index labels i) (λ k s. h.apart k i s l) ∙ sym t))
     ];
     others = λ j o. m.others j (λ k b. o k (omega arith));
   }

@@ -5,8 +5,6 @@ use Rattle.std.specs.List.{Contains, slice_index, count_by}
 use Rattle.std.proofs.lemmas.Bool.{and_parts, and_from}
 use Rattle.std.proofs.lemmas.List.Elements.{All-contains}
 use Rattle.std.proofs.lemmas.List.Sums.{sum_by-cons}
-use Rattle.std.proofs.lemmas.Nat.{pow_pos}
-use Rattle.std.proofs.lemmas.Nat.Bits.{bit_at-zero}
 use Rattle.arrayvec.specs.ArrayVec.{ArrayVec}
 use Rattle.matroid_theory.specs.Matrix.{size_below}
 use Rattle.matroid_theory.specs.Matroid.{members}
@@ -55,7 +53,7 @@ module _ (M N : Matroid) (p u : ℕ → ℕ) (h : AreIsomorphicBy M N p u) (a : 
       omega arith
 
   pub alike_kept : AreAlike M N
-  alike_kept = record { ranks = h.ranks; sizes = h.sizes; bases = number_kept; empty = h.bases 0 0 (pow_pos M.size) (pow_pos M.size) (λ j l. ap (λ x. x == 1) (bit_at-zero (p j) ∙ sym (bit_at-zero j))) }
+  alike_kept = record { ranks = h.ranks; sizes = h.sizes; bases = number_kept }
 
 -- a count over a list as a count over its places
 size_first : (n : ℕ) (S : ℕ → Bool) → size_below (suc n) S ≡ cond (S 0) 1 0 + size_below n (λ i. S (suc i))

@@ -1,6 +1,5 @@
 -- How many bases hold given elements.
-use Rattle.std.specs.Prelude.{ℕ, ◌<◌, ◌≡◌, ◌↔◌, ◌-◌, ◌&&◌, List, [], length, slice_index, slice_index_or, count_by}
-use Rattle.std.specs.List.{Contains}
+use Rattle.std.specs.Prelude.{ℕ, ◌<◌, ◌≡◌, ◌-◌, ◌&&◌, List, [], length, slice_index, slice_index_or, count_by}
 use Rattle.arrayvec.specs.ArrayVec.{ArrayVec}
 use Rattle.matroid_theory.specs.Matroid.{members}
 use Rattle.matroid_theory.specs.Minor.{Matroid}
@@ -39,9 +38,8 @@ KeepsLastCounts of_a of_b labels =
     (i : ℕ) → i < length labels →
     slice_index (row of_a (length labels - 1)) i ≡ slice_index (row of_b (slice_index labels (length labels - 1))) (slice_index labels i)
 
--- M and N have the same rank, the same size and equally many bases, and the empty set is a base of both or of neither
+-- M and N have the same rank, the same size and equally many bases
 pub record AreAlike (M N : Matroid) : Type 0 where
   pub ranks : N.rank ≡ M.rank
   pub sizes : N.size ≡ M.size
   pub bases : length N.bases ≡ length M.bases
-  pub empty : Contains M.bases 0 ↔ Contains N.bases 0

@@ -4,6 +4,7 @@ ghost use Rattle.std.specs.List.{Contains};
 ghost use Rattle.std.specs.List.Sorted.{IsStrictlyIncreasing};
 ghost use Rattle.base_iso.specs.Started.{AreLabels, IsImage, CarriesLast, IsOneOf, KeepsCount};
 
+use column_sets::{in_set, set_count};
 use field_tables::Mask;
 
 /// Whether each set of `a` whose greatest element is the last one with a label goes to a set of `b`.
@@ -29,8 +30,8 @@ fn with_greatest(sets: &[Mask], element: usize) -> &[Mask]
     ensures all { (X : ℕ) → 2 ^ element ≤ X → X < 2 ^ (element + 1) → Contains sets.now X → Contains result.now X }
     ensures no_others { (k : ℕ) → k < length result.now → IsOneOf sets.now element (slice_index result.now k) }
 {
-    let start = place_of(sets, 1 << element);
-    let end = place_of(sets, 1 << (element + 1));
+    let start = place_of(sets, set_count(element));
+    let end = place_of(sets, set_count(element + 1));
     &sets[start..end]
 }
 
@@ -49,7 +50,7 @@ pub fn keeps_count(a: &[Mask], b: &[Mask], labels: &[u8]) -> bool
     requires { AreLabels 16 labels.now }
     ensures { IsTrue result ↔ KeepsCount a.now b.now labels.now }
 {
-    count_below(a, 1 << labels.len()) == count_within(b, image(labels, Mask::MAX))
+    count_below(a, set_count(labels.len())) == count_within(b, image(labels, Mask::MAX))
 }
 
 /// How many of the sets are below this number.
@@ -81,7 +82,7 @@ fn image(labels: &[u8], set: Mask) -> Mask
 {
     let mut image = 0;
     for (i, label) in labels.iter().enumerate() {
-        if set >> i & 1 == 1 {
+        if in_set(set, i) {
             image |= 1 << *label;
         }
     }

@@ -1,14 +1,13 @@
 //! How many bases hold given elements, which an isomorphism keeps.
 ghost use Rattle.std.specs.Prelude.{◌≡◌, ◌<◌, ◌==◌, ◌↔◌, ℕ, IsTrue, false, length, count_by};
-ghost use Rattle.std.specs.List.{Contains};
 ghost use Rattle.matroid_theory.specs.Minor.{AreIsomorphicBy};
 ghost use Rattle.bases.specs.BaseLists.{IsBaseList};
 ghost use Rattle.base_iso.specs.Started.{AreLabels};
 ghost use Rattle.base_iso.specs.Counted.{pair_count, AreDegrees, ArePairCountsOf, ArePairCounts, IsSquare, KeepsLastCounts, AreAlike};
 
-use crate::carried::stands_in;
 use arrayvec::ArrayVec;
 use bases::BaseList;
+use column_sets::in_set;
 use field_tables::Mask;
 
 /// For each two elements, how many bases hold both.
@@ -20,29 +19,16 @@ pub fn may_be_isomorphic(a: &BaseList, b: &BaseList) -> bool
     ensures alike { IsTrue result → AreAlike a.now b.now }
     ensures others { result ≡ false → (p u : ℕ → ℕ) → ¬ (AreIsomorphicBy a.now b.now p u) }
 {
-    // The proof learns here what the lists keep.
-    a.size();
-    b.size();
+    a.laws();
+    b.laws();
     are_alike(a, b) && have_same_degrees(a, b)
 }
 
-/// Whether ranks, sizes and numbers of bases are the same. As the type of a list allows the empty set, it is looked for too.
+/// Whether ranks, sizes and numbers of bases are the same.
 fn are_alike(a: &BaseList, b: &BaseList) -> bool
     ensures { IsTrue result ↔ AreAlike a.now b.now }
 {
-    a.rank() == b.rank()
-        && a.size() == b.size()
-        && a.bases().len() == b.bases().len()
-        && has_empty_base(a) == has_empty_base(b)
-}
-
-/// Whether the empty set is a base.
-fn has_empty_base(list: &BaseList) -> bool
-    ensures { IsTrue result ↔ Contains list.now.bases 0 }
-{
-    // The proof learns here that the list rises.
-    list.size();
-    stands_in(list.bases(), 0)
+    a.rank() == b.rank() && a.size() == b.size() && a.bases().len() == b.bases().len()
 }
 
 /// Whether for each number equally many elements lie in so many bases.
@@ -109,7 +95,7 @@ fn pair_count(bases: &[Mask], i: u8, j: u8) -> usize
 {
     bases
         .iter()
-        .filter(|set| **set >> i & 1 == 1 && **set >> j & 1 == 1)
+        .filter(|set| in_set(**set, usize::from(i)) && in_set(**set, usize::from(j)))
         .count()
 }
 

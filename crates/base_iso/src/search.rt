@@ -8,6 +8,7 @@ use crate::Labels;
 use crate::carried::{carries_last, keeps_count};
 use crate::counts::{PairCounts, keeps_last_counts, may_be_isomorphic, pair_counts};
 use bases::BaseList;
+use small_lists::followed_by;
 
 /// A relabelling that carries the bases of the one matroid exactly to those of the other; none where there is none.
 pub fn isomorphism(a: &BaseList, b: &BaseList) -> Option<Labels>
@@ -15,6 +16,7 @@ pub fn isomorphism(a: &BaseList, b: &BaseList) -> Option<Labels>
     ensures all { IfSome result (λ labels. length labels.items ≡ a.now.size) }
     ensures none { IsNone result → (p u : ℕ → ℕ) → ¬ (AreIsomorphicBy a.now b.now p u) }
 {
+    a.laws();
     if !may_be_isomorphic(a, b) {
         return None;
     }
@@ -76,12 +78,11 @@ fn extended(
     ensures bases { IfSome result (λ longer. CarriesBases a.now b.now longer.items) }
     ensures none { IsNone result → NoneBegins a.now b.now (labels.now.items ++ label ∷ []) }
 {
-    // The proof learns here that there are at most 16 elements.
-    a.size();
+    a.laws();
     if labels.as_slice().contains(&label) {
         return None;
     }
-    let longer = followed_by(labels, label);
+    let longer: Labels = followed_by(labels.as_slice(), label);
     if may_begin(a, b, counts, longer.as_slice()) {
         Some(longer)
     } else {
@@ -100,23 +101,9 @@ fn may_begin(a: &BaseList, b: &BaseList, counts: &Counts, labels: &[u8]) -> bool
     ensures bases { IsTrue result → CarriesLast a.now.bases b.now.bases labels.now }
     ensures none { result ≡ false → NoneBegins a.now b.now labels.now }
 {
-    // The proof learns here what the lists keep.
-    a.size();
-    b.size();
+    a.laws();
+    b.laws();
     keeps_last_counts(&counts.of_a, &counts.of_b, labels)
         && keeps_count(a.bases(), b.bases(), labels)
         && carries_last(a.bases(), b.bases(), labels)
-}
-
-/// These labels followed by one more.
-fn followed_by(labels: &Labels, last: u8) -> Labels
-    requires { length labels.now.items < 16 }
-    ensures { result.items ≡ labels.now.items ++ last ∷ [] }
-{
-    let mut longer = Labels::new();
-    for label in labels.as_slice() {
-        longer.push(*label);
-    }
-    longer.push(last);
-    longer
 }

@@ -29,8 +29,7 @@ fn has_separation(rep: &Rep, order: usize) -> bool
     requires order { order ≤ 2 }
     ensures { IsTrue result ↔ ((X : ℕ → Bool) × IsSeparation rep.now order X) }
 {
-    // The proof learns here that there is a column.
-    rep.size();
+    rep.laws();
     // A set is a separation where its complement is one, so the first column may be put on the first side.
     let first = Side::empty().with(rep, 0);
     has_separation_from(rep, order, 1, first, Side::empty())

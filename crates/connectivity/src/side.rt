@@ -32,8 +32,7 @@ impl Side {
         ensures set { (k : ℕ) → members result.set k ≡ ((k == j) || members self.set k) }
         ensures side { IsSide rep.now result.set result.basis }
     {
-        // The proof learns here that there are at most 16 columns.
-        rep.size();
+        rep.laws();
         let longer = self.basis | 1 << j;
         let basis = if is_independent(rep, 0, longer) {
             longer

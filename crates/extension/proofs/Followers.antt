@@ -1,10 +1,10 @@
 -- A representation followed by one more column: when it is simple, and when its factors agree.
-use Rattle.std.proofs.Common.{◌≡◌, ◌≢◌, ◌↔◌, ℕ, suc, ◌+◌, ◌^◌, ◌<◌, ◌≤◌, refl, sym, ◌∙◌, ap, subst, arith, add-one, List, [], ◌∷◌, ◌++◌, Bool, true, false, ◌||◌, map, inl, inr}
+use Rattle.std.proofs.Common.{◌≡◌, ◌≢◌, ◌↔◌, ℕ, suc, ◌+◌, ◌^◌, ◌<◌, ◌≤◌, refl, sym, ◌∙◌, ap, subst, arith, add-one, List, Bool, true, false, ◌||◌, inl, inr}
 use Rattle.std.specs.Bool.{◌==◌}
 use Rattle.std.proofs.lemmas.Bool.{cases_lt, cases_Bool}
 use mathlib.Core.Bool.{true≢false}
 use Rattle.matroid_theory.specs.Matrix.{size_below, IsIndependent}
-use Rattle.matroid_theory.specs.Rep.{Rep, size, count, order, matrix, column_of, IsShaped, IsStandard, KeepsLimits, IsProductColumn}
+use Rattle.matroid_theory.specs.Rep.{Rep, size, count, order, matrix, IsShaped, IsStandard, KeepsLimits, IsProductColumn}
 use Rattle.matroid_theory.specs.Matroid.{members, IsIndependentIn, IsBasis, Agrees, IsSimple}
 use Rattle.matroid_theory.specs.Level.{followed_by, IsNormalised}
 use Rattle.matroid_theory.proofs.Bases.{with_own, with_other, smaller_independent}

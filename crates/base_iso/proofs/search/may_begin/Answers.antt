@@ -26,9 +26,9 @@ returns-else-keeps_count-clause-none c _ p u s i = elim c.if-keeps_last_counts.b
   | then-keeps_last_counts w ↦
       iff_false (count_named w.bases.result.now w.bases-then-keeps_last_counts.result.now c.args.a.now.bases c.args.b.now.bases c.args.labels.now w.keeps_count.result
       w.bases.ensures w.bases-then-keeps_last_counts.ensures w.keeps_count.ensures) (sym w.value-is ∙ c.if-keeps_count.false)
-      (count_kept c.args.a.now c.args.b.now p u i c.size.ensures.is_base_list c.size-2.ensures.is_base_list c.args.labels.now c.requires.labels s)
+      (count_kept c.args.a.now c.args.b.now p u i c.laws.ensures c.laws-2.ensures c.args.labels.now c.requires.labels s)
   | else-keeps_last_counts w ↦
       iff_false c.keeps_last_counts.ensures w.if-keeps_last_counts.false
-      (last_counts_kept c.args.a.now c.args.b.now p u i c.size.ensures.is_base_list c.size-2.ensures.is_base_list c.args.counts.now.of_a.items c.args.counts.now.of_b.items c.requires.of_a c.requires.of_b
+      (last_counts_kept c.args.a.now c.args.b.now p u i c.laws.ensures c.laws-2.ensures c.args.counts.now.of_a.items c.args.counts.now.of_b.items c.requires.of_a c.requires.of_b
       c.args.labels.now c.requires.some (let l = c.requires.labels in l.few) s)
 ]

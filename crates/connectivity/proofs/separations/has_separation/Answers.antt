@@ -5,7 +5,7 @@ use Rattle.connectivity.proofs.SplitLemmas.{some_column, turned, with_next}
 use Rattle.connectivity.proofs.separations.has_separation.Goals as goal
 
 pub with-first-requires-clause-column : goal.with-first-requires-clause-column
-with-first-requires-clause-column c = some_column c.args.rep.now c.size.ensures.is_rep c.requires.agrees
+with-first-requires-clause-column c = some_column c.args.rep.now c.laws.ensures c.requires.agrees
 
 pub returns : goal.returns
 returns c = (

@@ -1,4 +1,4 @@
-use Rattle.std.proofs.Common.{◌≡◌, ◌↔◌, ◌*◌, ◌^◌, ◌%◌, ◌<◌, ◌∙◌, ◌||◌, ℕ, Bool, IsFalse, ap, sym, subst, inl, inr, bit_or, w16}
+use Rattle.std.proofs.Common.{◌≡◌, ◌↔◌, ◌*◌, ◌^◌, ◌%◌, ◌<◌, ◌∙◌, ℕ, Bool, IsFalse, ap, sym, subst, inl, inr, bit_or, w16}
 use Rattle.std.specs.Bool.{◌==◌}
 use Rattle.std.specs.Int.{bit_at}
 use Rattle.std.proofs.lemmas.Bool.{cases_eq}

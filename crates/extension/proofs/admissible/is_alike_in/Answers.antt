@@ -1,4 +1,4 @@
-use Rattle.std.proofs.Common.{◌≡◌, ◌<◌, ◌+◌, ◌-◌, ◌↔◌, ◌||◌, ℕ, Bool, arith, rules}
+use Rattle.std.proofs.Common.{◌≡◌, ◌<◌, ◌-◌, ◌↔◌, ◌||◌, arith, rules}
 use Rattle.std.specs.Bool.{◌==◌}
 use Rattle.matroid_theory.specs.Rep.{KeepsLimits}
 use Rattle.matroid_theory.specs.Matroid.{members}

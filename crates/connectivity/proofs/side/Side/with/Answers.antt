@@ -8,13 +8,13 @@ use Rattle.connectivity.proofs.side.Side.with.Goals.{then-is_independent, else-i
 
 pub returns-clause-set : goal.returns-clause-set
 returns-clause-set c k =
-    let m : size c.args.rep.now ≤ 16 = c.size.ensures.is_rep.size_most in
+    let m : size c.args.rep.now ≤ 16 = c.laws.ensures.size_most in
     let l : c.args.j < size c.args.rep.now = c.requires.column in
     members_with c.args.self.set c.args.j k (omega arith)
 
 pub returns-clause-side : goal.returns-clause-side
 returns-clause-side c =
-    let m : size c.args.rep.now ≤ 16 = c.size.ensures.is_rep.size_most in
+    let m : size c.args.rep.now ≤ 16 = c.laws.ensures.size_most in
     elim c.if-is_independent.branch [
       | then-is_independent w ↦ subst (λ (b : ℕ). IsSide c.args.rep.now (bit_or c.args.self.set (one c.args.j)) b) (sym w.basis-is)
           (side_longer c.args.rep.now c.args.self.set c.args.self.basis c.args.j c.requires.column m c.requires.side (c.is_independent.ensures.0 w.if-is_independent.true))
