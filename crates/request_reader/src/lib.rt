@@ -7,7 +7,6 @@ mod field_line;
 mod filters;
 mod keyword;
 mod line;
-mod number;
 mod read;
 mod request;
 mod values;

@@ -8,8 +8,7 @@ use crate::cut::next_word;
 use crate::field_line::factors_of;
 use crate::filters::{Filter, flag_of};
 use crate::keyword::{Keyword, keyword_of};
-use crate::number::number_of;
-use named_matroids::{MinorItem, NameFault, named};
+use named_matroids::{MinorItem, NameFault, named, number_of};
 use product_rep::Factors;
 
 /// A minor that a line names.
