@@ -27,6 +27,7 @@ pub fn first_level(alloc: Global, request: &Request) -> Result<Level, AllocError
     ensures forms { IfOk result (λ level. IsLevelOf request.now request.now.rank level.forms) }
     ensures tried { IfOk result (λ level. AreTriesOf request.now request.now.rank level.tried) }
 {
+    request.laws();
     let unit = Rep::unit(request.factors(), request.rank());
     unit.laws();
     let mut forms = FormList::new(alloc);
