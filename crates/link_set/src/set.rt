@@ -14,9 +14,16 @@ use std::marker::{Brand, Model};
 use std::mem;
 use std::sync::ledger::{Blank, Ledger};
 
+/// How many chains a new set has. It is also the most that `reserve` makes room for, so one doubling at most comes before the
+/// next call of it.
 const FIRST_HEADS: usize = 16;
 
-/// A set of keys. Contracts see its keys in order of insertion, the number of heads, and the room that was made.
+/// A set of keys. Contracts see its keys in order of insertion, all distinct, the number of heads, and for how many inserts room
+/// was made.
+///
+/// A key is a node of a chain, and the chains go by index: a head or a link is one more than the place of a key, or 0. There are
+/// two tables of heads. When there are as many keys as heads, a table with twice as many takes the place of the newer one, and the
+/// keys move into its chains four at each insert; until then they are found in the chains of the older table.
 #[derive(Drop)]
 pub struct LinkSet {
     keys: Vec<Key>,
@@ -71,6 +78,7 @@ impl LinkSet {
         })
     }
 
+    /// The number of keys.
     pub fn len(&self) -> usize
         ensures len { result ≡ length self.now.keys }
         ensures distinct { AreDistinct self.now.keys }
@@ -85,7 +93,7 @@ impl LinkSet {
         self.keys.get(i)
     }
 
-    /// How many chains the newer table has.
+    /// How many heads the newer table has, at least as many as there are keys.
     pub fn heads(&self) -> usize
         ensures heads { result ≡ self.now.heads }
         ensures fits { length self.now.keys ≤ self.now.heads }
@@ -93,12 +101,14 @@ impl LinkSet {
         self.newer.moved.len()
     }
 
+    /// For how many inserts room was made.
     pub fn spare(&self) -> usize
         ensures { result ≡ self.now.spare }
     {
         self.spare
     }
 
+    /// Whether the key is there.
     pub fn contains(&self, key: &Key) -> bool
         ensures { IsTrue result ↔ Contains self.now.keys key.now }
     {
@@ -120,7 +130,7 @@ impl LinkSet {
         stands(keys, &older.links, &older.fresh, self.split, self.from, key)
     }
 
-    /// Makes room for `more` inserts.
+    /// Makes room for so many inserts, at most 16. Memory is wanting only where less room was made before; the set then stays.
     pub fn reserve(&mut self, more: usize) -> Result<(), AllocError>
         requires { more ≤ 16 }
         ensures keys { self.new.keys ≡ self.old.keys }
@@ -142,7 +152,8 @@ impl LinkSet {
         Ok(())
     }
 
-    /// Puts the key last where it is missing, and says whether it was. With room it can't be refused.
+    /// Puts the key last where it is missing, and says whether it was. That is at most 12 steps, and none where the key is there.
+    /// Memory is wanting only where the key is missing and no room was made; the key then comes back, and the set stays.
     pub fn insert_counted<L: Ledger>(
         &mut self,
         key: Key,
@@ -169,7 +180,7 @@ impl LinkSet {
         Ok(true)
     }
 
-    /// The same, with no count.
+    /// The same, with no count of steps.
     pub fn insert(&mut self, key: Key) -> Result<bool, (AllocError, Key)>
         ensures present { Contains self.old.keys key → result ≡ Ok false }
         ensures answer { IfOk result (λ added. MatchBool added (¬ (Contains self.old.keys key) × (self.new.keys ≡ self.old.keys ++ key ∷ [])) (Contains self.old.keys key × (self.new ≡ self.old))) }
@@ -180,6 +191,7 @@ impl LinkSet {
         self.insert_from::<Brand>(key, Blank::new(1))
     }
 
+    /// The same, with a count of its own.
     fn insert_from<L: Ledger>(&mut self, key: Key, blank: Blank) -> Result<bool, (AllocError, Key)>
         requires name { blank.name ≡ L.name }
         requires parts { blank.parts ≡ L.parts }
