@@ -22,14 +22,16 @@ piece codes v j w u e is =
     let n : (j + 1) * u - j * u ≡ u = omega arith in
     is ∙ (λ i. take ((n ∙ e) i) (drop (j * e i) codes))
 
-pub next_column : (factors : List ℕ) (rank : ℕ) (codes : List ℕ) (later j : ℕ) (P : Rep) (v : List ℕ) → IsBuilt factors rank codes j P → AreCodesOf factors codes → length codes ≡ later * (rank * length factors) → j < later
+pub next_column : (factors : List ℕ) (rank : ℕ) (codes : List ℕ) (later j : ℕ) (P : Rep) (v : List ℕ) → IsBuilt factors rank codes j P
+    → AreCodesOf factors codes → length codes ≡ later * (rank * length factors) → j < later
     → v ≡ take (rank * length factors) (drop (j * (rank * length factors)) codes) → IsProductColumn P.factors P.rank v
 next_column factors rank codes later j P v b h n l is =
     let room : (j + 1) * (rank * length factors) ≤ later * (rank * length factors) = mul-le-mul (omega arith) (le_refl (rank * length factors)) in
     subst (λ (s : Shape). IsProductColumn s.factors s.rank v) (sym b.shapes)
     (subst (IsProductColumn factors rank) (sym is) (piece_is_column factors codes rank j h (omega arith)))
 
-pub built_more : (factors : List ℕ) (rank : ℕ) (codes : List ℕ) (j : ℕ) (P N : Rep) (v : List ℕ) → IsBuilt factors rank codes j P → v ≡ take (rank * length factors) (drop (j * (rank * length factors)) codes)
+pub built_more : (factors : List ℕ) (rank : ℕ) (codes : List ℕ) (j : ℕ) (P N : Rep) (v : List ℕ) → IsBuilt factors rank codes j P
+    → v ≡ take (rank * length factors) (drop (j * (rank * length factors)) codes)
     → N ≡ followed_by P v → IsBuilt factors rank codes (j + 1) N
 built_more factors rank codes j P N v b is new = subst (IsBuilt factors rank codes (j + 1)) (sym new) (record {
   shapes = λ i. record { factors = (b.shapes i).factors; rank = (b.shapes i).rank; size = one_more i };
@@ -41,7 +43,10 @@ built_more factors rank codes j P N v b is new = subst (IsBuilt factors rank cod
     w = rank * length factors
 
     one_more : size (followed_by P v) ≡ rank + (j + 1)
-    one_more = let a : size (followed_by P v) ≡ suc (size P) = size_followed P v in let e : size P ≡ rank + j = ap (λ (s : Shape). s.size) b.shapes in omega arith
+    one_more =
+        let a : size (followed_by P v) ≡ suc (size P) = size_followed P v in
+        let e : size P ≡ rank + j = ap (λ (s : Shape). s.size) b.shapes in
+        omega arith
 
     more : j * w + w ≡ (j + 1) * w
     more = omega arith

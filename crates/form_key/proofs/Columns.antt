@@ -21,7 +21,8 @@ AreColumns factors rank columns = (j : ℕ) → j < length columns → IsProduct
 tail_columns : (factors : List ℕ) (rank : ℕ) (v : List ℕ) (columns : List (List ℕ)) → AreColumns factors rank (v ∷ columns) → AreColumns factors rank columns
 tail_columns factors rank v columns h j l = h (suc j) (omega arith)
 
-pub length-concat : (factors : List ℕ) (rank : ℕ) (columns : List (List ℕ)) → AreColumns factors rank columns → length (concat columns) ≡ length columns * (rank * length factors)
+pub length-concat : (factors : List ℕ) (rank : ℕ) (columns : List (List ℕ)) → AreColumns factors rank columns
+    → length (concat columns) ≡ length columns * (rank * length factors)
 length-concat factors rank [] h = omega arith
 length-concat factors rank (v ∷ columns) h =
     let e : length v ≡ rank * length factors = (h 0 (omega arith)).rows in
@@ -30,7 +31,10 @@ length-concat factors rank (v ∷ columns) h =
 
 -- codes of one column, and codes behind one
 positive : (k r c : ℕ) → k < r * c → 0 < c
-positive k r c l = elim (cases_lt 0 c) [ inl b ↦ b | inr g ↦ (let e : c ≡ 0 = omega arith in let z : r * c ≡ r * 0 = ap (λ c. r * c) e in absurd (omega arith)) ]
+positive k r c l = elim (cases_lt 0 c) [
+  | inl b ↦ b
+  | inr g ↦ (let e : c ≡ 0 = omega arith in let z : r * c ≡ r * 0 = ap (λ c. r * c) e in absurd (omega arith))
+]
 
 column_codes : (factors : List ℕ) (rank : ℕ) (v : List ℕ) → IsProductColumn factors rank v → AreCodesOf factors v
 column_codes factors rank v h k l =
@@ -45,21 +49,26 @@ codes_behind factors rank v rest h g k l = elim (cases_lt k (length v)) [
   | inr b ↦ (
       let m : k - length v < length rest = omega (arith, length-append v rest) in
       let e : k ≡ rank * length factors + (k - length v) = omega (arith, h.rows) in
-      let turn : k % length factors ≡ (k - length v) % length factors = ap (λ n. n % length factors) e ∙ mul-add-mod_self_right rank (length factors) (k - length v) in
+      let turn : k % length factors ≡ (k - length v) % length factors = ap (λ n. n % length factors) e
+          ∙ mul-add-mod_self_right rank (length factors) (k - length v) in
       subst (λ f. slice_index (v ++ rest) k < slice_index factors f) (sym turn)
       (subst (λ x. x < slice_index factors ((k - length v) % length factors)) (sym (get_or-append_right v rest (length v) k 0 refl b)) (g (k - length v) m)))
 ]
 
 pub concat_codes : (factors : List ℕ) (rank : ℕ) (columns : List (List ℕ)) → AreColumns factors rank columns → AreCodesOf factors (concat columns)
 concat_codes factors rank [] h = λ k l. absurd (omega arith)
-concat_codes factors rank (v ∷ columns) h = codes_behind factors rank v (concat columns) (h 0 (omega arith)) (concat_codes factors rank columns (tail_columns factors rank v columns h))
+concat_codes factors rank (v ∷ columns) h =
+    codes_behind factors rank v (concat columns) (h 0 (omega arith)) (concat_codes factors rank columns (tail_columns factors rank v columns h))
 
 -- the columns of a representation
 pub shaped_columns : (M : Rep) → IsShaped M → AreColumns M.factors M.rank M.columns
 shaped_columns M s j l = record { rows = s.lengths j l; codes = λ i f m n. s.codes f i j n m l }
 
 pub later_columns : (M : Rep) → IsShaped M → AreColumns M.factors M.rank (drop M.rank M.columns)
-later_columns M s j l = subst (IsProductColumn M.factors M.rank) (sym (get_or-drop M.rank M.columns j [])) (shaped_columns M s (M.rank + j) (let l' : j < length (drop M.rank M.columns) = l in omega (arith, length-drop M.rank M.columns)))
+later_columns M s j l =
+    let l' : j < length (drop M.rank M.columns) = l in
+    subst (IsProductColumn M.factors M.rank) (sym (get_or-drop M.rank M.columns j []))
+      (shaped_columns M s (M.rank + j) (omega (arith, length-drop M.rank M.columns)))
 
 pub length-later : (M : Rep) → IsShaped M → length (later_codes M) ≡ (size M - M.rank) * (M.rank * count M)
 length-later M s = length-concat M.factors M.rank (drop M.rank M.columns) (later_columns M s) ∙ ap (λ n. n * (M.rank * count M)) (length-drop M.rank M.columns)
@@ -83,8 +92,14 @@ order_most q h = subst (λ x. x ≤ 16) h.listed.2 (within orders (search rules)
 
 pub codes_are_halves : (factors codes : List ℕ) → ((f : ℕ) → f < length factors → IsOrder (slice_index factors f)) → AreCodesOf factors codes → AreHalves codes
 codes_are_halves factors codes fields h k l = elim (cases_lt (k % length factors) (length factors)) [
-  | inl b ↦ (let c : slice_index codes k < slice_index factors (k % length factors) = h k l in let o : slice_index factors (k % length factors) ≤ 16 = order_most _ (fields (k % length factors) b) in omega arith)
-  | inr b ↦ (let c : slice_index codes k < slice_index factors (k % length factors) = h k l in let z : slice_index factors (k % length factors) ≡ 0 = get_or_past factors (k % length factors) 0 b in absurd (omega arith))
+  | inl b ↦ (
+      let c : slice_index codes k < slice_index factors (k % length factors) = h k l in
+      let o : slice_index factors (k % length factors) ≤ 16 = order_most _ (fields (k % length factors) b) in
+      omega arith)
+  | inr b ↦ (
+      let c : slice_index codes k < slice_index factors (k % length factors) = h k l in
+      let z : slice_index factors (k % length factors) ≡ 0 = get_or_past factors (k % length factors) 0 b in
+      absurd (omega arith))
 ]
 
 -- one column after the other: their codes, and that there is room for them
@@ -125,12 +140,14 @@ later_room M m v h l g =
     let n : length (take m (drop M.rank M.columns)) ≡ m = length-take-le m (drop M.rank M.columns) (omega (arith, length-drop M.rank M.columns)) in
     let before : length (concat (take m (drop M.rank M.columns))) ≡ m * (M.rank * count M) =
     length-concat M.factors M.rank (take m (drop M.rank M.columns)) (taken_columns M m h.shaped (omega arith)) ∙ ap (λ n. n * (M.rank * count M)) n in
-    let here : length v ≡ M.rank * count M = ap (λ (w : List ℕ). length w) (sym (get_or_from_slice_get M.columns (M.rank + m) v [] g)) ∙ h.shaped.lengths (M.rank + m) l in
+    let here : length v ≡ M.rank * count M = ap (λ (w : List ℕ). length w) (sym (get_or_from_slice_get M.columns (M.rank + m) v [] g))
+        ∙ h.shaped.lengths (M.rank + m) l in
     let most : suc m * (M.rank * count M) ≤ 180 = most_codes M.rank (count M) (size M) (suc m) h.rank_most h.fields.few (omega arith) h.size_most in
     omega arith
 
 -- the same by the number of the column
-pub column_more : (M : Rep) (j : ℕ) (v codes new : List ℕ) → M.rank ≤ j → j < size M → slice_get M.columns j ≡ Some v → codes ≡ concat (take (j - M.rank) (drop M.rank M.columns)) → new ≡ codes ++ v
+pub column_more : (M : Rep) (j : ℕ) (v codes new : List ℕ) → M.rank ≤ j → j < size M → slice_get M.columns j ≡ Some v
+    → codes ≡ concat (take (j - M.rank) (drop M.rank M.columns)) → new ≡ codes ++ v
     → new ≡ concat (take (j + 1 - M.rank) (drop M.rank M.columns))
 column_more M j v codes new r l g so_far one =
     let e : j ≡ M.rank + (j - M.rank) = omega arith in
@@ -138,10 +155,12 @@ column_more M j v codes new r l g so_far one =
     one ∙ ap (λ xs. xs ++ v) so_far ∙ sym (later-more M (j - M.rank) v (omega arith) (subst (λ k. slice_get M.columns k ≡ Some v) e g))
     ∙ ap (λ n. concat (take n (drop M.rank M.columns))) (sym f)
 
-pub column_room : (M : Rep) (j : ℕ) (v codes : List ℕ) → IsRep M → M.rank ≤ j → j < size M → slice_get M.columns j ≡ Some v → codes ≡ concat (take (j - M.rank) (drop M.rank M.columns)) → length codes + length v ≤ 180
+pub column_room : (M : Rep) (j : ℕ) (v codes : List ℕ) → IsRep M → M.rank ≤ j → j < size M → slice_get M.columns j ≡ Some v
+    → codes ≡ concat (take (j - M.rank) (drop M.rank M.columns)) → length codes + length v ≤ 180
 column_room M j v codes h r l g so_far =
     let e : j ≡ M.rank + (j - M.rank) = omega arith in
-    subst (λ (xs : List ℕ). length xs + length v ≤ 180) (sym so_far) (later_room M (j - M.rank) v h (omega arith) (subst (λ k. slice_get M.columns k ≡ Some v) e g))
+    subst (λ (xs : List ℕ). length xs + length v ≤ 180) (sym so_far)
+      (later_room M (j - M.rank) v h (omega arith) (subst (λ k. slice_get M.columns k ≡ Some v) e g))
 
 -- a column of its codes
 pub piece_is_column : (factors codes : List ℕ) (rank j : ℕ) → AreCodesOf factors codes → (j + 1) * (rank * length factors) ≤ length codes
@@ -149,10 +168,12 @@ pub piece_is_column : (factors codes : List ℕ) (rank j : ℕ) → AreCodesOf f
 piece_is_column factors codes rank j h l = record {
   rows = length-take-le w (drop (j * w) codes) (omega (arith, length-drop (j * w) codes));
   codes = λ i f m n.
-      let place : i * length factors + f < w = subst (λ x. i * length factors + f < x) (mul_comm (length factors) rank) (mul-add-lt i (length factors) f rank m n) in
+      let place : i * length factors + f < w =
+          subst (λ x. i * length factors + f < x) (mul_comm (length factors) rank) (mul-add-lt i (length factors) f rank m n) in
       let turn : (j * w + (i * length factors + f)) % length factors ≡ f =
       ap (λ x. x % length factors) (turns (j * rank + i) f i) ∙ mod-mul-add (j * rank + i) (length factors) f n in
-      subst (λ x. x < slice_index factors f) (sym (get_or-take w (drop (j * w) codes) (i * length factors + f) 0 place ∙ get_or-drop (j * w) codes (i * length factors + f) 0))
+      subst (λ x. x < slice_index factors f) (sym (get_or-take w (drop (j * w) codes) (i * length factors + f) 0 place
+          ∙ get_or-drop (j * w) codes (i * length factors + f) 0))
       (subst (λ g. slice_index codes (j * w + (i * length factors + f)) < slice_index factors g) turn (h (j * w + (i * length factors + f)) (omega arith)));
 }
   where
@@ -165,4 +186,5 @@ piece_is_column factors codes rank j h l = record {
 pub later_halves : (M : Rep) (j : ℕ) (codes : List ℕ) → IsShaped M → codes ≡ concat (take (j - M.rank) (drop M.rank M.columns)) → size M ≤ j → AreHalves codes
 later_halves M j codes s so_far l =
     let n : length (drop M.rank M.columns) ≤ j - M.rank = omega (arith, length-drop M.rank M.columns) in
-    subst AreHalves (sym (so_far ∙ ap concat (take_all (j - M.rank) (drop M.rank M.columns) n))) (codes_are_halves M.factors (later_codes M) s.orders (later_are_codes M s))
+    subst AreHalves (sym (so_far ∙ ap concat (take_all (j - M.rank) (drop M.rank M.columns) n)))
+      (codes_are_halves M.factors (later_codes M) s.orders (later_are_codes M s))

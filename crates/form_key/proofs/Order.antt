@@ -35,7 +35,8 @@ then_assoc Equal s t = refl
 then_assoc Greater s t = refl
 
 -- bytes compare as their codes
-pub slice_cmp-paired : (xs ys : List ℕ) → length xs ≡ length ys → AreHalves xs → AreHalves ys → slice_cmp nat_cmp (paired xs) (paired ys) ≡ slice_cmp nat_cmp xs ys
+pub slice_cmp-paired : (xs ys : List ℕ) → length xs ≡ length ys → AreHalves xs → AreHalves ys
+    → slice_cmp nat_cmp (paired xs) (paired ys) ≡ slice_cmp nat_cmp xs ys
 slice_cmp-paired [] [] e h g = refl
 slice_cmp-paired [] (y ∷ ys) e h g = absurd (omega arith)
 slice_cmp-paired (x ∷ xs) [] e h g = absurd (omega arith)
@@ -58,7 +59,8 @@ slice_cmp-concat factors rank [] (y ∷ ys) e h g = absurd (omega arith)
 slice_cmp-concat factors rank (x ∷ xs) [] e h g = absurd (omega arith)
 slice_cmp-concat factors rank (x ∷ xs) (y ∷ ys) e h g =
     slice_cmp-append nat_cmp x (concat xs) y (concat ys) ((h 0 (omega arith)).rows ∙ sym (g 0 (omega arith)).rows)
-    ∙ ap (ordering_then (slice_cmp nat_cmp x y)) (slice_cmp-concat factors rank xs ys (omega arith) (λ j l. h (suc j) (omega arith)) (λ j l. g (suc j) (omega arith)))
+    ∙ ap (ordering_then (slice_cmp nat_cmp x y)) (slice_cmp-concat factors rank xs ys (omega arith) (λ j l. h (suc j) (omega arith))
+        (λ j l. g (suc j) (omega arith)))
 
 -- standard representations of one shape have the same unit columns
 abbrev unit_part : Rep → Rep
@@ -99,7 +101,8 @@ same_units M N e s t u v = ap (λ (U : Rep). U.columns) (same_codes (unit_part N
         unit_matrix M f i j here ∙ u.units f i j (subst (λ (x : Shape). f < length x.factors) (sym e) l) (subst (λ x. i < x) (sym ranks) m) here
         ∙ sym (v.units f i j l m j') ∙ sym (unit_matrix N f i j j')
 
-pub packing_order : (M N : Rep) → shape M ≡ shape N → IsShaped M → IsShaped N → IsStandard M → IsStandard N → slice_cmp nat_cmp (packing M) (packing N) ≡ rep_cmp M N
+pub packing_order : (M N : Rep) → shape M ≡ shape N → IsShaped M → IsShaped N → IsStandard M → IsStandard N
+    → slice_cmp nat_cmp (packing M) (packing N) ≡ rep_cmp M N
 packing_order M N e s t u v = bytes ∙ columns ∙ sym behind
   where
     bytes : slice_cmp nat_cmp (packing M) (packing N) ≡ slice_cmp nat_cmp (later_codes M) (later_codes N)

@@ -161,7 +161,9 @@ impl LinkSet {
     ) -> Result<bool, (AllocError, Key)>
         requires { steps.old < 2 ^ 62 }
         ensures present { Contains self.old.keys key → result ≡ Ok false }
-        ensures answer { IfOk result (λ added. MatchBool added (¬ (Contains self.old.keys key) × (self.new.keys ≡ self.old.keys ++ key ∷ [])) (Contains self.old.keys key × (self.new ≡ self.old))) }
+        ensures answer { IfOk result (λ added. MatchBool added
+            (¬ (Contains self.old.keys key) × (self.new.keys ≡ self.old.keys ++ key ∷ []))
+            (Contains self.old.keys key × (self.new ≡ self.old))) }
         ensures refused { IfErr result (λ back. ¬ (Contains self.old.keys key) × (self.old.spare ≡ 0) × (back.1 ≡ key) × (self.new ≡ self.old)) }
         ensures spare { IfOk result (λ added. self.old.spare ≤ self.new.spare + 1) }
         ensures heads { IfOk result (λ added. added ≡ true → self.new.heads ≡ heads_after self.old) }
@@ -183,7 +185,9 @@ impl LinkSet {
     /// The same, with no count of steps.
     pub fn insert(&mut self, key: Key) -> Result<bool, (AllocError, Key)>
         ensures present { Contains self.old.keys key → result ≡ Ok false }
-        ensures answer { IfOk result (λ added. MatchBool added (¬ (Contains self.old.keys key) × (self.new.keys ≡ self.old.keys ++ key ∷ [])) (Contains self.old.keys key × (self.new ≡ self.old))) }
+        ensures answer { IfOk result (λ added. MatchBool added
+            (¬ (Contains self.old.keys key) × (self.new.keys ≡ self.old.keys ++ key ∷ []))
+            (Contains self.old.keys key × (self.new ≡ self.old))) }
         ensures refused { IfErr result (λ back. ¬ (Contains self.old.keys key) × (self.old.spare ≡ 0) × (back.1 ≡ key) × (self.new ≡ self.old)) }
         ensures spare { IfOk result (λ added. self.old.spare ≤ self.new.spare + 1) }
         ensures heads { IfOk result (λ added. added ≡ true → self.new.heads ≡ heads_after self.old) }
@@ -197,7 +201,9 @@ impl LinkSet {
         requires parts { blank.parts ≡ L.parts }
         requires some { 0 < blank.parts }
         ensures present { Contains self.old.keys key → result ≡ Ok false }
-        ensures answer { IfOk result (λ added. MatchBool added (¬ (Contains self.old.keys key) × (self.new.keys ≡ self.old.keys ++ key ∷ [])) (Contains self.old.keys key × (self.new ≡ self.old))) }
+        ensures answer { IfOk result (λ added. MatchBool added
+            (¬ (Contains self.old.keys key) × (self.new.keys ≡ self.old.keys ++ key ∷ []))
+            (Contains self.old.keys key × (self.new ≡ self.old))) }
         ensures refused { IfErr result (λ back. ¬ (Contains self.old.keys key) × (self.old.spare ≡ 0) × (back.1 ≡ key) × (self.new ≡ self.old)) }
         ensures spare { IfOk result (λ added. self.old.spare ≤ self.new.spare + 1) }
         ensures heads { IfOk result (λ added. added ≡ true → self.new.heads ≡ heads_after self.old) }
