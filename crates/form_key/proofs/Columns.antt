@@ -50,7 +50,7 @@ codes_behind factors rank v rest h g k l = elim (cases_lt k (length v)) [
       let m : k - length v < length rest = omega (arith, length-append v rest) in
       let e : k ≡ rank * length factors + (k - length v) = omega (arith, h.rows) in
       let turn : k % length factors ≡ (k - length v) % length factors = ap (λ n. n % length factors) e
-          ∙ mul-add-mod_self_right rank (length factors) (k - length v) in
+      ∙ mul-add-mod_self_right rank (length factors) (k - length v) in
       subst (λ f. slice_index (v ++ rest) k < slice_index factors f) (sym turn)
       (subst (λ x. x < slice_index factors ((k - length v) % length factors)) (sym (get_or-append_right v rest (length v) k 0 refl b)) (g (k - length v) m)))
 ]
@@ -68,7 +68,7 @@ pub later_columns : (M : Rep) → IsShaped M → AreColumns M.factors M.rank (dr
 later_columns M s j l =
     let l' : j < length (drop M.rank M.columns) = l in
     subst (IsProductColumn M.factors M.rank) (sym (get_or-drop M.rank M.columns j []))
-      (shaped_columns M s (M.rank + j) (omega (arith, length-drop M.rank M.columns)))
+    (shaped_columns M s (M.rank + j) (omega (arith, length-drop M.rank M.columns)))
 
 pub length-later : (M : Rep) → IsShaped M → length (later_codes M) ≡ (size M - M.rank) * (M.rank * count M)
 length-later M s = length-concat M.factors M.rank (drop M.rank M.columns) (later_columns M s) ∙ ap (λ n. n * (M.rank * count M)) (length-drop M.rank M.columns)
@@ -141,7 +141,7 @@ later_room M m v h l g =
     let before : length (concat (take m (drop M.rank M.columns))) ≡ m * (M.rank * count M) =
     length-concat M.factors M.rank (take m (drop M.rank M.columns)) (taken_columns M m h.shaped (omega arith)) ∙ ap (λ n. n * (M.rank * count M)) n in
     let here : length v ≡ M.rank * count M = ap (λ (w : List ℕ). length w) (sym (get_or_from_slice_get M.columns (M.rank + m) v [] g))
-        ∙ h.shaped.lengths (M.rank + m) l in
+    ∙ h.shaped.lengths (M.rank + m) l in
     let most : suc m * (M.rank * count M) ≤ 180 = most_codes M.rank (count M) (size M) (suc m) h.rank_most h.fields.few (omega arith) h.size_most in
     omega arith
 
@@ -160,7 +160,7 @@ pub column_room : (M : Rep) (j : ℕ) (v codes : List ℕ) → IsRep M → M.ran
 column_room M j v codes h r l g so_far =
     let e : j ≡ M.rank + (j - M.rank) = omega arith in
     subst (λ (xs : List ℕ). length xs + length v ≤ 180) (sym so_far)
-      (later_room M (j - M.rank) v h (omega arith) (subst (λ k. slice_get M.columns k ≡ Some v) e g))
+    (later_room M (j - M.rank) v h (omega arith) (subst (λ k. slice_get M.columns k ≡ Some v) e g))
 
 -- a column of its codes
 pub piece_is_column : (factors codes : List ℕ) (rank j : ℕ) → AreCodesOf factors codes → (j + 1) * (rank * length factors) ≤ length codes
@@ -169,11 +169,11 @@ piece_is_column factors codes rank j h l = record {
   rows = length-take-le w (drop (j * w) codes) (omega (arith, length-drop (j * w) codes));
   codes = λ i f m n.
       let place : i * length factors + f < w =
-          subst (λ x. i * length factors + f < x) (mul_comm (length factors) rank) (mul-add-lt i (length factors) f rank m n) in
+      subst (λ x. i * length factors + f < x) (mul_comm (length factors) rank) (mul-add-lt i (length factors) f rank m n) in
       let turn : (j * w + (i * length factors + f)) % length factors ≡ f =
       ap (λ x. x % length factors) (turns (j * rank + i) f i) ∙ mod-mul-add (j * rank + i) (length factors) f n in
       subst (λ x. x < slice_index factors f) (sym (get_or-take w (drop (j * w) codes) (i * length factors + f) 0 place
-          ∙ get_or-drop (j * w) codes (i * length factors + f) 0))
+      ∙ get_or-drop (j * w) codes (i * length factors + f) 0))
       (subst (λ g. slice_index codes (j * w + (i * length factors + f)) < slice_index factors g) turn (h (j * w + (i * length factors + f)) (omega arith)));
 }
   where
@@ -187,4 +187,4 @@ pub later_halves : (M : Rep) (j : ℕ) (codes : List ℕ) → IsShaped M → cod
 later_halves M j codes s so_far l =
     let n : length (drop M.rank M.columns) ≤ j - M.rank = omega (arith, length-drop M.rank M.columns) in
     subst AreHalves (sym (so_far ∙ ap concat (take_all (j - M.rank) (drop M.rank M.columns) n)))
-      (codes_are_halves M.factors (later_codes M) s.orders (later_are_codes M s))
+    (codes_are_halves M.factors (later_codes M) s.orders (later_are_codes M s))

@@ -60,7 +60,7 @@ slice_cmp-concat factors rank (x ∷ xs) [] e h g = absurd (omega arith)
 slice_cmp-concat factors rank (x ∷ xs) (y ∷ ys) e h g =
     slice_cmp-append nat_cmp x (concat xs) y (concat ys) ((h 0 (omega arith)).rows ∙ sym (g 0 (omega arith)).rows)
     ∙ ap (ordering_then (slice_cmp nat_cmp x y)) (slice_cmp-concat factors rank xs ys (omega arith) (λ j l. h (suc j) (omega arith))
-        (λ j l. g (suc j) (omega arith)))
+    (λ j l. g (suc j) (omega arith)))
 
 -- standard representations of one shape have the same unit columns
 abbrev unit_part : Rep → Rep

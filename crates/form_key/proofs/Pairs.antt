@@ -43,7 +43,7 @@ half_at-paired (x ∷ (y ∷ xs)) (suc zero) h = let l : y < 16 = h 1 (omega ari
 half_at-paired (x ∷ (y ∷ xs)) (suc (suc k)) h = half_at-next (x * 16 + y) (paired xs) k ∙ half_at-paired xs k (λ j l. h (suc (suc j)) (omega arith))
 
 -- so a list of halves is read off its bytes
-pub halves_of_paired : (xs ys : List ℕ) (n : ℕ) → AreHalves xs → length xs ≡ n → length ys ≡ n 
+pub halves_of_paired : (xs ys : List ℕ) (n : ℕ) → AreHalves xs → length xs ≡ n → length ys ≡ n
     → ((k : ℕ) → k < n → slice_index ys k ≡ half_at (paired xs) k) → xs ≡ ys
 halves_of_paired xs ys n h a b same = ext_get_or 0 xs ys (a ∙ sym b) (λ k l. sym (half_at-paired xs k h) ∙ sym (same k (omega arith)))
 
