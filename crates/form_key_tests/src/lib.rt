@@ -1,0 +1,5 @@
+//! Keys of forms on examples.
+#![tactic(auto)]
+
+#[cfg(test)]
+mod tests;
