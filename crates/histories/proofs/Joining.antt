@@ -17,7 +17,8 @@ abbrev together : List (List Entry) → List Entry
 together histories = flat_map (λ history. history) histories
 
 -- ---- calls numbered anew
-numbered_by : (c : ℕ) (made : ℕ → ℕ) (e : Entry) (es : List Entry) (b : Bool) → (e.caller == c) ≡ b → IsNumbered c (cond b (suc (made c)) (made c)) (calls_by c es)
+numbered_by : (c : ℕ) (made : ℕ → ℕ) (e : Entry) (es : List Entry) (b : Bool) → (e.caller == c) ≡ b
+    → IsNumbered c (cond b (suc (made c)) (made c)) (calls_by c es)
     → IsNumbered c (made c) (cond b (record { caller = e.caller; call = made e.caller; key = e.key; reply = e.reply } ∷ calls_by c es) (calls_by c es))
 numbered_by c made e es true is rest = let same : e.caller ≡ c = eqb-true e.caller c is in (same, ap made same, rest)
 numbered_by c made e es false is rest = rest
@@ -39,7 +40,8 @@ told_after keys (x ∷ xs) ys first second = (first.0, told_after (after_offer k
 has_beside : (more keys : List (List ℕ)) (key : List ℕ) → has_key more key ≡ false → has_key (more ++ keys) key ≡ has_key keys key
 has_beside more keys key none = list_any-append (bytes_eq key) more keys ∙ ap (λ b. b || has_key keys key) none
 
-offer_beside : (more keys : List (List ℕ)) (key : List ℕ) (b : Bool) → cond b (more ++ keys) ((more ++ keys) ++ key ∷ []) ≡ more ++ cond b keys (keys ++ key ∷ [])
+offer_beside : (more keys : List (List ℕ)) (key : List ℕ) (b : Bool)
+    → cond b (more ++ keys) ((more ++ keys) ++ key ∷ []) ≡ more ++ cond b keys (keys ++ key ∷ [])
 offer_beside more keys key true = refl
 offer_beside more keys key false = append_assoc more keys (key ∷ [])
 
@@ -53,11 +55,13 @@ own_key e es = or_left (bytes_eq e.key e.key) (has_key (keys_of es) e.key) (same
 later_key : (e : Entry) (es : List Entry) (key : List ℕ) → has_key (keys_of es) key ≡ true → has_key (keys_of (e ∷ es)) key ≡ true
 later_key e es key there = or_right (bytes_eq key e.key) (has_key (keys_of es) key) there
 
-told_beside : (more keys : List (List ℕ)) (history : List Entry) → ((key : List ℕ) → has_key (keys_of history) key ≡ true → has_key more key ≡ false) → RepliesFrom keys history → RepliesFrom (more ++ keys) history
+told_beside : (more keys : List (List ℕ)) (history : List Entry) → ((key : List ℕ) → has_key (keys_of history) key ≡ true → has_key more key ≡ false)
+    → RepliesFrom keys history → RepliesFrom (more ++ keys) history
 told_beside more keys [] apart told = tt
 told_beside more keys (e ∷ es) apart told =
     let same : has_key (more ++ keys) e.key ≡ has_key keys e.key = has_beside more keys e.key (apart e.key (own_key e es)) in
-    let next : after_offer (more ++ keys) e.key ≡ more ++ after_offer keys e.key = ap (λ b. cond b (more ++ keys) ((more ++ keys) ++ e.key ∷ [])) same ∙ offer_beside more keys e.key (has_key keys e.key) in (
+    let next : after_offer (more ++ keys) e.key ≡ more ++ after_offer keys e.key = ap (λ b. cond b (more ++ keys) ((more ++ keys) ++ e.key ∷ [])) same
+    ∙ offer_beside more keys e.key (has_key keys e.key) in (
       told.0 ∙ ap (λ b. cond b Again New) (sym same),
       subst (λ set. RepliesFrom set es) (sym next) (told_beside more (after_offer keys e.key) es (λ key there. apart key (later_key e es key there)) told.1),
     )
@@ -78,7 +82,8 @@ missing_by true none = absurd (none refl)
 missing_by false none = refl
 
 -- what a later history has is none of the first one's
-apart_first : (h : List Entry) (hs : List (List Entry)) → ShareNoKey (h ∷ hs) → (key : List ℕ) → has_key (keys_of (together hs)) key ≡ true → has_key (keys_after h) key ≡ false
+apart_first : (h : List Entry) (hs : List (List Entry)) → ShareNoKey (h ∷ hs) → (key : List ℕ) → has_key (keys_of (together hs)) key ≡ true
+    → has_key (keys_after h) key ≡ false
 apart_first h hs apart key there =
     let f = found_in hs key there in
     missing_by (has_key (keys_after h) key) (λ first.
@@ -87,7 +92,8 @@ apart_first h hs apart key there =
 apart_rest : (h : List Entry) (hs : List (List Entry)) → ShareNoKey (h ∷ hs) → ShareNoKey hs
 apart_rest h hs apart s t first second at_s at_t key a b = let same : suc s ≡ suc t = apart (suc s) (suc t) first second at_s at_t key a b in omega arith
 
-told_all : (histories : List (List Entry)) → ((s : ℕ) (history : List Entry) → slice_get histories s ≡ Some history → IsLegal history) → ShareNoKey histories → RepliesFrom [] (together histories)
+told_all : (histories : List (List Entry)) → ((s : ℕ) (history : List Entry) → slice_get histories s ≡ Some history → IsLegal history)
+    → ShareNoKey histories → RepliesFrom [] (together histories)
 told_all [] legal apart = tt
 told_all (h ∷ hs) legal apart =
     let rest : RepliesFrom [] (together hs) = told_all hs (λ s history at. legal (suc s) history at) (apart_rest h hs apart) in
@@ -95,7 +101,8 @@ told_all (h ∷ hs) legal apart =
     told_after [] h (together hs) first.replies
     (subst (λ set. RepliesFrom set (together hs)) (append-nil (keys_after h)) (told_beside (keys_after h) [] (together hs) (apart_first h hs apart) rest))
 
-pub joined_legal : (histories : List (List Entry)) → ((s : ℕ) (history : List Entry) → slice_get histories s ≡ Some history → IsLegal history) → ShareNoKey histories → IsLegal (joined histories)
+pub joined_legal : (histories : List (List Entry)) → ((s : ℕ) (history : List Entry) → slice_get histories s ≡ Some history → IsLegal history)
+    → ShareNoKey histories → IsLegal (joined histories)
 joined_legal histories legal apart = record {
   replies = still_told [] (λ _. 0) (together histories) (told_all histories legal apart);
   numbers = λ c. numbered c (λ _. 0) (together histories);
@@ -105,8 +112,10 @@ joined_legal histories legal apart = record {
 entries_still : (key : List ℕ) (made : ℕ → ℕ) (history : List Entry) → entries_with key (renumbered made history) ≡ entries_with key history
 entries_still key made [] = refl
 entries_still key made (e ∷ es) =
-    sum_by-cons (λ (e : Entry). cond (bytes_eq key e.key) 1 0) (record { caller = e.caller; call = made e.caller; key = e.key; reply = e.reply }) (renumbered (one_call_more e.caller made) es)
-    ∙ (ap (λ n. cond (bytes_eq key e.key) 1 0 + n) (entries_still key (one_call_more e.caller made) es) ∙ sym (sum_by-cons (λ (e : Entry). cond (bytes_eq key e.key) 1 0) e es))
+    sum_by-cons (λ (e : Entry). cond (bytes_eq key e.key) 1 0) (record { caller = e.caller; call = made e.caller; key = e.key; reply = e.reply })
+    (renumbered (one_call_more e.caller made) es)
+    ∙ (ap (λ n. cond (bytes_eq key e.key) 1 0 + n) (entries_still key (one_call_more e.caller made) es)
+    ∙ sym (sum_by-cons (λ (e : Entry). cond (bytes_eq key e.key) 1 0) e es))
 
 entries_together : (key : List ℕ) (histories : List (List Entry)) → entries_with key (together histories) ≡ entries_in histories key
 entries_together key [] = refl
@@ -124,14 +133,16 @@ new_still_by made e xs ys false same = same
 
 new_still : (made : ℕ → ℕ) (history : List Entry) → new_keys (renumbered made history) ≡ new_keys history
 new_still made [] = refl
-new_still made (e ∷ es) = new_still_by made e (filter (λ (e : Entry). is_new e.reply) (renumbered (one_call_more e.caller made) es)) (filter (λ (e : Entry). is_new e.reply) es) (is_new e.reply)
+new_still made (e ∷ es) = new_still_by made e (filter (λ (e : Entry). is_new e.reply) (renumbered (one_call_more e.caller made) es))
+    (filter (λ (e : Entry). is_new e.reply) es) (is_new e.reply)
     (new_still (one_call_more e.caller made) es)
 
 new_together : (histories : List (List Entry)) → new_keys (together histories) ≡ flat_map new_keys histories
 new_together [] = refl
 new_together (h ∷ hs) =
     ap keys_of (filter-append (λ (e : Entry). is_new e.reply) h (together hs))
-    ∙ (keys_of-append (filter (λ (e : Entry). is_new e.reply) h) (filter (λ (e : Entry). is_new e.reply) (together hs)) ∙ ap (λ keys. new_keys h ++ keys) (new_together hs))
+    ∙ (keys_of-append (filter (λ (e : Entry). is_new e.reply) h) (filter (λ (e : Entry). is_new e.reply) (together hs))
+    ∙ ap (λ keys. new_keys h ++ keys) (new_together hs))
 
 pub joined_new : (histories : List (List Entry)) → new_keys (joined histories) ≡ flat_map new_keys histories
 joined_new histories = new_still (λ _. 0) (together histories) ∙ new_together histories

@@ -55,12 +55,14 @@ or_same true c e = refl
 or_same false true e = absurd (false≢true (e refl))
 or_same false false e = refl
 
-pub has_after_by : (keys : List (List ℕ)) (x key : List ℕ) (b : Bool) → has_key keys x ≡ b → has_key (cond b keys (keys ++ x ∷ [])) key ≡ (has_key keys key || bytes_eq key x)
+pub has_after_by : (keys : List (List ℕ)) (x key : List ℕ) (b : Bool) → has_key keys x ≡ b
+    → has_key (cond b keys (keys ++ x ∷ [])) key ≡ (has_key keys key || bytes_eq key x)
 has_after_by keys x key true e = or_same (has_key keys key) (bytes_eq key x) (λ same. subst (λ k. has_key keys k ≡ true) (sym (bytes_same key x same)) e)
 has_after_by keys x key false e = list_any-append (bytes_eq key) keys (x ∷ []) ∙ ap (λ b. has_key keys key || b) (or_false (bytes_eq key x))
 
 -- a set has the keys that it had, and those of the entries
-pub has_key-from : (keys : List (List ℕ)) (key : List ℕ) (history : List Entry) → has_key (keys_from keys history) key ≡ (has_key keys key || has_key (keys_of history) key)
+pub has_key-from : (keys : List (List ℕ)) (key : List ℕ) (history : List Entry)
+    → has_key (keys_from keys history) key ≡ (has_key keys key || has_key (keys_of history) key)
 has_key-from keys key [] = sym (or_false (has_key keys key))
 has_key-from keys key (e ∷ es) =
     has_key-from (after_offer keys e.key) key es
@@ -78,5 +80,7 @@ keys_of-append (x ∷ xs) ys = ap (λ l. x.key ∷ l) (keys_of-append xs ys)
 pub not_seen : (key : List ℕ) (seen history : List Entry) → IsPrefix seen history → ¬ (Contains (keys_after history) key) → ¬ (Contains (keys_of seen) key)
 not_seen key seen history p none there =
     let has : has_key (keys_of history) key ≡ true =
-    subst (λ h. has_key (keys_of h) key ≡ true) p.1 (ap (λ l. has_key l key) (keys_of-append seen p.0) ∙ (list_any-append (bytes_eq key) (keys_of seen) (keys_of p.0) ∙ or_left (has_key (keys_of seen) key) (has_key (keys_of p.0) key) (has_from_contains (keys_of seen) key there))) in
+    subst (λ h. has_key (keys_of h) key ≡ true) p.1 (ap (λ l. has_key l key) (keys_of-append seen p.0)
+    ∙ (list_any-append (bytes_eq key) (keys_of seen) (keys_of p.0)
+    ∙ or_left (has_key (keys_of seen) key) (has_key (keys_of p.0) key) (has_from_contains (keys_of seen) key there))) in
     none (contains_from_has (keys_after history) key (has_key-after key history ∙ has))

@@ -15,7 +15,8 @@ kept_by : (keys : List (List ℕ)) (e : Entry) (es : List Entry) (b : Bool) → 
     → keys_from (after_offer keys e.key) es ≡ after_offer keys e.key ++ new_keys es → keys_from (after_offer keys e.key) es ≡ keys ++ new_keys (e ∷ es)
 kept_by keys e es true is reply rest =
     let again : is_new e.reply ≡ false = ap is_new (reply ∙ ap (λ b. cond b Again New) is) in
-    rest ∙ (ap (λ b. cond b keys (keys ++ e.key ∷ []) ++ new_keys es) is ∙ ap (λ b. keys ++ keys_of (cond b (e ∷ filter (λ (e : Entry). is_new e.reply) es) (filter (λ (e : Entry). is_new e.reply) es))) (sym again))
+    rest ∙ (ap (λ b. cond b keys (keys ++ e.key ∷ []) ++ new_keys es) is
+    ∙ ap (λ b. keys ++ keys_of (cond b (e ∷ filter (λ (e : Entry). is_new e.reply) es) (filter (λ (e : Entry). is_new e.reply) es))) (sym again))
 kept_by keys e es false is reply rest =
     let new : is_new e.reply ≡ true = ap is_new (reply ∙ ap (λ b. cond b Again New) is) in
     rest ∙ (ap (λ b. cond b keys (keys ++ e.key ∷ []) ++ new_keys es) is ∙ (append_assoc keys (e.key ∷ []) (new_keys es)
@@ -31,7 +32,8 @@ kept_keys history legal = kept_from [] history legal.replies
 
 -- ---- one entry with New
 -- what the keys before, the set's answer and the entry's own key make of the count
-cases_new : (H K B E : Bool) (n rest m : ℕ) → (B ≡ true → K ≡ H) → n ≡ cond (not H && B) 1 0 → rest ≡ cond (cond H K (K || B)) 0 (cond E 1 0) → m ≡ cond K 0 (cond (B || E) 1 0) → n + rest ≡ m
+cases_new : (H K B E : Bool) (n rest m : ℕ) → (B ≡ true → K ≡ H) → n ≡ cond (not H && B) 1 0 → rest ≡ cond (cond H K (K || B)) 0 (cond E 1 0)
+    → m ≡ cond K 0 (cond (B || E) 1 0) → n + rest ≡ m
 cases_new true true B E n rest m same a b c = let a' : n ≡ 0 = a in let b' : rest ≡ 0 = b in let c' : m ≡ 0 = c in omega arith
 cases_new true false true E n rest m same a b c = absurd (false≢true (same refl))
 cases_new true false false E n rest m same a b c = let a' : n ≡ 0 = a in let e : rest ≡ m = b ∙ sym c in omega arith
@@ -47,7 +49,8 @@ told : (b : Bool) → is_new (cond b Again New) ≡ not b
 told true = refl
 told false = refl
 
-after_has : (keys : List (List ℕ)) (x key : List ℕ) (b : Bool) → has_key keys x ≡ b → has_key (cond b keys (keys ++ x ∷ [])) key ≡ cond b (has_key keys key) (has_key keys key || bytes_eq key x)
+after_has : (keys : List (List ℕ)) (x key : List ℕ) (b : Bool) → has_key keys x ≡ b
+    → has_key (cond b keys (keys ++ x ∷ [])) key ≡ cond b (has_key keys key) (has_key keys key || bytes_eq key x)
 after_has keys x key true e = refl
 after_has keys x key false e = has_after_by keys x key false e
 
@@ -55,7 +58,8 @@ no_new : (b : Bool) (n : ℕ) → n ≡ 0 → n ≡ cond b 0 (cond false 1 0)
 no_new true n e = e
 no_new false n e = e
 
-one_new_from : (keys : List (List ℕ)) (key : List ℕ) (history : List Entry) → RepliesFrom keys history → news_with key history ≡ cond (has_key keys key) 0 (cond (has_key (keys_of history) key) 1 0)
+one_new_from : (keys : List (List ℕ)) (key : List ℕ) (history : List Entry) → RepliesFrom keys history
+    → news_with key history ≡ cond (has_key keys key) 0 (cond (has_key (keys_of history) key) 1 0)
 one_new_from keys key [] r = no_new (has_key keys key) (news_with key []) refl
 one_new_from keys key (e ∷ es) r =
     let rest = one_new_from (after_offer keys e.key) key es r.1 in

@@ -39,7 +39,10 @@ has_new history key legal = ap (λ keys. has_key keys key) (sym (kept_keys histo
 
 -- two lists with the same test have the same keys
 same_keys : (xs ys : List (List ℕ)) (key : List ℕ) → has_key xs key ≡ has_key ys key → Contains xs key ↔ Contains ys key
-same_keys xs ys key e = ((λ there. contains_from_has ys key (sym e ∙ has_from_contains xs key there)), (λ there. contains_from_has xs key (e ∙ has_from_contains ys key there)))
+same_keys xs ys key e = (
+  (λ there. contains_from_has ys key (sym e ∙ has_from_contains xs key there)),
+  (λ there. contains_from_has xs key (e ∙ has_from_contains ys key there)),
+)
 
 pub new_exact : (history : List Entry) (key : List ℕ) → IsLegal history → Contains (new_keys history) key ↔ Contains (keys_of history) key
 new_exact history key legal = same_keys (new_keys history) (keys_of history) key (has_new history key legal)
@@ -64,7 +67,8 @@ entries_count (e ∷ es) key =
 has_listed : (keys : List (List ℕ)) (history : List Entry) (key : List ℕ) → AreItsKeys keys history → has_key (keys_of history) key ≡ has_key keys key
 has_listed keys history key counts = has_counts (keys_of history) key ∙ (ap (ltb 0) (sym (entries_count history key) ∙ counts key) ∙ sym (has_counts keys key))
 
-pub new_listed : (keys : List (List ℕ)) (history : List Entry) (key : List ℕ) → IsLegal history → AreItsKeys keys history → Contains (new_keys history) key ↔ Contains keys key
+pub new_listed : (keys : List (List ℕ)) (history : List Entry) (key : List ℕ) → IsLegal history → AreItsKeys keys history
+    → Contains (new_keys history) key ↔ Contains keys key
 new_listed keys history key legal counts = same_keys (new_keys history) keys key (has_new history key legal ∙ has_listed keys history key counts)
 
 -- ---- what the set answers

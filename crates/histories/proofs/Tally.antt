@@ -24,7 +24,8 @@ sum_none {X = X} (x ∷ xs) = let r : sum_by (λ (x : X). 0) xs ≡ 0 = sum_none
 abbrev counted : List ℕ → Entry → ℕ → ℕ
 counted key e c = cond (e.caller == c) (cond (bytes_eq key e.key) 1 0) 0
 
-one_more_by : (key : List ℕ) (e : Entry) (c : ℕ) (es : List Entry) (b : Bool) → entries_with key (cond b (e ∷ calls_by c es) (calls_by c es)) ≡ cond b (cond (bytes_eq key e.key) 1 0) 0 + entries_with key (calls_by c es)
+one_more_by : (key : List ℕ) (e : Entry) (c : ℕ) (es : List Entry) (b : Bool)
+    → entries_with key (cond b (e ∷ calls_by c es) (calls_by c es)) ≡ cond b (cond (bytes_eq key e.key) 1 0) 0 + entries_with key (calls_by c es)
 one_more_by key e c es true = sum_by-cons (λ (e : Entry). cond (bytes_eq key e.key) 1 0) e (calls_by c es)
 one_more_by key e c es false = omega arith
 
@@ -48,12 +49,16 @@ rest_none_by e c es true is = absurd (cc is)
 rest_none_by e c es false is = is
 
 -- where each caller that has an entry stands once among these, the entries with a key are those of these callers with it
-pub by_callers : (key : List ℕ) (cs : List ℕ) (history : List Entry) → ((c : ℕ) → (calls_by c history ≡ []) ⊎ (count_by (λ d. c == d) cs ≡ 1)) → entries_with key history ≡ sum_by (λ c. entries_with key (calls_by c history)) cs
+pub by_callers : (key : List ℕ) (cs : List ℕ) (history : List Entry) → ((c : ℕ) → (calls_by c history ≡ []) ⊎ (count_by (λ d. c == d) cs ≡ 1))
+    → entries_with key history ≡ sum_by (λ c. entries_with key (calls_by c history)) cs
 by_callers key cs [] each = sym (sum_none cs)
 by_callers key cs (e ∷ es) each =
-    let rest : entries_with key es ≡ sum_by (λ c. entries_with key (calls_by c es)) cs = by_callers key cs es (λ c. ⊎_elim (λ none. inl (rest_none_by e c es (e.caller == c) none)) inr (each c)) in
-    let own : count_by (λ d. e.caller == d) cs ≡ 1 = ⊎_elim (λ (none : calls_by e.caller (e ∷ es) ≡ []). absurd (cc (sym (calls_here e es) ∙ none))) (λ (o : count_by (λ d. e.caller == d) cs ≡ 1). o) (each e.caller) in
-    let here : sum_by (counted key e) cs ≡ cond (bytes_eq key e.key) 1 0 = counts e cs (bytes_eq key e.key) ∙ ap (λ (n : ℕ). cond (bytes_eq key e.key) n 0) own in
+    let rest : entries_with key es ≡ sum_by (λ c. entries_with key (calls_by c es)) cs = by_callers key cs es
+    (λ c. ⊎_elim (λ none. inl (rest_none_by e c es (e.caller == c) none)) inr (each c)) in
+    let own : count_by (λ d. e.caller == d) cs ≡ 1 = ⊎_elim (λ (none : calls_by e.caller (e ∷ es) ≡ []). absurd (cc (sym (calls_here e es) ∙ none)))
+    (λ (o : count_by (λ d. e.caller == d) cs ≡ 1). o) (each e.caller) in
+    let here : sum_by (counted key e) cs ≡ cond (bytes_eq key e.key) 1 0 = counts e cs (bytes_eq key e.key)
+    ∙ ap (λ (n : ℕ). cond (bytes_eq key e.key) n 0) own in
     sum_by-cons (λ (e : Entry). cond (bytes_eq key e.key) 1 0) e es
     ∙ (ap₂ (λ a b. a + b) (sym here) rest
     ∙ sym (sum_both (counted key e) (λ c. entries_with key (calls_by c es)) (λ c. entries_with key (calls_by c (e ∷ es))) cs (one_more key e es)))
