@@ -1,0 +1,9 @@
+pub mod Offers
+pub mod Opening
+pub mod Closing
+pub mod Ends
+pub mod Told
+pub mod Passes
+pub mod Crossing
+pub mod Batching
+pub mod Together

@@ -1,0 +1,4 @@
+pub mod SetObject
+pub mod History
+pub mod Counts
+pub mod Joined
