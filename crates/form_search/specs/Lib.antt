@@ -1,0 +1,5 @@
+pub mod Least
+pub mod Numbers
+pub mod Pivot
+pub mod Search
+pub mod Trail
