@@ -9,7 +9,7 @@ use Rattle.std.proofs.lemmas.Nat.{mul-add-lt, mod-mul-add}
 use Rattle.std.proofs.lemmas.Option.{get_or_from_slice_get}
 use Rattle.std.proofs.Math.Nat.{mod-lt, mul_comm, mul-add-mod_self_right, mul-le-mul, le_refl}
 use Rattle.matroid_theory.specs.Field.{orders, IsOrder}
-use Rattle.matroid_theory.specs.Rep.{Rep, count, size, IsRep, IsShaped, IsProductColumn}
+use Rattle.matroid_theory.specs.Rep.{Rep, count, size, KeepsLimits, IsShaped, IsProductColumn}
 use Rattle.matroid_theory.specs.Level.{followed_by}
 use Rattle.matroid_theory.proofs.First.{row_below, whole}
 use Rattle.form_key.specs.Codes.{AreHalves, AreCodesOf}
@@ -134,7 +134,7 @@ taken_columns M m s l j k =
     subst (IsProductColumn M.factors M.rank) (sym (get_or-take m (drop M.rank M.columns) j [] (omega arith)))
     (later_columns M s j (omega (arith, length-drop M.rank M.columns)))
 
-later_room : (M : Rep) (m : ℕ) (v : List ℕ) → IsRep M → M.rank + m < size M → slice_get M.columns (M.rank + m) ≡ Some v
+later_room : (M : Rep) (m : ℕ) (v : List ℕ) → KeepsLimits M → M.rank + m < size M → slice_get M.columns (M.rank + m) ≡ Some v
     → length (concat (take m (drop M.rank M.columns))) + length v ≤ 180
 later_room M m v h l g =
     let n : length (take m (drop M.rank M.columns)) ≡ m = length-take-le m (drop M.rank M.columns) (omega (arith, length-drop M.rank M.columns)) in
@@ -155,7 +155,7 @@ column_more M j v codes new r l g so_far one =
     one ∙ ap (λ xs. xs ++ v) so_far ∙ sym (later-more M (j - M.rank) v (omega arith) (subst (λ k. slice_get M.columns k ≡ Some v) e g))
     ∙ ap (λ n. concat (take n (drop M.rank M.columns))) (sym f)
 
-pub column_room : (M : Rep) (j : ℕ) (v codes : List ℕ) → IsRep M → M.rank ≤ j → j < size M → slice_get M.columns j ≡ Some v
+pub column_room : (M : Rep) (j : ℕ) (v codes : List ℕ) → KeepsLimits M → M.rank ≤ j → j < size M → slice_get M.columns j ≡ Some v
     → codes ≡ concat (take (j - M.rank) (drop M.rank M.columns)) → length codes + length v ≤ 180
 column_room M j v codes h r l g so_far =
     let e : j ≡ M.rank + (j - M.rank) = omega arith in

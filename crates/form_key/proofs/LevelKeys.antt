@@ -18,7 +18,7 @@ nothing = record { factors = []; rank = 0; columns = [] }
 form_is_standard : (q : Family) (n : ℕ) (M : Rep) → IsLevelForm q n M → IsStandardOf q n M
 form_is_standard q n M f = record {
   shapes = λ i. record { factors = f.member.same_factors i; rank = f.member.ranks i; size = f.member.sizes i };
-  shaped = f.form.shaped;
+  shaped = f.form.representation.shaped;
   standard = f.form.standard;
 }
 
