@@ -1,21 +1,26 @@
 -- The keys of the tries of a size above the rank are those of the level, so these are told New.
-use Rattle.std.proofs.Common.{◌≡◌, ◌↔◌, ℕ, suc, zero, ◌<◌, refl, sym, ◌∙◌, ap, subst, arith, List, [], ◌∷◌, map, Contains}
-use Rattle.std.specs.List.{All, AllPairs, AllZip}
+use Rattle.std.proofs.Common.{◌≡◌, ◌≢◌, ◌↔◌, ℕ, suc, zero, ◌<◌, refl, sym, ◌∙◌, ap, subst, arith, List, [], ◌∷◌, length, map, Contains}
+use Rattle.std.specs.List.{All, AllPairs, AllZip, slice_index_or}
 use Rattle.std.specs.Cmp.Lexicographic.{slice_cmp}
 use Rattle.std.specs.Ordering.{nat_cmp}
-use Rattle.std.specs.declared.cmp.Ordering.TheVariants.{Less}
+use Rattle.std.specs.Ordering.{ordering_reverse}
+use Rattle.std.specs.declared.cmp.Ordering.{Ordering}
+use Rattle.std.specs.declared.cmp.Ordering.TheVariants.{Less, Equal, Greater}
+use Rattle.std.proofs.lemmas.Cmp.{nat_list_cmp_total}
+use Rattle.std.proofs.lemmas.List.{length-map}
 use Rattle.matroid_theory.specs.Rep.{Rep}
 use Rattle.matroid_theory.specs.Level.{Family, IsLevel, IsLevelForm, IsTryFor}
 use Rattle.matroid_theory.proofs.Equivalence.{equivalent-symmetric, equivalent-transitive}
 use Rattle.matroid_theory.proofs.Forms.{one_form}
+use Rattle.matroid_theory.proofs.Levels.{count_unique}
 use Rattle.existence.proofs.Classes.{form_has_try, form_of_try}
 use Rattle.histories.specs.declared.entry.Entry.{Entry}
 use Rattle.histories.specs.History.{IsLegal}
 use Rattle.histories.specs.Counts.{AreItsKeys, new_keys}
-use Rattle.histories.proofs.Once.{new_listed}
+use Rattle.histories.proofs.Once.{new_apart, new_listed}
 use Rattle.form_key.specs.Packing.{packing}
 use Rattle.form_key.specs.Keys.{AreLevelKeys, IsStandardOf}
-use Rattle.form_key.proofs.LevelKeys.{level_of_keys}
+use Rattle.form_key.proofs.LevelKeys.{keys_of_level, level_of_keys}
 use Rattle.store_laws.specs.TryKeys.{AreTryKeys, IsTryKey}
 
 -- ---- two lists of which each place fits
@@ -80,3 +85,30 @@ pub told_level : (q : Family) (n : ℕ) (keys : List (List ℕ)) (history : List
     → ((key : List ℕ) → Contains (map packing forms) key ↔ Contains (new_keys history) key) → IsLevel q n forms
 told_level q n keys history forms room tried legal counts standard rising same =
     level_of_keys q n forms standard (told_sorted q n keys history (map packing forms) room tried legal counts rising same)
+
+-- ---- how many
+-- no key is below itself
+not_below_itself : (key : List ℕ) → slice_cmp nat_cmp key key ≢ Less
+not_below_itself key h = at (slice_cmp nat_cmp key key) (nat_list_cmp_total.antisymm key key) h
+  where
+    at : (o : Ordering) → o ≡ ordering_reverse o → o ≢ Less
+    at Less e l = cc
+    at Equal e l = cc
+    at Greater e l = cc
+
+rising_apart : (keys : List (List ℕ)) → AllPairs (λ a b. slice_cmp nat_cmp a b ≡ Less) keys → AllPairs (λ a b. a ≢ b) keys
+rising_apart keys rising i j d l m same = not_below_itself (slice_index_or keys i d) (ap (slice_cmp nat_cmp (slice_index_or keys i d)) same ∙ rising i j d l m)
+
+pub told_count : (q : Family) (n : ℕ) (keys : List (List ℕ)) (history : List Entry) (forms : List Rep) → q.rank < n → AreTryKeys q n keys
+    → IsLegal history → AreItsKeys keys history → IsLevel q n forms → length (new_keys history) ≡ length forms
+told_count q n keys history forms room tried legal counts level =
+    let of_level = keys_of_level q n forms level in
+    count_unique (IsLevelKey q n) (length (new_keys history)) (length (map packing forms))
+    (record {
+      list = new_keys history;
+      apart = new_apart history legal;
+      exact = λ key. told_exact q n keys history key room tried legal counts;
+      number = refl;
+    })
+    (record { list = map packing forms; apart = rising_apart (map packing forms) of_level.rising; exact = of_level.exact; number = refl })
+    ∙ length-map forms packing
