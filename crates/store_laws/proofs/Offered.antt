@@ -50,7 +50,8 @@ told set call [] = tt
 told set call (key ∷ keys) = (refl, told (after_offer set key) (suc call) keys)
 
 -- another caller has no call
-none_numbered : (c from : ℕ) → (0 == c) ≡ false → (set : List (List ℕ)) (call : ℕ) (keys : List (List ℕ)) → IsNumbered c from (calls_by c (offers set call keys))
+none_numbered : (c from : ℕ) → (0 == c) ≡ false → (set : List (List ℕ)) (call : ℕ) (keys : List (List ℕ))
+    → IsNumbered c from (calls_by c (offers set call keys))
 none_numbered c from other set call [] = tt
 none_numbered c from other set call (key ∷ keys) =
     let rest : List Entry = calls_by c (offers (after_offer set key) (suc call) keys) in
@@ -72,7 +73,8 @@ counted : (set : List (List ℕ)) (call : ℕ) (keys : List (List ℕ)) (key : L
 counted set call [] key = refl
 counted set call (x ∷ keys) key =
     sum_by-cons (λ (e : Entry). cond (bytes_eq key e.key) 1 0) (entry 0 call x (reply_to set x)) (offers (after_offer set x) (suc call) keys)
-    ∙ (ap (λ n. cond (bytes_eq key x) 1 0 + n) (counted (after_offer set x) (suc call) keys key) ∙ sym (sum_by-cons (λ (k : List ℕ). cond (bytes_eq key k) 1 0) x keys))
+    ∙ (ap (λ n. cond (bytes_eq key x) 1 0 + n) (counted (after_offer set x) (suc call) keys key)
+    ∙ sym (sum_by-cons (λ (k : List ℕ). cond (bytes_eq key k) 1 0) x keys))
 
 pub such_a_history : (q : Family) (n : ℕ) → (keys : List (List ℕ)) × (history : List Entry) × AreTryKeys q n keys × IsLegal history × AreItsKeys keys history
 such_a_history q n =
