@@ -18,3 +18,5 @@ pub use form_list::FormList;
 pub use growth::grow_alone;
 pub use level::{Level, first_level};
 pub use shown::listed;
+/// Want of memory.
+pub use std::alloc::AllocError as NoMemory;
