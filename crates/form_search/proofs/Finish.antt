@@ -231,3 +231,37 @@ module _ (M : Rep) (whole_rep : IsRepresentation M) (found : List ℕ) (class : 
       equivalent : AreEquivalent Linear M N
       equivalent = let x = class.equivalent in
           subst (AreEquivalent Linear M) (sym (numbers_same M class.member N x.takes.shaped s class.standard t x.takes.same_shape e (class.numbers_are ∙ sym n))) class.equivalent
+
+-- there is a form among the members of a class
+pub some_form : (M : Rep) → IsRepresentation M → (N : Rep) → IsStandard N → AreEquivalent Linear M N → ((m : Move) (L : Rep) → ReachesForm M m L → ⊥) → ⊥
+some_form M whole_rep N standard equivalent none = least_refused (suc (rank_of (numbers_of M N))) (numbers_of M N) (omega arith) (record { member = N; standard = standard; equivalent = equivalent; numbers_are = refl })
+  where
+    rank_of : List ℕ → ℕ
+    rank_of = whole (16 ^ (M.rank * count M))
+
+    class_bound : (xs : List ℕ) → AreOfClass M xs → AreBelow (16 ^ (M.rank * count M)) xs
+    class_bound xs c p l =
+        let x = c.equivalent in
+        let n : length xs ≡ size M - M.rank = class_length M xs c in
+        subst (λ (w : List ℕ). slice_index w p < 16 ^ (M.rank * count M)) c.numbers_are
+        (subst (λ v. v < 16 ^ (M.rank * count M)) (sym (numbers_at M c.member p (omega arith)))
+        (subst (λ v. v < 16 ^ (M.rank * count M)) (column_number M c.member x.takes.shaped x.takes.same_shape (M.rank + p) (omega arith))
+        (subst (λ k. value (column c.member (M.rank + p)) < 16 ^ k) (column_length M c.member x.takes.shaped x.takes.same_shape (M.rank + p) (omega arith))
+        (value_below (column c.member (M.rank + p)) (column_digits M c.member x.takes.shaped x.takes.same_shape (M.rank + p) (omega arith))))))
+
+    least_refused : (n : ℕ) (xs : List ℕ) → rank_of xs < n → AreOfClass M xs → ⊥
+    least_refused zero xs l c = absurd (omega arith)
+    least_refused (suc n) xs l c = let x = c.equivalent in
+        none x.move c.member (record {
+          valid = x.valid;
+          takes = x.takes;
+          form = record {
+            representation = carried M c.member whole_rep x;
+            standard = c.standard;
+            least = λ P s e. numbers_decide M c.member P x.takes.shaped e.takes.shaped c.standard s x.takes.same_shape (e.takes.same_shape ∙ x.takes.same_shape)
+                (λ g. (let d : AreOfClass M (numbers_of M P) = record { member = P; standard = s; equivalent = equivalent-transitive Linear M c.member P x e; numbers_are = refl } in
+                let g' : slice_cmp nat_cmp xs (numbers_of M P) ≡ Greater = ap (λ (w : List ℕ). slice_cmp nat_cmp w (numbers_of M P)) (sym c.numbers_are) ∙ g in
+                let f : rank_of (numbers_of M P) < rank_of xs = whole_greater (16 ^ (M.rank * count M)) xs (numbers_of M P) (class_bound (numbers_of M P) d) (class_length M xs c ∙ sym (class_length M (numbers_of M P) d)) g' in
+                least_refused n (numbers_of M P) (omega arith) d));
+          };
+        })

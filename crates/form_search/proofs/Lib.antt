@@ -7,6 +7,7 @@ pub mod Exchanges
 pub mod Finish
 pub mod FormsSuffice
 pub mod Found
+pub mod Full
 pub mod GroupLeast
 pub mod Next
 pub mod Heads
@@ -21,3 +22,4 @@ pub mod Rows
 pub mod Scalars
 pub mod Starts
 pub mod Supports
+pub mod Ties

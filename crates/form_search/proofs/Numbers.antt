@@ -1,5 +1,5 @@
 -- Columns as numbers in base 16: they are in the order of their numbers.
-use Rattle.std.proofs.Common.{◌≡◌, ◌≢◌, ℕ, zero, suc, ◌+◌, ◌*◌, ◌^◌, ◌<◌, ◌≤◌, refl, sym, ◌∙◌, ap, subst, arith, List, [], ◌∷◌, length, slice_index, inl, inr, lit<}
+use Rattle.std.proofs.Common.{◌≡◌, ◌≢◌, ℕ, zero, suc, ◌+◌, ◌*◌, ◌/◌, ◌%◌, ◌^◌, ◌<◌, ◌≤◌, refl, sym, ◌∙◌, ap, subst, arith, List, [], ◌∷◌, length, slice_index, inl, inr, lit<}
 use Rattle.std.specs.Cmp.Lexicographic.{slice_cmp}
 use Rattle.std.specs.Ordering.{nat_cmp, ordering_then, MatchOrdering}
 use Rattle.std.specs.declared.cmp.Ordering.{Ordering}
@@ -7,7 +7,8 @@ use Rattle.std.specs.declared.cmp.Ordering.TheVariants.{Less, Equal, Greater}
 use Rattle.std.proofs.lemmas.Bool.{cases_lt}
 use Rattle.std.proofs.lemmas.Cmp.{ranked}
 use Rattle.std.proofs.Math.Nat.{mul-le-mul, le_refl, pow-succ'}
-use Rattle.form_search.specs.Numbers.{value, weighed}
+use Rattle.std.proofs.lemmas.Nat.{div-mul-add, mod-mul-add}
+use Rattle.form_search.specs.Numbers.{value, weighed, weighed_on}
 
 -- each code is a digit
 abbrev pub AreDigits : List ℕ → Type 0
@@ -145,3 +146,45 @@ weighed_injective d e (suc n) a b h k l =
       | inl q ↦ weighed_injective d e n (λ k l. a k (omega arith)) (λ k l. b k (omega arith)) rest k q
       | inr q ↦ (let z : n ≡ k = omega arith in ap d (sym z) ∙ last ∙ ap e z)
     ]
+
+-- ---- row by row
+
+weighed_add : (d : ℕ → ℕ) (m n : ℕ) → weighed d (m + n) ≡ weighed_on (weighed d m) (λ k. d (m + k)) n
+weighed_add d m zero = let e : m + 0 ≡ m = omega arith in ap (weighed d) e
+weighed_add d m (suc n) = (let e : m + suc n ≡ suc (m + n) = omega arith in ap (weighed d) e) ∙ ap (λ v. v * 16 + d (m + n)) (weighed_add d m n)
+
+weighed_on_same : (v : ℕ) (d e : ℕ → ℕ) (n : ℕ) → ((k : ℕ) → k < n → d k ≡ e k) → weighed_on v d n ≡ weighed_on v e n
+weighed_on_same v d e zero h = refl
+weighed_on_same v d e (suc n) h = λ i. weighed_on_same v d e n (λ k l. h k (omega arith)) i * 16 + h n (omega arith) i
+
+-- one more row of codes
+pub weighed_row : (c : ℕ → ℕ → ℕ) (count i : ℕ) → weighed (λ e. c (e % count) (e / count)) ((i + 1) * count) ≡ weighed_on (weighed (λ e. c (e % count) (e / count)) (i * count)) (λ f. c f i) count
+weighed_row c count i =
+    (let e : (i + 1) * count ≡ i * count + count = omega arith in ap (weighed (λ e. c (e % count) (e / count))) e)
+    ∙ weighed_add (λ e. c (e % count) (e / count)) (i * count) count
+    ∙ weighed_on_same (weighed (λ e. c (e % count) (e / count)) (i * count)) (λ k. c ((i * count + k) % count) ((i * count + k) / count)) (λ f. c f i) count
+    (λ k l. (λ t. c (mod-mul-add i count k l t) (div-mul-add i count k l t)))
+
+-- ---- a digit of a number
+
+weighed_split : (d : ℕ → ℕ) (a b : ℕ) → weighed d (a + b) ≡ weighed d a * 16 ^ b + weighed (λ k. d (a + k)) b
+weighed_split d a zero = (let e : a + 0 ≡ a = omega arith in ap (weighed d) e) ∙ omega arith
+weighed_split d a (suc b) =
+    let h : weighed d (a + b) ≡ weighed d a * 16 ^ b + weighed (λ k. d (a + k)) b = weighed_split d a b in
+    let p : 16 ^ suc b ≡ 16 * 16 ^ b = pow-succ' 16 b in
+    let t : weighed d a * 16 ^ suc b ≡ weighed d a * (16 * 16 ^ b) = ap (λ k. weighed d a * k) p in
+    (let e : a + suc b ≡ suc (a + b) = omega arith in ap (weighed d) e) ∙ omega arith
+
+weighed_below : (d : ℕ → ℕ) (n : ℕ) → ((k : ℕ) → k < n → d k < 16) → weighed d n < 16 ^ n
+weighed_below d zero h = lit< tt
+weighed_below d (suc n) h =
+    let l : weighed d n < 16 ^ n = weighed_below d n (λ k m. h k (omega arith)) in
+    let x : d n < 16 = h n (omega arith) in
+    let p : 16 ^ suc n ≡ 16 * 16 ^ n = pow-succ' 16 n in omega arith
+
+pub digit_of : (d : ℕ → ℕ) (n e m : ℕ) → ((k : ℕ) → k < n → d k < 16) → e < n → n ≡ suc e + m → weighed d n / 16 ^ m % 16 ≡ d e
+digit_of d n e m h l z =
+    ap (λ n. weighed d n / 16 ^ m % 16) z
+    ∙ ap (λ v. v / 16 ^ m % 16) (weighed_split d (suc e) m)
+    ∙ ap (λ v. v % 16) (div-mul-add (weighed d (suc e)) (16 ^ m) (weighed (λ k. d (suc e + k)) m) (weighed_below (λ k. d (suc e + k)) m (λ k b. h (suc e + k) (omega arith))))
+    ∙ mod-mul-add (weighed d e) 16 (d e) (h e l)

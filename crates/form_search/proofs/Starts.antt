@@ -18,7 +18,8 @@ use Rattle.form_search.specs.Trail.{ReachesForm, Trail, AreCoordinates, Follows,
 use Rattle.form_search.specs.Pivot.{exchange}
 use Rattle.form_search.specs.Numbers.{weighed}
 use Rattle.form_search.specs.Least.{number, scaled, MakesOnes}
-use Rattle.form_search.specs.Search.{Entries, IsThere, IsEntry, AreEntries, HasElement, IsPlacing, IsAtMost, Covers, numbers_of}
+use Rattle.form_search.specs.Search.{Entries, IsThere, IsEntry, AreEntries, HasElement, IsPlacing, Covers}
+use Rattle.form_search.specs.Start.{zero_layer, others_of, IsZeroTest, IsStarted}
 use Rattle.form_search.proofs.Numbers.{weighed_injective}
 use Rattle.form_search.proofs.Scalars.{zero_factor}
 use Rattle.form_search.proofs.Exchanges.{exchange_one, exchange_two, exchange_other, exchanged_permutation}
@@ -26,7 +27,7 @@ use Rattle.form_search.proofs.Entries.{field}
 use Rattle.form_search.proofs.Columns.{order_most, number_entries}
 use Rattle.form_search.proofs.Ordered.{coordinates_same}
 use Rattle.form_search.proofs.LeastNext.{next_at_most_open}
-use Rattle.form_search.proofs.Placing.{and_true, both_true, not_same, open_in_form, after, layer_after, rest_after, placed_state, follows_after}
+use Rattle.form_search.proofs.Placing.{open_place, and_true, both_true, not_same, open_in_form, after, layer_after, rest_after, placed_state, follows_after}
 
 -- ---- entries with the same codes
 
@@ -64,18 +65,6 @@ placing_same M shaped k groups settled layer rest layer' rest' d v w h = record 
 abbrev pub start_trail : Trail
 start_trail = record { label = λ i. i; place = λ i. i; scalar = λ _ _. 1; columns = λ _ _ _. 0 }
 
--- the zero columns from element i on, and the others
-abbrev pub zero_layer : Rep → (ℕ → Bool) → ℕ → Entries
-zero_layer M none i = record { total = size M; there = λ e. nat_le i e && none e; element = λ e. e; codes = λ e f i. matrix M f i e }
-
-abbrev pub others_of : Rep → (ℕ → Bool) → Entries
-others_of M none = record { total = size M; there = λ e. not (none e); element = λ e. e; codes = λ e f i. matrix M f i e }
-
--- the test passes exactly for the zero columns
-pub record IsZeroTest (M : Rep) (none : ℕ → Bool) : Type 0 where
-  pub zeros : (e : ℕ) → e < size M → none e ≡ true → (f i : ℕ) → f < count M → i < M.rank → matrix M f i e ≡ 0
-  pub some : (e : ℕ) → e < size M → none e ≡ false → (f : ℕ) × (i : ℕ) × (f < count M) × (i < M.rank) × (matrix M f i e ≢ 0)
-
 -- each row is in a group of its own, unless no scalars but 1 are there
 abbrev pub AreFresh : Rep → (ℕ → ℕ) → Type 0
 AreFresh M groups = (i l : ℕ) → i < M.rank → l < M.rank → groups i ≡ groups l → (i ≡ l) ⊎ ((f : ℕ) → f < count M → order M f ≡ 2)
@@ -83,8 +72,8 @@ AreFresh M groups = (i l : ℕ) → i < M.rank → l < M.rank → groups i ≡ g
 le_true : (a b : ℕ) → a ≤ b → nat_le a b ≡ true
 le_true a b l = le-leb a b l
 
-module _ (M : Rep) (shaped : IsShaped M) (some : 0 < count M) (standard : IsStandard M) (groups : ℕ → ℕ) (fresh : AreFresh M groups) (none : ℕ → Bool) (test : IsZeroTest M none) where
-  start_ordered : IsOrdered M start_trail
+module _ (M : Rep) (shaped : IsShaped M) (standard : IsStandard M) where
+  pub start_ordered : IsOrdered M start_trail
   start_ordered = record {
     labels = record { below = λ j l. l; inverse_below = λ j l. l; there = λ j l. refl; back = λ j l. refl };
     room = standard.room;
@@ -95,7 +84,7 @@ module _ (M : Rep) (shaped : IsShaped M) (some : 0 < count M) (standard : IsStan
     scalar_nonzero = λ f i l b e. absurd (omega arith);
   }
 
-  start_coordinates : (e : ℕ) → e < size M → AreCoordinates M start_trail e (λ f i. matrix M f i e)
+  pub start_coordinates : (e : ℕ) → e < size M → AreCoordinates M start_trail e (λ f i. matrix M f i e)
   start_coordinates e b = record {
     codes = λ f i l m. shaped.codes f i e l m b;
     scale = λ _. 1;
@@ -108,8 +97,9 @@ module _ (M : Rep) (shaped : IsShaped M) (some : 0 < count M) (standard : IsStan
         ∙ sym (F.times_one (matrix M f i e) (shaped.codes f i e l m b));
   }
 
+module _ (M : Rep) (shaped : IsShaped M) (some : 0 < count M) (standard : IsStandard M) (groups : ℕ → ℕ) (fresh : AreFresh M groups) (none : ℕ → Bool) (test : IsZeroTest M none) where
   start_entry : (e : ℕ) → e < size M → IsEntry M M.rank 0 start_trail e (λ f i. matrix M f i e)
-  start_entry e b = record { below = b; coordinates = start_coordinates e b; unsettled = elim (cases_lt e M.rank) [ inl l ↦ inl l | inr g ↦ inr (omega arith) ] }
+  start_entry e b = record { below = b; coordinates = start_coordinates M shaped standard e b; unsettled = elim (cases_lt e M.rank) [ inl l ↦ inl l | inr g ↦ inr (omega arith) ] }
 
   zero_there : (i e : ℕ) → IsThere (zero_layer M none i) e → (i ≤ e) × (none e ≡ true)
   zero_there i e t = let (a, b) = and_true (nat_le i e) (none e) t.passes in (leb-true i e a, b)
@@ -125,7 +115,7 @@ module _ (M : Rep) (shaped : IsShaped M) (some : 0 < count M) (standard : IsStan
   start_state = record {
     trail = record {
       rows = omega arith;
-      ordered = start_ordered;
+      ordered = start_ordered M shaped standard;
       placed = record {
         room = (let r : M.rank ≤ size M = standard.room in omega arith);
         coordinates = λ j l. absurd (omega arith);
@@ -310,15 +300,6 @@ module _ (M : Rep) (shaped : IsShaped M) (some : 0 < count M) (standard : IsStan
 
 -- ---- so far
 
--- what covers the forms that a trail determines covers all forms that are reached
-abbrev pub CoversAll : Rep → Option (List ℕ) → Type 0
-CoversAll M found = (m : Move) (N : Rep) → ReachesForm M m N → IsAtMost found (numbers_of M N)
-
-pub record IsStarted (M : Rep) (groups : ℕ → ℕ) (none : ℕ → Bool) (i : ℕ) (settled : List ℕ) : Type 0 where
-  pub trail : Trail
-  pub state : IsPlacing M M.rank groups settled (zero_layer M none i) (others_of M none) trail
-  pub covers : (found : Option (List ℕ)) → Covers M trail M.rank (length settled) found → CoversAll M found
-
 module _ (M : Rep) (shaped : IsShaped M) (some : 0 < count M) (standard : IsStandard M) (groups : ℕ → ℕ) (fresh : AreFresh M groups) (none : ℕ → Bool) (test : IsZeroTest M none) where
   pub started : IsStarted M groups none 0 []
   started = record {
@@ -357,6 +338,14 @@ module _ (M : Rep) (shaped : IsShaped M) (some : 0 < count M) (standard : IsStan
     where
       differ : true ≡ false → ⊥
       differ e = cc
+
+  -- a zero column leaves room
+  pub started_room : (i : ℕ) (settled : List ℕ) → IsStarted M groups none i settled → i < size M → none i ≡ true → M.rank + length settled < size M
+  started_room i settled w b z =
+      let p : M.rank + length settled ≤ (let d = w.trail in d.place i) = open_place M shaped some M.rank groups settled (zero_layer M none i) (others_of M none) w.trail w.state i
+      (there M shaped some standard groups fresh none test i settled w.trail w.state b z) in
+      let o = let s = w.state in let q = s.trail in q.ordered in let v = o.labels in
+      let l : (let d = w.trail in d.place i) < size M = v.inverse_below i b in omega arith
 
   pub all_started : (i : ℕ) → size M ≤ i → (e : ℕ) → IsThere (zero_layer M none i) e → ⊥
   all_started i l e t = let (a, b) = and_true (nat_le i e) (none e) t.passes in let o : i ≤ e = leb-true i e a in let q : e < size M = t.below in omega arith

@@ -1,0 +1,7 @@
+pub mod Begun
+pub mod Covering
+pub mod Decoded
+pub mod GroupSteps
+pub mod Marks
+pub mod Moves
+pub mod Shapes

@@ -1,0 +1,11 @@
+use Rattle.std.proofs.Common.{◌≡◌, ◌<◌, ℕ, length, slice_index}
+use Rattle.matroid_theory.specs.Field.{plus}
+use Rattle.fast_form.specs.Codes.{AreColumnCodes, code}
+use Rattle.fast_form.proofs.columns.negative_column.Given as goal
+
+abbrev pub invariant-loop-i : goal.invariant-loop-i
+invariant-loop-i l = record {
+  size : length l.negatives ≡ 6;
+  codes : AreColumnCodes l.fields l.negatives;
+  zeros : (j : ℕ) → j < l.i → (f : ℕ) → f < 3 → plus (slice_index l.fields f) (code l.column f j) (code l.negatives f j) ≡ 0;
+}

@@ -1,0 +1,122 @@
+use Rattle.std.proofs.Common.{◌≡◌, ℕ, suc, ◌+◌, ◌<◌, [], List, Bool, true, slice_index, slice_index_or, zero, sym, ◌∙◌, subst, arith}
+use Rattle.form_search.specs.Search.{Stands, IsPlacing, IsThere}
+use Rattle.fast_form.specs.States.{entries_of, IsLeastNumber}
+use Rattle.fast_form.specs.Codes.{code}
+use Rattle.std.specs.Prelude.{◌||◌}
+use mathlib.Core.Bool.{true≢false}
+use Rattle.fast_form.proofs.Covering.{all_tried, all_branched, branched_improves, above_covers, standing_room, tried_same, branched_same, more_tried, not_there, more_branched, other_branched}
+use Rattle.fast_form.proofs.search.+search.Goals as goal
+use Rattle.fast_form.proofs.search.+search.Goals.{rows-then-frame-b, rows-else-frame-b, place_each-then-state-e+then-numbers-e, place_each-else-state-e, place_each-else-state-e-via-then-state-e+else-numbers-e, place_each-else-state-e-via-else-state-e}
+
+pub rows-returns-clause-improves : goal.rows-returns-clause-improves
+rows-returns-clause-improves t c = c.loop-b.invariant.improves
+
+pub rows-returns-clause-covers : goal.rows-returns-clause-covers
+rows-returns-clause-covers t c d h =
+    all_tried c.args.rep.now c.requires.shape.is_rep c.args.k c.requires.row c.args.frame.now.groups c.args.columns.now c.args.frame.now.there c.args.settled.now
+    c.loop-b.b c.args.best.now c.loop-b.best c.loop-b.better c.loop-b.abreast c.loop-b.invariant (omega (arith, c.requires.shape.total_is)) d h
+
+pub rows-place-found-requires : goal.rows-place-found-requires
+rows-place-found-requires t c =
+    let (d, h) = c.requires.state in
+    let (e, p, g) = c.chosen-state.ensures.chooses d c.args.settled.now h in
+    (omega (arith, c.chosen-state.ensures.few), (c.requires.shape, (c.requires.row, (c.chosen_columns-after.ensures.codes, (c.chosen-state.ensures.groups, ((e, p), (c.loop-b.invariant.improves.sound, c.loop-b.invariant.stands)))))))
+
+pub place-standing-requires-clause-room : goal.place-standing-requires-clause-room
+place-standing-requires-clause-room t c =
+    let (d, h) = c.requires.state in
+    standing_room c.args.rep.now c.requires.shape.is_rep c.args.k c.requires.row c.args.state.now.groups c.args.columns.now c.args.state.now.open c.args.state.now.rest c.args.settled.now
+    c.least_numbers-numbers.result c.in-Some.low (c.least_numbers-numbers.ensures d c.args.settled.now h) c.in-Some.ensures c.args.best.now c.requires.sound d h
+
+pub place-returns-in-None-standing-clause-covers : goal.place-returns-in-None-standing-clause-covers
+place-returns-in-None-standing-clause-covers t c d h =
+    above_covers c.args.rep.now c.requires.shape.is_rep c.args.k c.requires.row c.args.state.now.groups c.args.columns.now c.args.state.now.open c.args.state.now.rest c.args.settled.now
+    c.least_numbers-numbers.result c.in-Some.low (c.least_numbers-numbers.ensures d c.args.settled.now h) c.in-Some.ensures c.args.best.now c.requires.sound
+    (subst (λ (b : Bool). Stands b c.args.best.now c.args.settled.now) c.in-None-standing.ensures.was_level c.requires.stands) c.in-None-standing.ensures.above d h
+
+pub place_each-returns-clause-improves : goal.place_each-returns-clause-improves
+place_each-returns-clause-improves t c =
+    branched_improves c.args.rep.now c.requires.shape.is_rep c.args.k c.requires.row c.args.state.now.groups c.args.columns.now c.args.state.now.open c.args.state.now.rest c.args.settled.now
+    c.args.numbers.now c.args.low c.requires.numbers c.requires.low
+    c.loop-e.e c.followed_by-longer.result c.args.best.now c.loop-e.best c.loop-e.better c.loop-e.abreast c.followed_by-longer.ensures c.loop-e.invariant
+
+pub place_each-returns-clause-covers : goal.place_each-returns-clause-covers
+place_each-returns-clause-covers t c d h =
+    all_branched c.args.rep.now c.requires.shape.is_rep c.args.k c.requires.row c.args.state.now.groups c.args.columns.now c.args.state.now.open c.args.state.now.rest c.args.settled.now
+    c.args.numbers.now c.args.low c.requires.numbers c.requires.low
+    c.loop-e.e c.followed_by-longer.result c.args.best.now c.loop-e.best c.loop-e.better c.loop-e.abreast c.loop-e.invariant (omega (arith, c.requires.shape.total_is)) d h
+
+pub place_each-place-found-requires : goal.place_each-place-found-requires
+place_each-place-found-requires t c =
+    let (d, h) = c.requires.state in
+    let there : IsThere (entries_of c.args.rep.now c.args.columns.now c.args.state.now.open) c.loop-e.e = record { below = omega (arith, c.requires.shape.total_is); passes = c.if-state-e.true } in
+    let (e, p, g) = c.placed-next.ensures.places d c.args.settled.now c.args.low h (subst (IsLeastNumber c.args.rep.now (slice_index c.args.state.now.groups) (code (slice_index_or c.args.columns.now c.loop-e.e []))) c.if-numbers-e.true (c.requires.numbers c.loop-e.e there)) in (
+      omega (arith, c.placed-next.ensures.fewer),
+      (
+        c.requires.shape,
+        (
+          c.requires.row,
+          (
+            c.placed_columns-after.ensures.codes,
+            (
+              c.placed-next.ensures.groups,
+              (
+                (
+                  e,
+                  subst (λ (s : List ℕ). IsPlacing c.args.rep.now c.args.k (slice_index c.placed-next.result.groups) s (entries_of c.args.rep.now c.placed_columns-after.result c.placed-next.result.open)
+                      (entries_of c.args.rep.now c.placed_columns-after.result c.placed-next.result.rest) e) (sym c.followed_by-longer.ensures) p,
+                ),
+                (c.loop-e.invariant.improves.sound, c.loop-e.invariant.stands),
+              ),
+            ),
+          ),
+        ),
+      ),
+    )
+
+pub place_each-loop-e-preserved : goal.place_each-loop-e-preserved
+place_each-loop-e-preserved t c = elim c.if-state-e.branch [
+  | place_each-then-state-e+then-numbers-e w ↦
+      branched_same c.args.rep.now c.args.k c.args.state.now.groups c.args.columns.now c.args.state.now.open c.args.state.now.rest c.args.settled.now (c.loop-e.e + 1) c.followed_by-longer.result c.args.best.now
+      w.place-found.new.best c.if-state-e.best (c.loop-e.better || w.place-found.result) (c.loop-e.abreast || w.place-found.result) c.if-state-e.better c.if-state-e.abreast
+      w.best-is (w.better-is ∙ w.either-better.ensures) (w.abreast-is ∙ w.either-abreast.ensures)
+      (more_branched c.args.rep.now c.requires.shape.is_rep c.args.k c.requires.row c.args.state.now.groups c.args.columns.now c.args.state.now.open c.args.state.now.rest c.args.settled.now
+      c.args.numbers.now c.args.low c.requires.numbers c.requires.low
+      c.loop-e.e c.followed_by-longer.result c.args.best.now c.loop-e.best w.place-found.new.best c.loop-e.better c.loop-e.abreast w.place-found.result
+      w.placed_columns-after.result w.placed-next.result.open w.placed-next.result.rest w.placed-next.result.groups c.followed_by-longer.ensures
+      (record { below = omega (arith, c.requires.shape.total_is); passes = w.if-state-e.true }) w.if-numbers-e.true c.loop-e.invariant w.placed-next.ensures.places w.place-found.ensures.improves w.place-found.ensures.covers)
+  | place_each-else-state-e w ↦
+      branched_same c.args.rep.now c.args.k c.args.state.now.groups c.args.columns.now c.args.state.now.open c.args.state.now.rest c.args.settled.now (c.loop-e.e + 1) c.followed_by-longer.result c.args.best.now
+      c.loop-e.best c.if-state-e.best c.loop-e.better c.loop-e.abreast c.if-state-e.better c.if-state-e.abreast w.best-is w.better-is w.abreast-is
+      (other_branched c.args.rep.now c.requires.shape.is_rep c.args.k c.requires.row c.args.state.now.groups c.args.columns.now c.args.state.now.open c.args.state.now.rest c.args.settled.now
+      c.args.numbers.now c.args.low c.requires.numbers c.requires.low
+      c.loop-e.e c.followed_by-longer.result c.args.best.now c.loop-e.best c.loop-e.better c.loop-e.abreast c.loop-e.invariant
+      (λ o n. elim w.else-state-e.branch [
+        | place_each-else-state-e-via-then-state-e+else-numbers-e w' ↦ w'.if-numbers-e.false n
+        | place_each-else-state-e-via-else-state-e w' ↦ true≢false (sym o ∙ w'.if-state-e.false)
+      ]))
+]
+
+pub rows-loop-b-preserved : goal.rows-loop-b-preserved
+rows-loop-b-preserved t c = elim c.if-frame-b.branch [
+  | rows-then-frame-b w ↦
+      tried_same c.args.rep.now c.args.k c.args.frame.now.groups c.args.columns.now c.args.frame.now.there c.args.settled.now (c.loop-b.b + 1) c.args.best.now
+      w.place-found.new.best c.if-frame-b.best (c.loop-b.better || w.place-found.result) (c.loop-b.abreast || w.place-found.result) c.if-frame-b.better c.if-frame-b.abreast
+      w.best-is (w.better-is ∙ w.either-better.ensures) (w.abreast-is ∙ w.either-abreast.ensures)
+      (more_tried c.args.rep.now c.requires.shape.is_rep c.args.k c.requires.row c.args.frame.now.groups c.args.columns.now c.args.frame.now.there c.args.settled.now
+      c.loop-b.b c.args.best.now c.loop-b.best w.place-found.new.best c.loop-b.better c.loop-b.abreast w.place-found.result
+      w.chosen_columns-after.result w.chosen-state.result.open w.chosen-state.result.rest w.chosen-state.result.groups
+      c.loop-b.invariant w.chosen-state.ensures.chooses w.place-found.ensures.improves w.place-found.ensures.covers)
+  | rows-else-frame-b w ↦
+      tried_same c.args.rep.now c.args.k c.args.frame.now.groups c.args.columns.now c.args.frame.now.there c.args.settled.now (c.loop-b.b + 1) c.args.best.now
+      c.loop-b.best c.if-frame-b.best c.loop-b.better c.loop-b.abreast c.if-frame-b.better c.if-frame-b.abreast w.best-is w.better-is w.abreast-is
+      (not_there c.args.rep.now c.requires.shape.is_rep c.args.k c.requires.row c.args.frame.now.groups c.args.columns.now c.args.frame.now.there c.args.settled.now
+      c.loop-b.b c.args.best.now c.loop-b.best c.loop-b.better c.loop-b.abreast c.loop-b.invariant w.if-frame-b.false)
+]
+
+pub rows-chosen_columns-after-requires-clause-led : goal.rows-chosen_columns-after-requires-clause-led
+rows-chosen_columns-after-requires-clause-led t c =
+    let (d, h) = c.requires.state in
+    let u = h.led c.loop-b.b (record { below = omega (arith, c.requires.shape.total_is); passes = c.if-frame-b.true }) in
+    let r = c.requires.shape.is_rep in
+    (u.lead, (let l : u.lead < suc c.args.k = u.lead_before in omega arith), λ z. (let y : zero ≡ 1 = sym z ∙ u.ones 0 r.fields.some in omega arith))

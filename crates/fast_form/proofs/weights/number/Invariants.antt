@@ -1,0 +1,10 @@
+use Rattle.std.proofs.Common.{◌≡◌, ◌<◌, ◌*◌, ◌/◌, ◌%◌, ◌^◌}
+use Rattle.form_search.specs.Numbers.{weighed}
+use Rattle.fast_form.specs.Codes.{code}
+use Rattle.fast_form.proofs.weights.number.Given as goal
+
+abbrev pub invariant-loop-i : goal.invariant-loop-i
+invariant-loop-i l = record {
+  digits : l.number ≡ weighed (λ e. code l.column (e % l.count) (e / l.count)) (l.i * l.count);
+  most : l.number < 4096 ^ l.i;
+}

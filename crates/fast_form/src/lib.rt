@@ -1,0 +1,19 @@
+//! The form of a class, found fast: the same form as the plain program's.
+//!
+//! The basis is chosen from the last row up, so that the later columns of a form come in layers. Within a layer the next column is
+//! the least that an open element can have, where rows that no column tied together yet are scaled freely.
+#![tactic(auto)]
+
+mod codes;
+mod columns;
+mod form;
+mod groups;
+mod lists;
+mod numbers;
+mod search;
+mod start;
+mod states;
+mod steps;
+mod weights;
+
+pub use form::least_of_standard;
