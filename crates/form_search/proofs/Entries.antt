@@ -172,9 +172,11 @@ module _ (M : Rep) (shaped : IsShaped M) where
     made =
         let (L, n, standard, valid, takes, labels_are, scalars_are, _) = standard_each Linear M label place scalar (λ _. 0) shaped some labels bases
         (λ f j l _. (let x = scalar_is f j (cases_lt j M.rank) l in x.code)) (λ f j l _. (let x = scalar_is f j (cases_lt j M.rank) l in x.nonzero))
-        (λ f l. let F = field f l in F.degree_positive) (λ _ _. refl) in
-        (L, record {
-          standard = standard;
-          equivalent = record { shaped = shaped; move = n; valid = valid; takes = takes };
-          entries = made_entry L n standard valid takes labels_are scalars_are;
-        })
+        (λ f l. let F = field f l in F.degree_positive) (λ _ _. refl) in (
+          L,
+          record {
+            standard = standard;
+            equivalent = record { shaped = shaped; move = n; valid = valid; takes = takes };
+            entries = made_entry L n standard valid takes labels_are scalars_are;
+          },
+        )

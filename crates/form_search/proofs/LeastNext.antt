@@ -177,8 +177,8 @@ module _ (M : Rep) (shaped : IsShaped M) (some : 0 < count M) (k s : ℕ) (group
           (column_length M L l_shaped l_same p p_below) (column_length M N n_shaped n_same p p_below)
           (λ i f b l. subst (λ v. v < order M f) (sym (l_code f i l b)) (let F = field M shaped f l in F.times_below _ _))
           (λ i f b l zs ne. l_code f i l b ∙ ones.leads f i l b
-              (λ j q e. zero_factor (order M f) (field M shaped f l) (own f (groups j)) (c f j) (own_scalars f (groups j) l) (a.codes f j l (omega arith)) (sym (l_code f j l (omega arith)) ∙ zs j q e))
-              (λ e. ne (l_code f i l b ∙ ap (times (order M f) (own f (groups i))) e ∙ times_zero (order M f) (field M shaped f l) (own f (groups i)))))
+          (λ j q e. zero_factor (order M f) (field M shaped f l) (own f (groups j)) (c f j) (own_scalars f (groups j) l) (a.codes f j l (omega arith)) (sym (l_code f j l (omega arith)) ∙ zs j q e))
+          (λ e. ne (l_code f i l b ∙ ap (times (order M f) (own f (groups i))) e ∙ times_zero (order M f) (field M shaped f l) (own f (groups i)))))
           (λ f g l. (let w = multiple_is f g (chosen g) l in w.code)) (λ f g l. (let w = multiple_is f g (chosen g) l in w.nonzero))
           (λ i f b l. sym (column_code M N n_shaped n_same p p_below f i) ∙ entries i f b l ∙ ap (times (order M f) (multiple_by f (groups i) (chosen (groups i)))) (column_code M L l_shaped l_same p p_below f i))
 

@@ -150,17 +150,19 @@ module _ (M : Rep) (shaped : IsShaped M) (some : 0 < count M) (k s : ℕ) (group
     pub exchange_open : (L : Rep) × IsNext L
     exchange_open =
         let (L, w) = made M shaped some d scalars k label place labels bases label_row (λ f i. own f (groups i)) (λ f i l _. own_scalars f (groups i) l) (s + 1) (let b : here < size M = here_below in omega arith)
-        columns coordinates zeros multiple (λ f j l _. multiple_is f j (cases_lt j s) (pivot_row M.rank (d.columns j f)) l) in
-        (L, record {
-          standard = w.standard;
-          equivalent = w.equivalent;
-          as_before = λ j f i l b o.
-              w.entries j f i (omega arith) b o
-              ∙ ap (λ (v : ℕ → ℕ → ℕ). times (order M f) (multiple f j) (times (order M f) (own f (groups i)) (v f i))) (columns_before j l)
-              ∙ stays f j i (cases_lt j s) (pivot_row M.rank (d.columns j f)) l b o;
-          next = λ f i b o.
-              w.entries s f i (omega arith) b o
-              ∙ ap (λ (v : ℕ → ℕ → ℕ). times (order M f) (multiple f s) (times (order M f) (own f (groups i)) (v f i))) (columns_here s (omega arith))
-              ∙ ap (λ y. times (order M f) y (scaled M groups own c f i)) (at_end f (cases_lt s s) (pivot_row M.rank (d.columns s f)))
-              ∙ (let F = field M shaped f b in F.times_one (scaled M groups own c f i) (F.times_below _ _));
-        })
+        columns coordinates zeros multiple (λ f j l _. multiple_is f j (cases_lt j s) (pivot_row M.rank (d.columns j f)) l) in (
+          L,
+          record {
+            standard = w.standard;
+            equivalent = w.equivalent;
+            as_before = λ j f i l b o.
+                w.entries j f i (omega arith) b o
+                ∙ ap (λ (v : ℕ → ℕ → ℕ). times (order M f) (multiple f j) (times (order M f) (own f (groups i)) (v f i))) (columns_before j l)
+                ∙ stays f j i (cases_lt j s) (pivot_row M.rank (d.columns j f)) l b o;
+            next = λ f i b o.
+                w.entries s f i (omega arith) b o
+                ∙ ap (λ (v : ℕ → ℕ → ℕ). times (order M f) (multiple f s) (times (order M f) (own f (groups i)) (v f i))) (columns_here s (omega arith))
+                ∙ ap (λ y. times (order M f) y (scaled M groups own c f i)) (at_end f (cases_lt s s) (pivot_row M.rank (d.columns s f)))
+                ∙ (let F = field M shaped f b in F.times_one (scaled M groups own c f i) (F.times_below _ _));
+          },
+        )

@@ -61,9 +61,9 @@ module _ (q : ℕ) (F : IsField q) (r : ℕ) (U : Matrix) (p : ℕ) (p_below : p
   pub pivoted_independent : Independent q r r U → Independent q r r pivoted
   pivoted_independent h = record {
     only_zero = λ a c z l b. (let all : (l : ℕ) → l < r → restored a l ≡ 0 =
-            h.only_zero (restored a) (all_coefficients q F r r r (restored a) (λ l _. F.plus_below _ _)) (λ i o. sym (same_combination a i) ∙ z i o) in
+        h.only_zero (restored a) (all_coefficients q F r r r (restored a) (λ l _. F.plus_below _ _)) (λ i o. sym (same_combination a i) ∙ z i o) in
         let own : a p ≡ 0 = sym (ap (λ b. plus q (cond b 0 (a p)) (times q (a p) (B p))) (same_number p) ∙ F.plus_zero (times q (a p) (B p)) (F.times_below (a p) (B p))
-            ∙ ap (times q (a p)) one ∙ F.times_comm (a p) 1 ∙ F.times_one (a p) (c.codes p p_below)) ∙ all p p_below in
+        ∙ ap (times q (a p)) one ∙ F.times_comm (a p) 1 ∙ F.times_one (a p) (c.codes p p_below)) ∙ all p p_below in
         elim (cases_eq l p) [
           | inl e ↦ ap a e ∙ own
           | inr n ↦ sym (ap (λ b. plus q (cond b 0 (a l)) (times q (a p) (B l))) (other_number l p n)

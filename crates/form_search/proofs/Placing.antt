@@ -67,14 +67,14 @@ module _ (M : Rep) (shaped : IsShaped M) (some : 0 < count M) (k : ℕ) (groups 
     -- an open element is after them in the form too
     pub open_in_form : (e : ℕ) → IsThere layer e → M.rank + s ≤ m.place (layer.element e)
     open_in_form e t = let w = let a = h.inside in a.each e t in let x = layer.element e in
-      let g : k ≤ m.place x = not_before M shaped some d ordered k low_row m N (let f = reach.form in f.standard) reach.valid reach.takes (λ i a b. follows.same i a (omega arith)) x w.below (layer.codes e) w.coordinates (h.zeros e t) in
-      elim (cases_lt (m.place x) (M.rank + s)) [
-        | inr g' ↦ g'
-        | inl l ↦ (let u = reach.valid.labels in let v = ordered.labels in
-            let z : d.label (m.place x) ≡ x = sym (follows.same (m.place x) g l) ∙ u.back x w.below in
-            let y : m.place x ≡ d.place x = sym (v.there (m.place x) (u.inverse_below x w.below)) ∙ ap d.place z in
-            let p : M.rank + s ≤ d.place x = open_place e t in omega arith)
-      ]
+        let g : k ≤ m.place x = not_before M shaped some d ordered k low_row m N (let f = reach.form in f.standard) reach.valid reach.takes (λ i a b. follows.same i a (omega arith)) x w.below (layer.codes e) w.coordinates (h.zeros e t) in
+        elim (cases_lt (m.place x) (M.rank + s)) [
+          | inr g' ↦ g'
+          | inl l ↦ (let u = reach.valid.labels in let v = ordered.labels in
+              let z : d.label (m.place x) ≡ x = sym (follows.same (m.place x) g l) ∙ u.back x w.below in
+              let y : m.place x ≡ d.place x = sym (v.there (m.place x) (u.inverse_below x w.below)) ∙ ap d.place z in
+              let p : M.rank + s ≤ d.place x = open_place e t in omega arith)
+        ]
 
     module _ (own : ℕ → ℕ → ℕ → ℕ) (ones : (e : ℕ) → IsThere layer e → MakesOnes M groups (layer.codes e) (own e))
         (low : ℕ) (least : (e : ℕ) → IsThere layer e → low ≤ number M (scaled M groups (own e) (layer.codes e)))
@@ -200,8 +200,13 @@ module _ (M : Rep) (shaped : IsShaped M) (some : 0 < count M) (k : ℕ) (groups 
         let bx : d.place x < size M = w.inverse_below x x_entry.below in
         let r : k ≤ M.rank = low_row in
         elim (cases_eq p (d.place x)) [
-          | inl z ↦ (M.rank + s, omega arith, ap (λ y. d.label (exchange (M.rank + s) (d.place x) y)) z ∙ ap d.label (exchange_two (M.rank + s) (d.place x)), inr (omega arith),
-              (λ v. elim u [ inl l ↦ omega arith | inr l ↦ omega arith ]))
+          | inl z ↦ (
+            M.rank + s,
+            omega arith,
+            ap (λ y. d.label (exchange (M.rank + s) (d.place x) y)) z ∙ ap d.label (exchange_two (M.rank + s) (d.place x)),
+            inr (omega arith),
+            (λ v. elim u [ inl l ↦ omega arith | inr l ↦ omega arith ]),
+          )
           | inr n ↦ (p, b, ap d.label (exchange_other (M.rank + s) (d.place x) p (λ v. elim u [ inl l ↦ omega arith | inr l ↦ omega arith ]) n), elim u [ inl l ↦ inl l | inr l ↦ inr (omega arith) ], n)
         ]
 
@@ -227,9 +232,14 @@ module _ (M : Rep) (shaped : IsShaped M) (some : 0 < count M) (k : ℕ) (groups 
             (entry_after (rest.element y) (rest.codes y) (rest_other y (back y t)) (let a = h.others in a.each y (back y t)));
         apart = λ y z t t'. (let a = h.others in a.apart y z (back y t) (back z t'));
       };
-      outside = λ y t. (let (f, i, l, b, ne) = h.outside y (back y t) in let w = let a = h.others in a.each y (back y t) in
-          (f, i, l, b, λ z. ne (zero_factor (order M f) (field M shaped f l) (own f (groups i)) (rest.codes y f i) (record { code = ones.codes f (groups i) l; nonzero = ones.nonzero f (groups i) l })
-          (let v = w.coordinates in v.codes f i l (let r : k ≤ M.rank = low_row in omega arith)) z)));
+      outside = λ y t. (let (f, i, l, b, ne) = h.outside y (back y t) in let w = let a = h.others in a.each y (back y t) in (
+        f,
+        i,
+        l,
+        b,
+        λ z. ne (zero_factor (order M f) (field M shaped f l) (own f (groups i)) (rest.codes y f i) (record { code = ones.codes f (groups i) l; nonzero = ones.nonzero f (groups i) l })
+            (let v = w.coordinates in v.codes f i l (let r : k ≤ M.rank = low_row in omega arith)) z),
+      ));
       whole = λ p b u.
           (let (q, bq, z, uq, n) = before_place p b (elim u [ inl l ↦ inl l | inr l ↦ inr (omega (arith, long)) ]) in
           elim (h.whole q bq uq) [

@@ -1,6 +1,6 @@
 -- The filters of a request are those that are asked for.
-use Rattle.std.proofs.Common.{◌≡◌, ◌∙◌, ℕ, ◌<◌, List, map, length, get_or, Some, None, refl, sym, ap, subst, Bool, IsTrue}
-use Rattle.std.specs.Prelude.{◌↔◌, slice_get, Option, option_to_list}
+use Rattle.std.proofs.Common.{◌≡◌, ◌∙◌, ℕ, ◌<◌, List, map, length, get_or, Some, refl, sym, ap, subst, Bool, IsTrue}
+use Rattle.std.specs.Prelude.{◌↔◌, slice_get, option_to_list}
 use Rattle.std.proofs.lemmas.Option.{slice_get_within, get_or_from_slice_get, slice_get_read}
 use Rattle.matroid_theory.specs.Rep.{Rep}
 use Rattle.matroid_theory.specs.Matroid.{Agrees}

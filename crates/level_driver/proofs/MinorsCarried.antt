@@ -1,5 +1,5 @@
 -- Equivalent representations have the same minors, and what is given is one list of matroids.
-use Rattle.std.proofs.Common.{◌≡◌, ℕ, zero, suc, ◌+◌, ◌<◌, List, [], ◌∷◌, ◌&&◌, ◌||◌, Bool, length, refl, sym, ◌∙◌, ap, subst, arith, inl, inr}
+use Rattle.std.proofs.Common.{◌≡◌, ℕ, zero, suc, ◌+◌, ◌<◌, List, ◌&&◌, ◌||◌, Bool, length, refl, sym, ◌∙◌, ap, subst, arith, inl, inr}
 use Rattle.std.specs.Bool.{◌==◌}
 use Rattle.std.proofs.lemmas.Bool.{cases_eq}
 use Rattle.matroid_theory.specs.declared.Mode.{Mode}
@@ -7,15 +7,12 @@ use Rattle.matroid_theory.specs.Rep.{Rep, count, size}
 use Rattle.matroid_theory.specs.Matrix.{size_below}
 use Rattle.matroid_theory.specs.Matroid.{members}
 use Rattle.matroid_theory.specs.Minor.{Matroid, any_below, image, IsMinor}
-use Rattle.matroid_theory.specs.Given.{Given}
 use Rattle.matroid_theory.specs.Move.{ArePermutation, AreEquivalent}
 use Rattle.matroid_theory.proofs.Carried.{basis_carried}
 use Rattle.matroid_theory.proofs.Counts.{size_relabelled}
 use Rattle.matroid_theory.proofs.Equivalence.{equivalent-symmetric}
-use Rattle.matroid_theory.proofs.GivenLemmas.{given_unique}
 use Rattle.matroid_theory.proofs.Masks.{IsBasis-same}
 use Rattle.matroid_theory.proofs.Sums.{same_number, other_number}
-use Rattle.formats.specs.Levels.{AreGivenBy}
 use Rattle.level_driver.specs.Forbidden.{Avoids}
 
 any_same : (n : ℕ) (p q : ℕ → Bool) → ((x : ℕ) → x < n → p x ≡ q x) → any_below n p ≡ any_below n q

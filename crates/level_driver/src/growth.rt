@@ -1,7 +1,7 @@
 // The level after a level.
 ghost use Rattle.std.specs.Prelude.{ℕ, ◌≡◌, ◌+◌, ◌<◌, IsSome, IsNone, IfSome, IfOk, OnOk};
 ghost use Rattle.matroid_theory.specs.declared.Mode.TheVariants.{Linear as linear};
-ghost use Rattle.matroid_theory.specs.Rep.{size, IsProductColumn};
+ghost use Rattle.matroid_theory.specs.Rep.{size, IsProductColumn, IsStandard};
 ghost use Rattle.matroid_theory.specs.Matroid.{Agrees};
 ghost use Rattle.matroid_theory.specs.Move.{AreEquivalent};
 ghost use Rattle.matroid_theory.specs.Order.{IsForm};
@@ -13,8 +13,8 @@ ghost use Rattle.level_driver.specs.Grown.{IsLevelOf, AreTriesOf, IsParentLevel}
 use crate::forbidden::avoids;
 use crate::found::Found;
 use crate::{FormList, Level};
-use canonical_form::least_form;
 use extension::Columns;
+use fast_form::least_of_standard;
 use named_matroids::MinorItem;
 use product_rep::{ProductColumn, Rep};
 use request_reader::Request;
@@ -66,6 +66,7 @@ fn add_children(parent: &Rep, forbidden: &[MinorItem], found: &mut Found) -> Res
 fn child(parent: &Rep, forbidden: &[MinorItem], column: &ProductColumn) -> Option<Rep>
     requires room { size parent.now < 16 }
     requires column { IsProductColumn parent.now.factors parent.now.rank column.now.items }
+    requires standard { IsStandard parent.now }
     requires agrees { Agrees (followed_by parent.now column.now.items) }
     ensures none { IsNone result → ¬ (Avoids (matroids_of forbidden.now) (followed_by parent.now column.now.items)) }
     ensures avoids { IsSome result → Avoids (matroids_of forbidden.now) (followed_by parent.now column.now.items) }
@@ -77,5 +78,5 @@ fn child(parent: &Rep, forbidden: &[MinorItem], column: &ProductColumn) -> Optio
     if !avoids(&candidate, forbidden) {
         return None;
     }
-    Some(least_form(&candidate))
+    Some(least_of_standard(&candidate))
 }

@@ -1,4 +1,4 @@
-use Rattle.std.proofs.Common.{◌≡◌, ℕ, suc, ◌+◌, ◌<◌, [], List, Bool, true, slice_index, slice_index_or, zero, sym, ◌∙◌, subst, arith}
+use Rattle.std.proofs.Common.{◌≡◌, ℕ, suc, ◌+◌, ◌<◌, [], List, Bool, slice_index, slice_index_or, zero, sym, ◌∙◌, subst, arith}
 use Rattle.form_search.specs.Search.{Stands, IsPlacing, IsThere}
 use Rattle.fast_form.specs.States.{entries_of, IsLeastNumber}
 use Rattle.fast_form.specs.Codes.{code}

@@ -1,6 +1,7 @@
 use Rattle.std.proofs.Common.{◌≡◌, sym, ◌∙◌, ap, subst}
-use Rattle.matroid_theory.specs.Rep.{Rep}
+use Rattle.matroid_theory.specs.Rep.{Rep, IsStandard}
 use Rattle.matroid_theory.specs.Level.{followed_by}
+use Rattle.matroid_theory.proofs.Followed.{standard_followed}
 use Rattle.level_driver.specs.Forbidden.{matroids_of, Avoids}
 use Rattle.level_driver.proofs.growth.child.Goals as goal
 
@@ -15,3 +16,8 @@ pub returns-clause-avoids : goal.returns-clause-avoids
 returns-clause-avoids c = λ some.
     let same : c.push_column.new.self ≡ followed_by c.args.parent.now c.args.column.now.items = c.push_column.ensures ∙ ap (λ (P : Rep). followed_by P c.args.column.now.items) c.copy-candidate.ensures in
     subst (Avoids (matroids_of c.args.forbidden.now)) same (c.avoids.ensures.0 c.if-not-avoids.false)
+
+pub least_of_standard-requires-clause-standard : goal.least_of_standard-requires-clause-standard
+least_of_standard-requires-clause-standard c =
+    let same : c.push_column.new.self ≡ followed_by c.args.parent.now c.args.column.now.items = c.push_column.ensures ∙ ap (λ (P : Rep). followed_by P c.args.column.now.items) c.copy-candidate.ensures in
+    subst IsStandard (sym same) (standard_followed c.args.parent.now c.args.column.now.items c.requires.standard)
