@@ -1,0 +1,2 @@
+//! Which closures may cross threads. The crate has lemmas alone, for those that start threads.
+#![tactic(auto)]

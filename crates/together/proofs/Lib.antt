@@ -1,0 +1,3 @@
+mod Turned
+mod Serving
+mod OneNew
