@@ -2,12 +2,13 @@
 use Rattle.std.proofs.Common.{◌≡◌, ℕ, List, [], ◌∷◌, true, false, None, refl}
 use Rattle.std.specs.Prelude.{codes}
 use Rattle.std.specs.Fmt.{digits}
+use Rattle.matroid_theory.specs.declared.Mode.TheVariants.{Semilinear}
 use Rattle.formats.specs.declared.refusal.PrintMode.TheVariants.{Counts}
 use Rattle.formats.specs.declared.refusal.Refusal.TheVariants.{Twice}
 use Rattle.formats.specs.declared.refusal.Status.TheVariants.{Refused}
 use Rattle.formats.specs.Lines.{lines_of, statements_of}
 use Rattle.formats.specs.Statement.{Uniform, Fano}
-use Rattle.formats.specs.Request.{Request, column_count}
+use Rattle.formats.specs.Request.{Request, version_of, column_count}
 use Rattle.formats.specs.Listing.{Form, head_text, level_text, form_text}
 use Rattle.formats.specs.Words.{sample_text}
 use Rattle.formats.specs.Status.{refusal_text, refused_text}
@@ -25,9 +26,11 @@ request = record {
   distinct = false;
   has = None;
   print = Counts;
+  mode = Semilinear;
+  version = 1;
 }
 
-head : head_text request ≡ codes "macek listing 1\nversion 1\nfield 2 x 3\nrank 4\nsize 11\nforbid U2,5\nforbid F7\nfilter 3conn\nprint counts\n"
+head : head_text request ≡ codes "macek listing 1\nversion 1\nfield 2 x 3\nrank 4\nsize 11\nequivalence semilinear\nforbid U2,5\nforbid F7\nfilter 3conn\nprint counts\n"
 unfolding head_text request digits
 head = refl
 
@@ -64,6 +67,13 @@ statements = refl
 -- a line feed at the end begins no line
 last_line : lines_of (codes "size 4\n") ≡ codes "size 4" ∷ []
 last_line = refl
+
+-- `version 2` counts where no other line stands before it
+second : version_of (codes "# why\n version 2\nrank 3\n") ≡ 2
+second = refl
+
+too_late : version_of (codes "rank 2\nversion 2\n") ≡ 1
+too_late = refl
 
 -- the columns of rank 6 over three factors of order 9, and over one
 columns_of_three : column_count 6 (9 ∷ 9 ∷ 9 ∷ []) ≡ 35598707465734

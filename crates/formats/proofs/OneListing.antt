@@ -31,7 +31,7 @@ family_same : (q : Request) (F G : Family) → Grows q F → Grows q G → F ≡
 family_same q F G a b =
     let factors : F.factors ≡ G.factors = a.factors_are ∙ sym b.factors_are in
     let ranks : F.rank ≡ G.rank = a.rank_is ∙ sym b.rank_is in
-    let modes : F.mode ≡ G.mode = a.linear ∙ sym b.linear in
+    let modes : F.mode ≡ G.mode = a.mode_is ∙ sym b.mode_is in
     let forbidden : F.forbidden ≡ G.forbidden = given_same _ F.forbidden G.forbidden a.forbids b.forbids in
     λ i. record { factors = factors i; rank = ranks i; mode = modes i; forbidden = forbidden i }
 

@@ -1,6 +1,6 @@
 -- Cutting the text of some entries into lines and words gives back their spellings.
 use Rattle.std.proofs.Common.{◌≡◌, ◌∙◌, ℕ, suc, ◌-◌, ◌<◌, ◌≤◌, ◌==◌, ◌&&◌, Bool, true, false, cond, List, [], ◌∷◌, ◌++◌, map, length, take, refl, ap, arith, append_assoc}
-use Rattle.std.specs.Prelude.{IsTrue, codes, decimal, nat_lt, filter, slice_index}
+use Rattle.std.specs.Prelude.{codes, decimal, nat_lt, filter, slice_index}
 use Rattle.std.specs.List.{AllByRecursion, slice_split, join_with_byte}
 use Rattle.std.specs.Str.Lines.{strip_carriage_return}
 use Rattle.std.specs.Str.Parse.{AllDigits}
@@ -10,13 +10,15 @@ use Rattle.std.proofs.lemmas.List.Splits.{slice_split_none, slice_split_at, leng
 use Rattle.std.proofs.lemmas.Fmt.{decimal_is_IsNumeral}
 use Rattle.std.proofs.lemmas.Str.Parse.{digit_from_value}
 use Rattle.matroid_theory.specs.Field.{IsOrder}
+use Rattle.matroid_theory.specs.declared.Mode.{Mode}
+use Rattle.matroid_theory.specs.declared.Mode.TheVariants.{Linear, Semilinear}
 use Rattle.formats.specs.declared.refusal.PrintMode.{PrintMode}
 use Rattle.formats.specs.declared.refusal.PrintMode.TheVariants.{Forms, Counts}
 use Rattle.formats.specs.Lines.{lines_of, lines_of_pieces, is_blank, has_bytes, words_of, is_skipped, statements_of, line_of_words, parted}
-use Rattle.formats.specs.Statement.{MinorName, Uniform, Fano, FanoDual, NonFano, KFour, KFive, ByMatrix, Statement, Version, RankIs, FieldIs, SizeIs, Forbids, ListsConnected, ListsThreeConnected, ListsCosimple, ListsDistinct, ListsWith, Prints, column_word, minor_words, mode_word, IsNumber, IsMinorName, IsStatement, spelling}
+use Rattle.formats.specs.Statement.{MinorName, Uniform, Fano, FanoDual, NonFano, KFour, KFive, ByMatrix, Statement, VersionIs, RankIs, FieldIs, SizeIs, EquivalenceIs, Forbids, ListsConnected, ListsThreeConnected, ListsCosimple, ListsDistinct, ListsWith, Prints, column_word, minor_words, mode_word, print_word, IsNumber, IsMinorName, IsStatement, IsOfVersion, spelling}
 use Rattle.formats.specs.Request.{SayInTurn}
 use Rattle.formats.specs.Listing.{text_of_statements}
-use Rattle.formats.proofs.Unique.{statements_split, order_small, letter_small}
+use Rattle.formats.proofs.Unique.{statements_split, order_small, letter_from}
 
 -- bytes from 36 up: no space, no end of a line, and no `#`
 abbrev pub AreBytes : List ℕ → Type 0
@@ -74,14 +76,15 @@ decimal_bytes n lt = digits_bytes (decimal n) ((decimal_is_IsNumeral n (omega ar
 pub decimal_word : (n : ℕ) → IsNumber n → IsWord (decimal n)
 decimal_word n lt = word_from (decimal n) ((decimal_is_IsNumeral n (omega arith)).0.0) (decimal_bytes n lt)
 
-column_bytes : (order : ℕ) (column : List ℕ) → order < 10 → AllByRecursion (λ code. code < order) column → AreBytes (column_word column)
-column_bytes order [] small all = tt
-column_bytes order (code ∷ column) small all = (omega (arith, letter_small code (omega (arith, all.0))), column_bytes order column small all.1)
+column_bytes : (column : List ℕ) → AreBytes (column_word column)
+column_bytes [] = tt
+column_bytes (code ∷ column) = (omega (arith, letter_from code), column_bytes column)
 
-pub columns_words : (order rows : ℕ) (columns : List (List ℕ)) → order < 10 → 1 ≤ rows → AllByRecursion (λ column. length column ≡ rows) columns → AllByRecursion (λ column. AllByRecursion (λ code. code < order) column) columns → AreWords (map column_word columns)
-columns_words order rows [] small some height all = tt
-columns_words order rows ([] ∷ columns) small some height all = absurd (omega (arith, height.0))
-columns_words order rows ((code ∷ column) ∷ columns) small some height all = (column_bytes order (code ∷ column) small all.0, columns_words order rows columns small some height.1 all.1)
+pub columns_words : (rows : ℕ) (columns : List (List ℕ)) → 1 ≤ rows → AllByRecursion (λ column. length column ≡ rows) columns
+    → AreWords (map column_word columns)
+columns_words rows [] some height = tt
+columns_words rows ([] ∷ columns) some height = absurd (omega (arith, height.0))
+columns_words rows ((code ∷ column) ∷ columns) some height = (column_bytes (code ∷ column), columns_words rows columns some height.1)
 
 bytes_append : (xs ys : List ℕ) → AreBytes xs → AreBytes ys → AreBytes (xs ++ ys)
 bytes_append [] ys p q = q
@@ -101,7 +104,7 @@ minor_line KFive may = (word_tested (codes "K5") refl, tt)
 minor_line (ByMatrix order columns) may =
     let small = order_small order may.is_order in
     let height = may.height in
-    (word_tested (codes "matrix") refl, (decimal_word order (omega (arith, small)), columns_words order height.0 columns small height.1 height.3 may.entries))
+    (word_tested (codes "matrix") refl, (decimal_word order (omega (arith, small)), columns_words height.0 columns height.1 height.3))
 
 line_words : (words : List (List ℕ)) → IsLine words → AreWords words
 line_words [] line = tt
@@ -114,13 +117,17 @@ factors_words (x ∷ y ∷ ys) all =
     let small = order_small x (all 0 (omega arith)) in
     (decimal_word x (omega (arith, small)), (word_tested (codes "x") refl, factors_words (y ∷ ys) (λ f l. all (suc f) (omega arith))))
 
-mode_is_word : (mode : PrintMode) → IsWord (mode_word mode)
-mode_is_word Forms = word_tested (codes "forms") refl
-mode_is_word Counts = word_tested (codes "counts") refl
+print_is_word : (print : PrintMode) → IsWord (print_word print)
+print_is_word Forms = word_tested (codes "forms") refl
+print_is_word Counts = word_tested (codes "counts") refl
+
+mode_is_word : (mode : Mode) → IsWord (mode_word mode)
+mode_is_word Linear = word_tested (codes "linear") refl
+mode_is_word Semilinear = word_tested (codes "semilinear") refl
 
 -- the words of an entry
 pub entry_line : (e : Statement) → IsStatement e → IsLine (spelling e)
-entry_line Version may = (word_tested (codes "version") refl, (word_tested (codes "1") refl, tt))
+entry_line (VersionIs n) may = (word_tested (codes "version") refl, (decimal_word n may, tt))
 entry_line (RankIs n) may = (word_tested (codes "rank") refl, (decimal_word n may, tt))
 entry_line (FieldIs factors) may = (word_tested (codes "field") refl, factors_words factors may.fields)
 entry_line (SizeIs n) may = (word_tested (codes "size") refl, (decimal_word n may, tt))
@@ -130,7 +137,8 @@ entry_line ListsThreeConnected may = (word_tested (codes "filter") refl, (word_t
 entry_line ListsCosimple may = (word_tested (codes "filter") refl, (word_tested (codes "cosimple") refl, tt))
 entry_line ListsDistinct may = (word_tested (codes "filter") refl, (word_tested (codes "distinct") refl, tt))
 entry_line (ListsWith minor) may = (word_tested (codes "filter") refl, (word_tested (codes "has") refl, line_words (minor_words minor) (minor_line minor may)))
-entry_line (Prints mode) may = (word_tested (codes "print") refl, (mode_is_word mode, tt))
+entry_line (EquivalenceIs mode) may = (word_tested (codes "equivalence") refl, (mode_is_word mode, tt))
+entry_line (Prints print) may = (word_tested (codes "print") refl, (print_is_word print, tt))
 
 -- a line of words with one space between two is cut into them
 not_blank : (b : ℕ) → 36 ≤ b → is_blank b ≡ false
@@ -216,12 +224,13 @@ first_statement words text line =
     ∙ statements_split [] joined (lines_of text) (ap is_skipped is ∙ not_skipped words line)
     ∙ ap (λ (ws : List (List ℕ)). ws ∷ statements_of (lines_of text)) is
 
-spelled : (entries : List Statement) → AllByRecursion IsStatement entries → statements_of (lines_of (text_of_statements entries)) ≡ map spelling entries
+pub spelled : (entries : List Statement) → AllByRecursion IsStatement entries → statements_of (lines_of (text_of_statements entries)) ≡ map spelling entries
 spelled [] all = refl
 spelled (e ∷ entries) all =
     first_statement (spelling e) (text_of_statements entries) (entry_line e all.0)
     ∙ ap (λ (l : List (List (List ℕ))). spelling e ∷ l) (spelled entries all.1)
 
--- The text of entries that are read says them.
-pub text_says : (forms : Statement → Bool) (entries : List Statement) → AllByRecursion IsStatement entries → AllByRecursion (λ entry. IsTrue (forms entry)) entries → SayInTurn forms (lines_of (text_of_statements entries)) entries
-text_says forms entries all are_read = record { may = all; are_read = are_read; spelled = spelled entries all }
+-- The text of entries says them, in a text of a version in which they may stand.
+pub text_says : (version : ℕ) (entries : List Statement) → AllByRecursion IsStatement entries → AllByRecursion (IsOfVersion version) entries
+    → SayInTurn version (lines_of (text_of_statements entries)) entries
+text_says version entries all of_version = record { may = all; of_version = of_version; spelled = spelled entries all }

@@ -1,7 +1,6 @@
 -- What a request grows and lists, in the words of the mathematics, and which text is its listing.
 use Rattle.std.specs.Prelude.{◌≡◌, ℕ, ◌<◌, ◌≤◌, List, [], ◌∷◌, ◌++◌, map, length, option_to_list}
 use Rattle.std.specs.List.{AllByRecursion, range_with_len}
-use Rattle.matroid_theory.specs.declared.Mode.TheVariants.{Linear}
 use Rattle.matroid_theory.specs.Rep.{Rep, count, size, column_of}
 use Rattle.matroid_theory.specs.Minor.{Matroid}
 use Rattle.matroid_theory.specs.Given.{Given, IsGivenBy}
@@ -28,7 +27,7 @@ AreGivenBy (given ∷ more) (N ∷ Ns) = IsGivenBy given N × AreGivenBy more Ns
 pub record Grows (q : Request) (family : Family) : Type 0 where
   pub factors_are : family.factors ≡ q.factors
   pub rank_is : family.rank ≡ q.rank
-  pub linear : family.mode ≡ Linear
+  pub mode_is : family.mode ≡ q.mode
   pub forbids : AreGivenBy (map given_as q.forbid) family.forbidden
 
 -- which of the forms it lists

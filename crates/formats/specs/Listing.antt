@@ -1,10 +1,12 @@
 -- The listing of a request, in blocks of pieces.
 use Rattle.std.specs.Prelude.{◌≡◌, ℕ, ◌+◌, ◌-◌, ◌<◌, ◌==◌, List, [], ◌∷◌, ◌++◌, map, length, codes, decimal, option_to_list, Bool, true, false, flat_map}
 use Rattle.std.specs.List.{concat, join_with_byte}
+use Rattle.matroid_theory.specs.declared.Mode.{Mode}
+use Rattle.matroid_theory.specs.declared.Mode.TheVariants.{Linear, Semilinear}
 use Rattle.formats.specs.declared.refusal.PrintMode.{PrintMode}
 use Rattle.formats.specs.declared.refusal.PrintMode.TheVariants.{Forms, Counts}
 use Rattle.formats.specs.Lines.{line_of_words, joined}
-use Rattle.formats.specs.Statement.{Statement, Version, RankIs, FieldIs, SizeIs, Forbids, ListsConnected, ListsThreeConnected, ListsCosimple, ListsDistinct, ListsWith, Prints, spelling, column_word}
+use Rattle.formats.specs.Statement.{Statement, VersionIs, RankIs, FieldIs, SizeIs, EquivalenceIs, Forbids, ListsConnected, ListsThreeConnected, ListsCosimple, ListsDistinct, ListsWith, Prints, spelling, column_word}
 use Rattle.formats.specs.Request.{Request}
 
 -- an entry that is there where the flag is set
@@ -12,9 +14,18 @@ abbrev pub where_set : Bool → Statement → List Statement
 where_set true entry = entry ∷ []
 where_set false entry = []
 
+abbrev pub is_semilinear : Mode → Bool
+is_semilinear Linear = false
+is_semilinear Semilinear = true
+
 -- what the head says of a request, in its order
 abbrev pub head_statements : Request → List Statement
-head_statements q = Version ∷ FieldIs q.factors ∷ RankIs q.rank ∷ SizeIs q.size ∷ map Forbids q.forbid ++ where_set q.connected ListsConnected ++ where_set q.three_connected ListsThreeConnected ++ where_set q.cosimple ListsCosimple ++ where_set q.distinct ListsDistinct ++ map ListsWith (option_to_list q.has) ++ Prints q.print ∷ []
+head_statements q =
+    VersionIs q.version ∷ FieldIs q.factors ∷ RankIs q.rank ∷ SizeIs q.size ∷ where_set (is_semilinear q.mode) (EquivalenceIs Semilinear)
+    ++ map Forbids q.forbid
+    ++ where_set q.connected ListsConnected ++ where_set q.three_connected ListsThreeConnected ++ where_set q.cosimple ListsCosimple
+    ++ where_set q.distinct ListsDistinct ++ map ListsWith (option_to_list q.has)
+    ++ Prints q.print ∷ []
 
 -- a request text of these entries, in their order
 abbrev pub text_of_statements : List Statement → List ℕ

@@ -1,10 +1,12 @@
 -- Which texts stand for which request.
-use Rattle.std.specs.Prelude.{◌≡◌, ℕ, zero, suc, ◌+◌, ◌-◌, ◌*◌, ◌^◌, ◌≤◌, ◌==◌, List, [], ◌∷◌, map, sum, length, count_by, Bool, false, true, IsTrue, Option, Some, None, option_to_list, filter_map, if◌then◌else◌}
+use Rattle.std.specs.Prelude.{◌≡◌, ℕ, zero, suc, ◌+◌, ◌-◌, ◌*◌, ◌^◌, ◌≤◌, ◌==◌, ◌&&◌, List, [], ◌∷◌, map, sum, length, count_by, codes, bytes_eq, Bool, false, true, Option, Some, None, option_to_list, filter_map, if◌then◌else◌}
 use Rattle.std.specs.List.{AllByRecursion, list_any, range_with_len}
+use Rattle.matroid_theory.specs.declared.Mode.{Mode}
+use Rattle.matroid_theory.specs.declared.Mode.TheVariants.{Linear, Semilinear}
 use Rattle.formats.specs.declared.refusal.PrintMode.{PrintMode}
 use Rattle.formats.specs.declared.refusal.PrintMode.TheVariants.{Forms, Counts}
 use Rattle.formats.specs.Lines.{lines_of, statements_of}
-use Rattle.formats.specs.Statement.{MinorName, Statement, RankIs, FieldIs, SizeIs, Forbids, ListsConnected, ListsThreeConnected, ListsCosimple, ListsDistinct, ListsWith, Prints, IsStatement, spelling, kind_number, most_of_kind, named_elements}
+use Rattle.formats.specs.Statement.{MinorName, Statement, RankIs, FieldIs, SizeIs, EquivalenceIs, Forbids, ListsConnected, ListsThreeConnected, ListsCosimple, ListsDistinct, ListsWith, Prints, IsStatement, IsOfVersion, spelling, kind_number, most_of_kind, named_elements}
 
 pub record Request : Type 0 where
   pub factors : List ℕ
@@ -17,11 +19,26 @@ pub record Request : Type 0 where
   pub distinct : Bool
   pub has : Option MinorName
   pub print : PrintMode
+  pub mode : Mode
+  pub version : ℕ
 
--- The lines that aren't skipped say these entries, in their order, in forms that are read.
-pub record SayInTurn (forms : Statement → Bool) (lines : List (List ℕ)) (entries : List Statement) : Type 0 where
+-- the words are `version 2`
+abbrev pub says_two : List (List ℕ) → Bool
+says_two (first ∷ second ∷ []) = bytes_eq first (codes "version") && bytes_eq second (codes "2")
+says_two _ = false
+
+-- A text whose first line that isn't skipped is `version 2` is of version 2, every other of version 1.
+abbrev pub version_in : List (List (List ℕ)) → ℕ
+version_in [] = 1
+version_in (words ∷ more) = if says_two words then 2 else 1
+
+abbrev pub version_of : List ℕ → ℕ
+version_of text = version_in (statements_of (lines_of text))
+
+-- The lines that aren't skipped say these entries, in their order, in a text of the version.
+pub record SayInTurn (version : ℕ) (lines : List (List ℕ)) (entries : List Statement) : Type 0 where
   pub may : AllByRecursion IsStatement entries
-  pub are_read : AllByRecursion (λ entry. IsTrue (forms entry)) entries
+  pub of_version : AllByRecursion (IsOfVersion version) entries
   pub spelled : statements_of lines ≡ map spelling entries
 
 abbrev pub count_of_kind : ℕ → List Statement → ℕ
@@ -59,6 +76,10 @@ abbrev pub prints_counts : Statement → Bool
 prints_counts (Prints Counts) = true
 prints_counts _ = false
 
+abbrev pub asks_semilinear : Statement → Bool
+asks_semilinear (EquivalenceIs Semilinear) = true
+asks_semilinear _ = false
+
 -- What is asked for in these entries, whatever their order.
 pub record AskFor (entries : List Statement) (request : Request) : Type 0 where
   pub rank : filter_map rank_in entries ≡ request.rank ∷ []
@@ -71,6 +92,7 @@ pub record AskFor (entries : List Statement) (request : Request) : Type 0 where
   pub distinct : has_kind ListsDistinct entries ≡ request.distinct
   pub has : filter_map wanted_in entries ≡ option_to_list request.has
   pub print : (if list_any prints_counts entries then Counts else Forms) ≡ request.print
+  pub mode : (if list_any asks_semilinear entries then Semilinear else Linear) ≡ request.mode
 
 -- how many sets of k things n things have
 abbrev pub subsets : ℕ → ℕ → ℕ
@@ -103,11 +125,12 @@ pub record IsWithinLimits (request : Request) : Type 0 where
   pub size : IsSizeInRange request.rank request.size
   pub columns : column_count request.rank request.factors ≤ most_columns
 
--- The text is a request, with lines of forms that are read, and this is what it asks for.
-pub record StandsFor (forms : Statement → Bool) (text : List ℕ) (request : Request) : Type 0 where
+-- The text is a request, and this is what it asks for.
+pub record StandsFor (text : List ℕ) (request : Request) : Type 0 where
   pub short : length text ≤ most_bytes
+  pub version : version_of text ≡ request.version
   pub entries : List Statement
-  pub said : SayInTurn forms (lines_of text) entries
+  pub said : SayInTurn (version_of text) (lines_of text) entries
   pub in_order : AreInOrder entries
   pub asked : AskFor entries request
   pub limits : IsWithinLimits request

@@ -1,6 +1,8 @@
 -- What a line says, how it is spelled, and what may be said.
-use Rattle.std.specs.Prelude.{◌≡◌, ℕ, ◌+◌, ◌^◌, ◌<◌, ◌≤◌, ◌==◌, List, [], ◌∷◌, ◌++◌, map, length, codes, decimal, nat_lt, Bool, true, IsTrue, if◌then◌else◌}
+use Rattle.std.specs.Prelude.{◌≡◌, ℕ, ◌+◌, ◌^◌, ◌<◌, ◌≤◌, ◌==◌, List, [], ◌∷◌, ◌++◌, map, length, codes, decimal, nat_lt, if◌then◌else◌}
 use Rattle.std.specs.List.{AllByRecursion}
+use Rattle.matroid_theory.specs.declared.Mode.{Mode}
+use Rattle.matroid_theory.specs.declared.Mode.TheVariants.{Linear, Semilinear}
 use Rattle.matroid_theory.specs.Field.{IsOrder, IsFactors}
 use Rattle.formats.specs.declared.refusal.PrintMode.{PrintMode}
 use Rattle.formats.specs.declared.refusal.PrintMode.TheVariants.{Forms, Counts}
@@ -62,10 +64,11 @@ elements_of _ = 7
 
 -- what a line says
 pub data Statement : Type 0 where
-  Version : Statement
+  VersionIs : ℕ → Statement
   RankIs : ℕ → Statement
   FieldIs : List ℕ → Statement
   SizeIs : ℕ → Statement
+  EquivalenceIs : Mode → Statement
   Forbids : MinorName → Statement
   ListsConnected : Statement
   ListsThreeConnected : Statement
@@ -74,26 +77,32 @@ pub data Statement : Type 0 where
   ListsWith : MinorName → Statement
   Prints : PrintMode → Statement
 
-abbrev pub mode_word : PrintMode → List ℕ
-mode_word Forms = codes "forms"
-mode_word Counts = codes "counts"
+abbrev pub print_word : PrintMode → List ℕ
+print_word Forms = codes "forms"
+print_word Counts = codes "counts"
+
+abbrev pub mode_word : Mode → List ℕ
+mode_word Linear = codes "linear"
+mode_word Semilinear = codes "semilinear"
 
 -- the words of the line that says it
 abbrev pub spelling : Statement → List (List ℕ)
-spelling Version = codes "version" ∷ codes "1" ∷ []
+spelling (VersionIs n) = codes "version" ∷ decimal n ∷ []
 spelling (RankIs n) = codes "rank" ∷ decimal n ∷ []
 spelling (FieldIs factors) = codes "field" ∷ parted (codes "x") (map (λ order. decimal order ∷ []) factors)
 spelling (SizeIs n) = codes "size" ∷ decimal n ∷ []
+spelling (EquivalenceIs mode) = codes "equivalence" ∷ mode_word mode ∷ []
 spelling (Forbids minor) = codes "forbid" ∷ minor_words minor
 spelling ListsConnected = codes "filter" ∷ codes "connected" ∷ []
 spelling ListsThreeConnected = codes "filter" ∷ codes "3conn" ∷ []
 spelling ListsCosimple = codes "filter" ∷ codes "cosimple" ∷ []
 spelling ListsDistinct = codes "filter" ∷ codes "distinct" ∷ []
 spelling (ListsWith minor) = codes "filter" ∷ codes "has" ∷ minor_words minor
-spelling (Prints mode) = codes "print" ∷ mode_word mode ∷ []
+spelling (Prints print) = codes "print" ∷ print_word print ∷ []
 
 -- what a line may say; a value that is out of its limits is refused later
 abbrev pub IsStatement : Statement → Type 0
+IsStatement (VersionIs n) = IsNumber n
 IsStatement (RankIs n) = IsNumber n
 IsStatement (SizeIs n) = IsNumber n
 IsStatement (FieldIs factors) = IsFactors factors
@@ -101,19 +110,32 @@ IsStatement (Forbids minor) = IsMinorName minor
 IsStatement (ListsWith minor) = IsMinorName minor
 IsStatement _ = Unit {0}
 
--- all forms of a line are read
-abbrev pub all_forms : Statement → Bool
-all_forms entry = true
+-- the greatest order of a field in a text of the version
+abbrev pub most_order : ℕ → ℕ
+most_order version = if version == 2 then 13 else 9
 
--- the words say it, in a form that is read
-pub record Says (forms : Statement → Bool) (words : List (List ℕ)) (entry : Statement) : Type 0 where
+-- the order of the field of a matrix
+abbrev pub order_of_minor : MinorName → ℕ
+order_of_minor (ByMatrix order columns) = order
+order_of_minor _ = 0
+
+-- It may be said in a text of the version: a version line names this version, and no order is above its greatest.
+abbrev pub IsOfVersion : ℕ → Statement → Type 0
+IsOfVersion version (VersionIs n) = n ≡ version
+IsOfVersion version (FieldIs factors) = AllByRecursion (λ order. order ≤ most_order version) factors
+IsOfVersion version (Forbids minor) = order_of_minor minor ≤ most_order version
+IsOfVersion version (ListsWith minor) = order_of_minor minor ≤ most_order version
+IsOfVersion version _ = Unit {0}
+
+-- the words say it, in a text of the version
+pub record Says (version : ℕ) (words : List (List ℕ)) (entry : Statement) : Type 0 where
   pub may : IsStatement entry
-  pub is_read : IsTrue (forms entry)
+  pub of_version : IsOfVersion version entry
   pub spelled : words ≡ spelling entry
 
 -- its kind, as its place in the table of the forms
 abbrev pub kind_number : Statement → ℕ
-kind_number Version = 0
+kind_number (VersionIs n) = 0
 kind_number (RankIs n) = 1
 kind_number (FieldIs factors) = 2
 kind_number (SizeIs n) = 3
@@ -123,7 +145,8 @@ kind_number ListsThreeConnected = 6
 kind_number ListsCosimple = 7
 kind_number ListsDistinct = 8
 kind_number (ListsWith minor) = 9
-kind_number (Prints mode) = 10
+kind_number (Prints print) = 10
+kind_number (EquivalenceIs mode) = 11
 
 abbrev pub forbid_kind : ℕ
 forbid_kind = 4
