@@ -15,6 +15,7 @@ use Rattle.formats.specs.Statement.{MinorName, Statement, VersionIs, RankIs, Fie
 use Rattle.formats.specs.Request.{Request, says_two, version_in, version_of, SayInTurn, AreInOrder, count_of_kind, rank_in, field_in, size_in, forbidden_in, wanted_in, has_kind, prints_counts, asks_semilinear, AskFor, most_bytes, IsWithinLimits, StandsFor}
 use Rattle.formats.specs.Listing.{where_set, is_semilinear, head_statements, text_of_statements}
 use Rattle.formats.proofs.Spelled.{spelled, text_says}
+use Rattle.formats.proofs.KindCounts.{of_kind, count_cons, some_of_kind}
 use Rattle.formats.proofs.Lengths.{IsSmall, text_length}
 
 -- words are `version 2`, or not
@@ -100,13 +101,6 @@ forbidden_made _ m is = cc (is)
 wanted_made : (e : Statement) (m : MinorName) → wanted_in e ≡ Some m → e ≡ ListsWith m
 wanted_made (ListsWith n) m is = cc (is)
 wanted_made _ m is = cc (is)
-
--- an entry is one of a kind, or not
-abbrev pub of_kind : ℕ → Statement → ℕ
-of_kind kind e = cond (kind_number e == kind) 1 0
-
-pub count_cons : (kind : ℕ) (e : Statement) (entries : List Statement) → count_of_kind kind (e ∷ entries) ≡ of_kind kind e + count_of_kind kind entries
-count_cons kind e entries = sum_by-cons (of_kind kind) e entries
 
 count_append : (kind : ℕ) (xs ys : List Statement) → count_of_kind kind (xs ++ ys) ≡ count_of_kind kind xs + count_of_kind kind ys
 count_append kind xs ys = sum_by-append (of_kind kind) xs ys
@@ -342,9 +336,6 @@ kinds_bound kind = cond (0 == kind) 1 0 + (cond (2 == kind) 1 0 + (cond (1 == ki
 
 kind_differs : (m n kind : ℕ) → m < kind → cond (m == kind) n 0 ≡ 0
 kind_differs m n kind lt = grind (arith, nat_tests)
-
-pub some_of_kind : (kind : ℕ) → 1 ≤ most_of_kind kind
-some_of_kind kind = grind (arith, nat_tests)
 
 -- there is none beyond the last kind
 no_kind : (kind : ℕ) → 11 < kind → kinds_bound kind ≤ most_of_kind kind

@@ -27,7 +27,7 @@ matroid_same (Some x) None e = cc (e)
 matroid_same (Some x) (Some y) e = cc (e)
 
 -- a request grows one family
-family_same : (q : Request) (F G : Family) → Grows q F → Grows q G → F ≡ G
+pub family_same : (q : Request) (F G : Family) → Grows q F → Grows q G → F ≡ G
 family_same q F G a b =
     let factors : F.factors ≡ G.factors = a.factors_are ∙ sym b.factors_are in
     let ranks : F.rank ≡ G.rank = a.rank_is ∙ sym b.rank_is in
@@ -36,7 +36,7 @@ family_same q F G a b =
     λ i. record { factors = factors i; rank = ranks i; mode = modes i; forbidden = forbidden i }
 
 -- a request has one list of filters
-filters_same : (q : Request) (f g : Filters) → Keeps q f → Keeps q g → f ≡ g
+pub filters_same : (q : Request) (f g : Filters) → Keeps q f → Keeps q g → f ≡ g
 filters_same q f g a b =
     let connected : f.connected ≡ g.connected = a.connected ∙ sym b.connected in
     let three : f.three ≡ g.three = a.three ∙ sym b.three in

@@ -54,7 +54,7 @@ split_comma (x ∷ a) b (y ∷ c) d p q e =
 -- the columns of a matrix
 pub order_small : (order : ℕ) → IsOrder order → order < 14
 order_small =
-    by_order (λ order. order < 14) (lit< tt) (lit< tt) (lit< tt) (lit< tt) (lit< tt) (lit< tt) (lit< tt)
+    by_order (λ order. order < 14) (lit< tt) (lit< tt) (lit< tt) (lit< tt) (lit< tt) (lit< tt) (lit< tt) (lit< tt) (lit< tt)
 
 -- a letter from 48 up, and below 97 exactly where the code is below 10
 pub letter_from : (code : ℕ) → 48 ≤ entry_letter code

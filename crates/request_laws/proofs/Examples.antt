@@ -1,19 +1,21 @@
 -- Worked examples: the laws at a small request, and at a text that isn't one.
-use Rattle.std.proofs.Common.{◌≡◌, ℕ, ◌≤◌, refl, arith, List, [], ◌∷◌, inl, inr, ◌⊎◌, None, false, lit<, lit≤}
+use Rattle.std.proofs.Common.{◌≡◌, ℕ, zero, suc, ◌<◌, ◌≤◌, refl, arith, slice_index, List, [], ◌∷◌, inl, inr, ◌⊎◌, None, false, lit<, lit≤}
 use Rattle.std.specs.Prelude.{codes}
 use Rattle.std.specs.Fmt.{digits}
 use Rattle.std.proofs.lemmas.Bool.Decides.{nat_tests}
+use Rattle.matroid_theory.specs.declared.Mode.TheVariants.{Linear}
+use Rattle.matroid_theory.specs.Field.{IsOrder}
 use Rattle.matroid_theory.specs.Level.{Filters, IsListed}
 use Rattle.formats.specs.declared.refusal.PrintMode.TheVariants.{Forms}
 use Rattle.formats.specs.declared.refusal.Word.TheVariants.{Field}
 use Rattle.formats.specs.declared.refusal.Refusal.TheVariants as refusal
-use Rattle.formats.specs.Statement.{Statement, RankIs, FieldIs, SizeIs, all_forms}
+use Rattle.formats.specs.Statement.{Statement, RankIs, FieldIs, SizeIs}
 use Rattle.formats.specs.Request.{Request, StandsFor, count_of_kind}
 use Rattle.formats.specs.Statement.{most_of_kind}
 use Rattle.formats.specs.Refusal.{HasRefusal}
 use Rattle.formats.specs.Listing.{LevelEntry, text_of_statements, head_text, level_text, form_text, end_text}
 use Rattle.formats.specs.Levels.{IsLevelEntry, IsListing, columns_of}
-use Rattle.formats.proofs.Heads.{built_stands}
+use Rattle.formats.proofs.Heads.{small_stands}
 use Rattle.formats.proofs.OneListing.{listing_same}
 use Rattle.formats.proofs.Unique.{not_both, refusal_same}
 use Rattle.existence.proofs.Examples.{unit3, binary3, level3}
@@ -34,6 +36,8 @@ small = record {
   distinct = false;
   has = None;
   print = Forms;
+  mode = Linear;
+  version = 1;
 }
 
 small_text : List ℕ
@@ -43,9 +47,25 @@ small_text-spelled : small_text ≡ codes "field 2\nrank 3\nsize 3\n"
 unfolding small_text digits
 small_text-spelled = refl
 
-stands : StandsFor all_forms small_text small
-unfolding small_text
-stands = built_stands 2 3 (record { listed = (0, omega arith, refl) }) (omega arith, omega arith)
+small_often : (kind : ℕ) → count_of_kind kind (FieldIs (2 ∷ []) ∷ RankIs 3 ∷ SizeIs 3 ∷ []) ≤ most_of_kind kind
+small_often kind = grind (arith, nat_tests)
+
+factor : (f : ℕ) → f < 1 → IsOrder (slice_index (2 ∷ []) f)
+factor zero l = record { listed = (0, omega arith, refl) }
+factor (suc f) l = absurd (omega arith)
+
+stands : StandsFor small_text small
+unfolding small_text digits
+stands =
+    small_stands (FieldIs (2 ∷ []) ∷ RankIs 3 ∷ SizeIs 3 ∷ []) small refl
+    (record { may = record { some = lit< tt; few = lit≤ tt; fields = factor }; not_big = lit≤ tt }, record { may = lit< tt; not_big = lit≤ tt },
+    record { may = lit< tt; not_big = lit≤ tt }, tt)
+    ((lit≤ tt, tt), tt, tt, tt) (lit≤ tt) small_often
+    (record {
+      rank = refl; field = refl; size = refl; forbid = refl; connected = refl; three_connected = refl; cosimple = refl; distinct = refl; has = refl;
+      print = refl; mode = refl;
+    })
+    (record { rank = (lit≤ tt, lit≤ tt); size = (lit≤ tt, lit≤ tt); columns = lit≤ tt })
 
 abbrev no_filters : Filters
 no_filters = record { connected = false; three = false; cosimple = false; distinct = false; has = None }
@@ -65,7 +85,7 @@ entry3 = record { size = 3; classes = 1; listed = columns_of unit3 ∷ []; tried
 told : IsLevelEntry small entry3
 told = record {
   family = binary3;
-  grows = record { factors_are = refl; rank_is = refl; linear = refl; forbids = tt };
+  grows = record { factors_are = refl; rank_is = refl; mode_is = refl; forbids = tt };
   filters = no_filters;
   keeps = record { connected = refl; three = refl; cosimple = refl; distinct = refl; has = tt };
   forms = unit3 ∷ [];
@@ -95,12 +115,12 @@ listing_of_law : (w : HasListing small) → w.0 ≡ small_listing
 listing_of_law w = listing_same small w.0 _ w.1 listing
 
 small_has_listing : HasListing small
-small_has_listing = listing_exists all_forms small_text small stands
+small_has_listing = listing_exists small_text small stands
 
 -- and its text isn't refused
-small_answered : StandsForSome all_forms small_text ⊎ HasSomeRefusal all_forms small_text → StandsForSome all_forms small_text
+small_answered : StandsForSome small_text ⊎ HasSomeRefusal small_text → StandsForSome small_text
 small_answered (inl w) = w
-small_answered (inr w) = absurd (not_both all_forms small_text small w.0 stands w.1)
+small_answered (inr w) = absurd (not_both small_text small w.0 stands w.1)
 
 -- ---- a text without a field
 
@@ -110,17 +130,17 @@ lone = RankIs 3 ∷ []
 lone_often : (kind : ℕ) → count_of_kind kind lone ≤ most_of_kind kind
 lone_often kind = grind (arith, nat_tests)
 
-lone_refused : HasRefusal all_forms (codes "rank 3\n") (refusal.Missing Field)
+lone_refused : HasRefusal (codes "rank 3\n") (refusal.Missing Field)
 unfolding digits
 lone_refused = (
   lone,
   record {
     short = lit≤ tt;
-    said = record { may = (lit< tt, tt); are_read = (refl, tt); spelled = refl };
+    said = record { may = (lit< tt, tt); of_version = (tt, tt); spelled = refl };
     in_order = record { not_often = lone_often; not_big = (lit≤ tt, tt) };
   },
   ((λ e. cc), refl),
 )
 
-lone_answered : (w : HasSomeRefusal all_forms (codes "rank 3\n")) → w.0 ≡ refusal.Missing Field
-lone_answered w = refusal_same all_forms (codes "rank 3\n") w.0 (refusal.Missing Field) w.1 lone_refused
+lone_answered : (w : HasSomeRefusal (codes "rank 3\n")) → w.0 ≡ refusal.Missing Field
+lone_answered w = refusal_same (codes "rank 3\n") w.0 (refusal.Missing Field) w.1 lone_refused

@@ -1,5 +1,4 @@
 pub mod Minors
-pub mod Families
 pub mod Listings
 pub mod Said
 pub mod Walks

@@ -3,7 +3,6 @@ use Rattle.std.proofs.Common.{◌≡◌, ℕ, zero, suc, ◌+◌, refl, sym, ◌
 use Rattle.std.specs.Prelude.{filter_map, option_to_list}
 use Rattle.std.specs.List.{AllByRecursion, range_with_len}
 use Rattle.std.proofs.lemmas.Bool.{cases_lt}
-use Rattle.matroid_theory.specs.declared.Mode.TheVariants.{Linear}
 use Rattle.matroid_theory.specs.Minor.{Matroid}
 use Rattle.matroid_theory.specs.Level.{Family, Filters}
 use Rattle.formats.specs.Statement.{MinorName, Statement, Forbids, ListsWith, IsMinorName, IsStatement}
@@ -32,8 +31,8 @@ wanted_may (ListsWith m ∷ es) all = (all.0, wanted_may es all.1)
 wanted_may (_ ∷ es) all = wanted_may es all.1
 
 -- so the minors of a request that a text stands for are names of matroids
-pub stands_names : (forms : Statement → Bool) (text : List ℕ) (q : Request) → StandsFor forms text q → NamesMinors q
-stands_names forms text q s = record {
+pub stands_names : (text : List ℕ) (q : Request) → StandsFor text q → NamesMinors q
+stands_names text q s = record {
   forbid = subst (AllByRecursion IsMinorName) s.asked.forbid (forbidden_may s.entries s.said.may);
   has = subst (AllByRecursion IsMinorName) s.asked.has (wanted_may s.entries s.said.may);
 }
@@ -52,8 +51,8 @@ wanted_exists (Some m) all = let N = minor_exists m all.0 in (Some N.0, (N.1, tt
 pub family_exists : (q : Request) → NamesMinors q → (family : Family) × Grows q family
 family_exists q names =
     let Ns = matroids_exist q.forbid names.forbid in (
-      record { factors = q.factors; rank = q.rank; mode = Linear; forbidden = Ns.0 },
-      record { factors_are = refl; rank_is = refl; linear = refl; forbids = Ns.1 },
+      record { factors = q.factors; rank = q.rank; mode = q.mode; forbidden = Ns.0 },
+      record { factors_are = refl; rank_is = refl; mode_is = refl; forbids = Ns.1 },
     )
 
 pub filters_exist : (q : Request) → NamesMinors q → (filters : Filters) × Keeps q filters
@@ -127,16 +126,16 @@ module _ (q : Request) (names : NamesMinors q) where
       )
 
 -- so there is a listing
-pub listing_exists : (forms : Statement → Bool) (text : List ℕ) (q : Request) → StandsFor forms text q → (listing : List ℕ) × IsListing q listing
-listing_exists forms text q s =
-    let w = levels_exist q (stands_names forms text q s) in
+pub listing_exists : (text : List ℕ) (q : Request) → StandsFor text q → (listing : List ℕ) × IsListing q listing
+listing_exists text q s =
+    let w = levels_exist q (stands_names text q s) in
     (text_of_blocks (listing_blocks q w.0), record { levels = w.0; are = w.1; is = refl })
 
 -- and what is less than it is a front of it
-pub cut_is_front_of_listing : (forms : Statement → Bool) (text : List ℕ) (q : Request) (whole : ℕ) (written : List ℕ) → StandsFor forms text q
+pub cut_is_front_of_listing : (text : List ℕ) (q : Request) (whole : ℕ) (written : List ℕ) → StandsFor text q
     → IsListingCutOff q whole written → IsFrontOfListing q written
-cut_is_front_of_listing forms text q whole written s c = let w = listing_exists forms text q s in (w.0, w.1, cut_is_front q w.0 written whole w.1 c)
+cut_is_front_of_listing text q whole written s c = let w = listing_exists text q s in (w.0, w.1, cut_is_front q w.0 written whole w.1 c)
 
-pub up_to_is_front_of_listing : (forms : Statement → Bool) (text : List ℕ) (q : Request) (whole : ℕ) (written : List ℕ) → StandsFor forms text q
+pub up_to_is_front_of_listing : (text : List ℕ) (q : Request) (whole : ℕ) (written : List ℕ) → StandsFor text q
     → IsListingUpTo q whole written → IsFrontOfListing q written
-up_to_is_front_of_listing forms text q whole written s c = let w = listing_exists forms text q s in (w.0, w.1, up_to_is_front q w.0 written whole w.1 c)
+up_to_is_front_of_listing text q whole written s c = let w = listing_exists text q s in (w.0, w.1, up_to_is_front q w.0 written whole w.1 c)

@@ -4,13 +4,14 @@ use Rattle.std.specs.Prelude.{flat_map}
 use Rattle.std.specs.List.{AllByRecursion, range_with_len}
 use Rattle.std.proofs.lemmas.List.{length-map}
 use Rattle.matroid_theory.specs.Field.{orders, IsOrder, IsFactors}
+use Rattle.matroid_theory.specs.declared.Mode.TheVariants.{Linear, Semilinear}
 use Rattle.formats.specs.declared.refusal.PrintMode.TheVariants.{Forms, Counts}
 use Rattle.formats.specs.Statement.{MinorName, Uniform, Fano, FanoDual, NonFano, KFour, KFive, ByMatrix, IsNumber, IsUniform, IsMatrix, IsMinorName}
-use Rattle.formats.specs.Statement.{Statement, Version, RankIs, FieldIs, SizeIs, Forbids}
+use Rattle.formats.specs.Statement.{Statement, VersionIs, RankIs, FieldIs, SizeIs, EquivalenceIs, Forbids}
 use Rattle.formats.specs.Statement.{ListsConnected, ListsThreeConnected, ListsCosimple, ListsDistinct, ListsWith, Prints}
-use Rattle.formats.specs.Statement.{IsStatement, column_word, spelling, Says}
+use Rattle.formats.specs.Statement.{IsStatement, IsOfVersion, most_order, order_of_minor, column_word, spelling, Says}
 use Rattle.existence.specs.Decided.{IsDecided}
-use Rattle.existence.proofs.Deciding.{IsIn, along, both, less, at_most, equal, equal_lists, is_set, some_below, each_below, some_in, from_contains, place_of}
+use Rattle.existence.proofs.Deciding.{IsIn, along, both, less, at_most, equal, equal_lists, some_below, each_below, some_in, from_contains, place_of}
 use Rattle.existence.proofs.Covers.{words, in_words, in_flat, in_range}
 use Rattle.existence.proofs.AllReps.{small}
 use Rattle.existence.proofs.Shaped.{order_decided}
@@ -49,12 +50,20 @@ minor_name_decided (ByMatrix order columns) = matrix_decided order columns
 minor_name_decided _ = inl tt
 
 statement_decided : (e : Statement) → IsDecided (IsStatement e)
+statement_decided (VersionIs n) = less n (10 ^ 9)
 statement_decided (RankIs n) = less n (10 ^ 9)
 statement_decided (SizeIs n) = less n (10 ^ 9)
 statement_decided (FieldIs factors) = factors_decided factors
 statement_decided (Forbids minor) = minor_name_decided minor
 statement_decided (ListsWith minor) = minor_name_decided minor
 statement_decided _ = inl tt
+
+version_decided : (version : ℕ) (e : Statement) → IsDecided (IsOfVersion version e)
+version_decided version (VersionIs n) = equal n version
+version_decided version (FieldIs factors) = each_decided _ (λ order. at_most order (most_order version)) factors
+version_decided version (Forbids minor) = at_most (order_of_minor minor) (most_order version)
+version_decided version (ListsWith minor) = at_most (order_of_minor minor) (most_order version)
+version_decided version _ = inl tt
 
 -- ---- lists of columns
 
@@ -78,37 +87,37 @@ in_short order columns w column i =
     (in_words (range_with_len 0 16) w.height.0 column l (λ c j. (let b : c < order = all_at (λ code. code < order) column codes c j in
     let s : order < 16 = small order w.is_order in in_range 16 0 c (omega arith) (omega arith))))
 
-module _ (forms : Statement → Bool) (line : List (List ℕ)) where
-  one_said : (e : Statement) → IsDecided (Says forms line e)
+module _ (version : ℕ) (line : List (List ℕ)) where
+  one_said : (e : Statement) → IsDecided (Says version line e)
   one_said e =
-      along (both (statement_decided e) (λ _. both (is_set (forms e)) (λ _. equal_lists (equal_lists equal) line (spelling e))))
-      (λ w. record { may = w.0; is_read = w.1.0; spelled = w.1.1 }) (λ s. (s.may, (s.is_read, s.spelled)))
+      along (both (statement_decided e) (λ _. both (version_decided version e) (λ _. equal_lists (equal_lists equal) line (spelling e))))
+      (λ w. record { may = w.0; of_version = w.1.0; spelled = w.1.1 }) (λ s. (s.may, (s.of_version, s.spelled)))
 
   -- ---- the lines that name a matroid
 
   module _ (made : MinorName → Statement) (named : (m : MinorName) → IsStatement (made m) → IsMinorName m) (long : (order : ℕ) (columns : List (List ℕ))
       → length columns ≤ length (spelling (made (ByMatrix order columns)))) where
-    uniform_said : IsDecided ((rank : ℕ) × (rank < 10 ^ 9) × ((size : ℕ) × (size < 10 ^ 9) × Says forms line (made (Uniform rank size))))
-    uniform_said = some_below (10 ^ 9) _ (λ rank _. some_below (10 ^ 9) (λ size. Says forms line (made (Uniform rank size)))
+    uniform_said : IsDecided ((rank : ℕ) × (rank < 10 ^ 9) × ((size : ℕ) × (size < 10 ^ 9) × Says version line (made (Uniform rank size))))
+    uniform_said = some_below (10 ^ 9) _ (λ rank _. some_below (10 ^ 9) (λ size. Says version line (made (Uniform rank size)))
         (λ size _. one_said (made (Uniform rank size))))
 
     matrix_said : IsDecided ((order : ℕ) × (order < 16) × ((n : ℕ) × (n < length line + 1) ×
-        ((columns : List (List ℕ)) × IsIn columns (words short_columns n) × Says forms line (made (ByMatrix order columns)))))
+        ((columns : List (List ℕ)) × IsIn columns (words short_columns n) × Says version line (made (ByMatrix order columns)))))
     matrix_said = some_below 16 _ (λ order _. some_below (length line + 1) _ (λ n _. some_in (words short_columns n)
-        (λ columns. Says forms line (made (ByMatrix order columns))) (λ columns. one_said (made (ByMatrix order columns)))))
+        (λ columns. Says version line (made (ByMatrix order columns))) (λ columns. one_said (made (ByMatrix order columns)))))
 
     -- no name of a matroid is said
     record NoName : Type 0 where
-      uniform : ¬ ((rank : ℕ) × (rank < 10 ^ 9) × ((size : ℕ) × (size < 10 ^ 9) × Says forms line (made (Uniform rank size))))
-      fano : ¬ (Says forms line (made Fano))
-      fano_dual : ¬ (Says forms line (made FanoDual))
-      non_fano : ¬ (Says forms line (made NonFano))
-      k_four : ¬ (Says forms line (made KFour))
-      k_five : ¬ (Says forms line (made KFive))
+      uniform : ¬ ((rank : ℕ) × (rank < 10 ^ 9) × ((size : ℕ) × (size < 10 ^ 9) × Says version line (made (Uniform rank size))))
+      fano : ¬ (Says version line (made Fano))
+      fano_dual : ¬ (Says version line (made FanoDual))
+      non_fano : ¬ (Says version line (made NonFano))
+      k_four : ¬ (Says version line (made KFour))
+      k_five : ¬ (Says version line (made KFive))
       matrix : ¬ ((order : ℕ) × (order < 16) × ((n : ℕ) × (n < length line + 1) × ((columns : List (List ℕ)) × IsIn columns
-          (words short_columns n) × Says forms line (made (ByMatrix order columns)))))
+          (words short_columns n) × Says version line (made (ByMatrix order columns)))))
 
-    none_said : NoName → (m : MinorName) → ¬ (Says forms line (made m))
+    none_said : NoName → (m : MinorName) → ¬ (Says version line (made m))
     none_said w (Uniform rank size) s = (let u = named (Uniform rank size) s.may in let l = u.low in let h = u.short in
         w.uniform (rank, omega arith, (size, h, s)))
     none_said w Fano s = w.fano s
@@ -134,7 +143,7 @@ module _ (forms : Statement → Bool) (line : List (List ℕ)) where
           ),
         )
 
-    minor_said : IsDecided ((m : MinorName) × Says forms line (made m))
+    minor_said : IsDecided ((m : MinorName) × Says version line (made m))
     minor_said = elim uniform_said [
       | inl w ↦ inl (Uniform w.0 w.2.0, w.2.2)
       | inr n0 ↦ elim (one_said (made Fano)) [
@@ -169,16 +178,16 @@ module _ (forms : Statement → Bool) (line : List (List ℕ)) where
   -- ---- the other lines
 
   -- the lines of one number
-  number_said : (made : ℕ → Statement) → ((n : ℕ) → IsStatement (made n) → IsNumber n) → IsDecided ((n : ℕ) × Says forms line (made n))
+  number_said : (made : ℕ → Statement) → ((n : ℕ) → IsStatement (made n) → IsNumber n) → IsDecided ((n : ℕ) × Says version line (made n))
   number_said made small =
-      along (some_below (10 ^ 9) (λ n. Says forms line (made n)) (λ n _. one_said (made n))) (λ w. (w.0, w.2))
+      along (some_below (10 ^ 9) (λ n. Says version line (made n)) (λ n _. one_said (made n))) (λ w. (w.0, w.2))
       (λ w. (w.0, small w.0 (let s = w.1 in s.may), w.1))
 
   -- the lines of one to three orders
-  field_said : IsDecided ((fs : List ℕ) × Says forms line (FieldIs fs))
+  field_said : IsDecided ((fs : List ℕ) × Says version line (FieldIs fs))
   field_said =
-      along (some_below 4 (λ n. (fs : List ℕ) × IsIn fs (words orders n) × Says forms line (FieldIs fs))
-      (λ n _. some_in (words orders n) (λ fs. Says forms line (FieldIs fs)) (λ fs. one_said (FieldIs fs))))
+      along (some_below 4 (λ n. (fs : List ℕ) × IsIn fs (words orders n) × Says version line (FieldIs fs))
+      (λ n _. some_in (words orders n) (λ fs. Says version line (FieldIs fs)) (λ fs. one_said (FieldIs fs))))
       (λ w. (w.2.0, w.2.2))
       (λ w. (let s = w.1 in let m = s.may in let few = m.few in (
         length w.0,
@@ -193,22 +202,26 @@ module _ (forms : Statement → Bool) (line : List (List ℕ)) where
 
   -- the words say no statement of any kind
   record NoneSaid : Type 0 where
-    version : ¬ (Says forms line Version)
-    rank : ¬ ((n : ℕ) × Says forms line (RankIs n))
-    field : ¬ ((fs : List ℕ) × Says forms line (FieldIs fs))
-    size : ¬ ((n : ℕ) × Says forms line (SizeIs n))
-    forbids : ¬ ((m : MinorName) × Says forms line (Forbids m))
-    connected : ¬ (Says forms line ListsConnected)
-    three : ¬ (Says forms line ListsThreeConnected)
-    cosimple : ¬ (Says forms line ListsCosimple)
-    distinct : ¬ (Says forms line ListsDistinct)
-    has : ¬ ((m : MinorName) × Says forms line (ListsWith m))
-    prints_forms : ¬ (Says forms line (Prints Forms))
-    prints_counts : ¬ (Says forms line (Prints Counts))
+    version_line : ¬ ((n : ℕ) × Says version line (VersionIs n))
+    linear : ¬ (Says version line (EquivalenceIs Linear))
+    semilinear : ¬ (Says version line (EquivalenceIs Semilinear))
+    rank : ¬ ((n : ℕ) × Says version line (RankIs n))
+    field : ¬ ((fs : List ℕ) × Says version line (FieldIs fs))
+    size : ¬ ((n : ℕ) × Says version line (SizeIs n))
+    forbids : ¬ ((m : MinorName) × Says version line (Forbids m))
+    connected : ¬ (Says version line ListsConnected)
+    three : ¬ (Says version line ListsThreeConnected)
+    cosimple : ¬ (Says version line ListsCosimple)
+    distinct : ¬ (Says version line ListsDistinct)
+    has : ¬ ((m : MinorName) × Says version line (ListsWith m))
+    prints_forms : ¬ (Says version line (Prints Forms))
+    prints_counts : ¬ (Says version line (Prints Counts))
 
   -- so they say nothing
-  nothing_said : NoneSaid → (e : Statement) → ¬ (Says forms line e)
-  nothing_said w Version s = w.version s
+  nothing_said : NoneSaid → (e : Statement) → ¬ (Says version line e)
+  nothing_said w (VersionIs n) s = w.version_line (n, s)
+  nothing_said w (EquivalenceIs Linear) s = w.linear s
+  nothing_said w (EquivalenceIs Semilinear) s = w.semilinear s
   nothing_said w (RankIs n) s = w.rank (n, s)
   nothing_said w (FieldIs fs) s = w.field (fs, s)
   nothing_said w (SizeIs n) s = w.size (n, s)
@@ -222,9 +235,9 @@ module _ (forms : Statement → Bool) (line : List (List ℕ)) where
   nothing_said w (Prints Counts) s = w.prints_counts s
 
   -- kind by kind
-  pub said_decided : IsDecided ((e : Statement) × Says forms line e)
-  said_decided = elim (one_said Version) [
-    | inl s ↦ inl (Version, s)
+  pub said_decided : IsDecided ((e : Statement) × Says version line e)
+  said_decided = elim (number_said VersionIs (λ n m. m)) [
+    | inl w ↦ inl (VersionIs w.0, w.1)
     | inr n0 ↦ elim (number_said RankIs (λ n m. m)) [
       | inl w ↦ inl (RankIs w.0, w.1)
       | inr n1 ↦ elim field_said [
@@ -249,20 +262,28 @@ module _ (forms : Statement → Bool) (line : List (List ℕ)) where
                                 | inl s ↦ inl (Prints Forms, s)
                                 | inr n10 ↦ elim (one_said (Prints Counts)) [
                                   | inl s ↦ inl (Prints Counts, s)
-                                  | inr n11 ↦ inr (λ w. nothing_said (record {
-                                    version = n0;
-                                    rank = n1;
-                                    field = n2;
-                                    size = n3;
-                                    forbids = n4;
-                                    has = n5;
-                                    connected = n6;
-                                    three = n7;
-                                    cosimple = n8;
-                                    distinct = n9;
-                                    prints_forms = n10;
-                                    prints_counts = n11;
-                                  }) w.0 w.1)
+                                  | inr n11 ↦ elim (one_said (EquivalenceIs Linear)) [
+                                    | inl s ↦ inl (EquivalenceIs Linear, s)
+                                    | inr n12 ↦ elim (one_said (EquivalenceIs Semilinear)) [
+                                      | inl s ↦ inl (EquivalenceIs Semilinear, s)
+                                      | inr n13 ↦ inr (λ w. nothing_said (record {
+                                        version_line = n0;
+                                        rank = n1;
+                                        field = n2;
+                                        size = n3;
+                                        forbids = n4;
+                                        has = n5;
+                                        connected = n6;
+                                        three = n7;
+                                        cosimple = n8;
+                                        distinct = n9;
+                                        prints_forms = n10;
+                                        prints_counts = n11;
+                                        linear = n12;
+                                        semilinear = n13;
+                                      }) w.0 w.1)
+                                    ]
+                                  ]
                                 ]
                               ]
                             ]

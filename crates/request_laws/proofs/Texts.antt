@@ -3,38 +3,19 @@ use Rattle.std.proofs.Common.{◌≡◌, ℕ, ◌+◌, ◌≤◌, refl, arith, B
 use Rattle.std.specs.Prelude.{filter_map, option_to_list, if◌then◌else◌}
 use Rattle.std.specs.List.{list_any}
 use Rattle.std.proofs.lemmas.Bool.{cases_lt}
+use Rattle.matroid_theory.specs.declared.Mode.TheVariants.{Linear, Semilinear}
 use Rattle.formats.specs.declared.refusal.PrintMode.TheVariants.{Forms, Counts}
 use Rattle.formats.specs.declared.refusal.Word.TheVariants.{Rank, Field, Size}
 use Rattle.formats.specs.declared.refusal.Refusal.{Refusal}
 use Rattle.formats.specs.declared.refusal.Refusal.TheVariants as refusal
 use Rattle.formats.specs.Lines.{lines_of}
-use Rattle.formats.specs.Statement.{MinorName, Statement, RankIs, FieldIs, SizeIs, ListsConnected, ListsThreeConnected, ListsCosimple, ListsDistinct, ListsWith}
-use Rattle.formats.specs.Request.{Request, count_of_kind, rank_in, field_in, size_in, forbidden_in}
-use Rattle.formats.specs.Request.{wanted_in, has_kind, prints_counts, column_count, most_bytes, most_columns, StandsFor}
+use Rattle.formats.specs.Statement.{MinorName, Statement, ListsConnected, ListsThreeConnected, ListsCosimple, ListsDistinct}
+use Rattle.formats.specs.Request.{Request, version_of, rank_in, field_in, size_in, forbidden_in}
+use Rattle.formats.specs.Request.{wanted_in, has_kind, prints_counts, asks_semilinear, column_count, most_bytes, most_columns, StandsFor}
 use Rattle.formats.specs.Refusal.{Fault, NoForm, Again, NinthForbid, TooBig, FirstFault, NoFault, AreValues, HasValues, HasRefusal}
+use Rattle.formats.proofs.KindCounts.{rank_count, field_count, size_count, wanted_count}
 use Rattle.existence.proofs.Deciding.{both, at_most}
-use Rattle.request_laws.proofs.Walks.{AtFault, lines_walked, count_cons}
-
--- as many statements of a kind as values of it
-rank_count : (es : List Statement) → count_of_kind 1 es ≡ length (filter_map rank_in es)
-rank_count [] = refl
-rank_count (RankIs n ∷ es) = omega (arith, count_cons 1 (RankIs n) es, rank_count es)
-rank_count (e ∷ es) = omega (arith, count_cons 1 e es, rank_count es)
-
-field_count : (es : List Statement) → count_of_kind 2 es ≡ length (filter_map field_in es)
-field_count [] = refl
-field_count (FieldIs n ∷ es) = omega (arith, count_cons 2 (FieldIs n) es, field_count es)
-field_count (e ∷ es) = omega (arith, count_cons 2 e es, field_count es)
-
-size_count : (es : List Statement) → count_of_kind 3 es ≡ length (filter_map size_in es)
-size_count [] = refl
-size_count (SizeIs n ∷ es) = omega (arith, count_cons 3 (SizeIs n) es, size_count es)
-size_count (e ∷ es) = omega (arith, count_cons 3 e es, size_count es)
-
-wanted_count : (es : List Statement) → count_of_kind 9 es ≡ length (filter_map wanted_in es)
-wanted_count [] = refl
-wanted_count (ListsWith minor ∷ es) = omega (arith, count_cons 9 (ListsWith minor) es, wanted_count es)
-wanted_count (e ∷ es) = omega (arith, count_cons 9 e es, wanted_count es)
+use Rattle.request_laws.proofs.Walks.{AtFault, lines_walked}
 
 -- a list of one element at most
 one_or_none : {X : Type 0} (xs : List X) → length xs ≤ 1 → (xs ≡ []) ⊎ ((x : X) × (xs ≡ x ∷ []))
@@ -52,12 +33,12 @@ as_option [] l = (None, refl)
 as_option (x ∷ []) l = (Some x, refl)
 as_option (x ∷ y ∷ xs) l = absurd (omega arith)
 
-module _ (forms : Statement → Bool) (text : List ℕ) where
+module _ (text : List ℕ) where
   abbrev Answered : Type 0
-  Answered = ((q : Request) × StandsFor forms text q) ⊎ ((why : Refusal) × HasRefusal forms text why)
+  Answered = ((q : Request) × StandsFor text q) ⊎ ((why : Refusal) × HasRefusal text why)
 
   -- the refusal of a line at fault
-  at_line : (short : length text ≤ most_bytes) (w : AtFault forms (lines_of text)) → (fault : Fault) → FirstFault forms text (length w.before + 1) fault
+  at_line : (short : length text ≤ most_bytes) (w : AtFault (version_of text) (lines_of text)) → (fault : Fault) → FirstFault text (length w.before + 1) fault
       → Answered
   at_line short w NoForm f = inr (refusal.BadLine (length w.before + 1), f)
   at_line short w Again f = inr (refusal.Twice (length w.before + 1), f)
@@ -65,7 +46,7 @@ module _ (forms : Statement → Bool) (text : List ℕ) where
   at_line short w TooBig f = inr (refusal.ForbidTooBig (length w.before + 1), f)
 
   -- a text with a line at fault is refused
-  faulty : length text ≤ most_bytes → AtFault forms (lines_of text) → Answered
+  faulty : length text ≤ most_bytes → AtFault (version_of text) (lines_of text) → Answered
   faulty short w = at_line short w w.fault (record {
     short = short;
     before = w.before;
@@ -80,7 +61,7 @@ module _ (forms : Statement → Bool) (text : List ℕ) where
     wrong = w.wrong;
   })
 
-  module _ (es : List Statement) (none : NoFault forms text es) where
+  module _ (es : List Statement) (none : NoFault text es) where
     with_values : (rank : ℕ) (factors : List ℕ) (size : ℕ) → AreValues es rank factors size → Answered
     with_values rank factors size v = elim (both (at_most 1 rank) (λ _. at_most rank 6)) [
       | inr bad ↦ inr (refusal.Rank rank, (factors, size, values, λ w. bad (w.0, w.1)))
@@ -92,6 +73,7 @@ module _ (forms : Statement → Bool) (text : List ℕ) where
             request,
             record {
               short = none.short;
+              version = refl;
               entries = es;
               said = none.said;
               in_order = none.in_order;
@@ -106,6 +88,7 @@ module _ (forms : Statement → Bool) (text : List ℕ) where
                 distinct = refl;
                 has = wanted.1;
                 print = refl;
+                mode = refl;
               };
               limits = record { rank = (r.0, r.1); size = (s.0, s.1); columns = few };
             },
@@ -114,7 +97,7 @@ module _ (forms : Statement → Bool) (text : List ℕ) where
       ]
     ]
       where
-        values : HasValues forms text rank factors size
+        values : HasValues text rank factors size
         values = record { entries = es; none = none; values = v }
 
         wanted : (o : Option MinorName) × (filter_map wanted_in es ≡ option_to_list o)
@@ -132,6 +115,8 @@ module _ (forms : Statement → Bool) (text : List ℕ) where
           distinct = has_kind ListsDistinct es;
           has = wanted.0;
           print = if list_any prints_counts es then Counts else Forms;
+          mode = if list_any asks_semilinear es then Semilinear else Linear;
+          version = version_of text;
         }
 
     in_order : Answered
@@ -152,7 +137,7 @@ module _ (forms : Statement → Bool) (text : List ℕ) where
   pub answered : Answered
   answered = elim (cases_lt most_bytes (length text)) [
     | inl long ↦ inr (refusal.TooLong, long)
-    | inr short ↦ elim (lines_walked forms (lines_of text)) [
+    | inr short ↦ elim (lines_walked (version_of text) (lines_of text)) [
       | inl w ↦ in_order w.said (record { short = short; said = w.says; in_order = w.in_order })
       | inr w ↦ faulty short w
     ]

@@ -10,12 +10,12 @@ use Rattle.formats.specs.Listing.{LevelEntry}
 use Rattle.formats.specs.Levels.{Grows, Keeps, IsLevelEntry, IsListing, IsProperFront}
 
 -- the text stands for some request
-abbrev pub StandsForSome : (Statement → Bool) → List ℕ → Type 0
-StandsForSome forms text = (q : Request) × StandsFor forms text q
+abbrev pub StandsForSome : List ℕ → Type 0
+StandsForSome text = (q : Request) × StandsFor text q
 
 -- the text has some refusal
-abbrev pub HasSomeRefusal : (Statement → Bool) → List ℕ → Type 0
-HasSomeRefusal forms text = (why : Refusal) × HasRefusal forms text why
+abbrev pub HasSomeRefusal : List ℕ → Type 0
+HasSomeRefusal text = (why : Refusal) × HasRefusal text why
 
 -- the minors of the request are such that a line can name them
 pub record NamesMinors (q : Request) : Type 0 where

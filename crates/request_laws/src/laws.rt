@@ -8,9 +8,9 @@ ghost use Rattle.formats.specs.Levels.{Grows, Keeps, IsListingUpTo, IsListingCut
 ghost use Rattle.existence.specs.Exists.{HasMatroid};
 ghost use Rattle.request_laws.specs.Answered.{StandsForSome, HasSomeRefusal, NamesMinors, HasFamily, HasFilters, HasLevelEntry, HasListing, IsFrontOfListing};
 
-/// Each text stands for a request or has a refusal, whichever forms are read.
+/// Each text stands for a request or has a refusal.
 pub fn each_text_is_answered()
-    ensures { (forms : Statement → Bool) (text : List ℕ) → StandsForSome forms text ⊎ HasSomeRefusal forms text }
+    ensures { (text : List ℕ) → StandsForSome text ⊎ HasSomeRefusal text }
 {}
 
 /// Each minor that a line can name has its matroid.
@@ -21,7 +21,7 @@ pub fn each_minor_has_its_matroid()
 /// A request that a text stands for has minors that a line can name, and such a request grows exactly one family and has
 /// exactly one list of filters. So what holds for every family that it grows holds for one.
 pub fn each_request_grows_one_family()
-    ensures names { (forms : Statement → Bool) (text : List ℕ) (q : Request) → StandsFor forms text q → NamesMinors q }
+    ensures names { (text : List ℕ) (q : Request) → StandsFor text q → NamesMinors q }
     ensures family { (q : Request) → NamesMinors q → HasFamily q }
     ensures one_family { (q : Request) (family other : Family) → Grows q family → Grows q other → family ≡ other }
     ensures filters { (q : Request) → NamesMinors q → HasFilters q }
@@ -31,10 +31,10 @@ pub fn each_request_grows_one_family()
 /// Each request that a text stands for has a listing, which tells of each of its sizes. What is cut off, and what ends
 /// after some of the levels, is a proper front of that listing.
 pub fn each_request_has_a_listing()
-    ensures listing { (forms : Statement → Bool) (text : List ℕ) (q : Request) → StandsFor forms text q → HasListing q }
+    ensures listing { (text : List ℕ) (q : Request) → StandsFor text q → HasListing q }
     ensures entry { (q : Request) (n : ℕ) → NamesMinors q → HasLevelEntry q n }
-    ensures cut { (forms : Statement → Bool) (text : List ℕ) (q : Request) (whole : ℕ) (written : List ℕ) →
-        StandsFor forms text q → IsListingCutOff q whole written → IsFrontOfListing q written }
-    ensures up_to { (forms : Statement → Bool) (text : List ℕ) (q : Request) (whole : ℕ) (written : List ℕ) →
-        StandsFor forms text q → IsListingUpTo q whole written → IsFrontOfListing q written }
+    ensures cut { (text : List ℕ) (q : Request) (whole : ℕ) (written : List ℕ) →
+        StandsFor text q → IsListingCutOff q whole written → IsFrontOfListing q written }
+    ensures up_to { (text : List ℕ) (q : Request) (whole : ℕ) (written : List ℕ) →
+        StandsFor text q → IsListingUpTo q whole written → IsFrontOfListing q written }
 {}
