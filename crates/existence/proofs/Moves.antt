@@ -139,7 +139,7 @@ move_of_tables t = record { power = t.0.0; scalar = t.0.1; rows = t.1.0.0; back 
 -- each degree is below 16
 degree_small : (q : ℕ) → IsOrder q → degree q < 16
 unfolding degree
-degree_small = by_order (λ q. degree q < 16) (lit< tt) (lit< tt) (lit< tt) (lit< tt) (lit< tt) (lit< tt) (lit< tt)
+degree_small = by_order (λ q. degree q < 16) (lit< tt) (lit< tt) (lit< tt) (lit< tt) (lit< tt) (lit< tt) (lit< tt) (lit< tt) (lit< tt)
 
 module _ (S : Shape) (orders : (f : ℕ) → f < length S.factors → IsOrder (slice_index S.factors f)) where
   abbrev codes16 : List ℕ

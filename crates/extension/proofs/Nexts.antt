@@ -1,14 +1,14 @@
 -- The first normalised column after a normalised column.
-use Rattle.std.proofs.Common.{◌≡◌, ◌≢◌, ℕ, ◌+◌, ◌*◌, ◌/◌, ◌%◌, ◌<◌, ◌≤◌, ◌⊎◌, refl, sym, ◌∙◌, ap, subst, arith, List, [], length, slice_index, inl, inr, lit≤}
+use Rattle.std.proofs.Common.{◌≡◌, ◌≢◌, ℕ, ◌+◌, ◌*◌, ◌/◌, ◌%◌, ◌<◌, ◌≤◌, ◌⊎◌, refl, sym, ◌∙◌, ap, subst, arith, List, [], length, slice_index, inl, inr}
 use Rattle.std.specs.Cmp.Lexicographic.{slice_cmp}
 use Rattle.std.specs.Ordering.{nat_cmp}
 use Rattle.std.specs.declared.cmp.Ordering.TheVariants.{Less, Greater}
 use Rattle.std.proofs.lemmas.Bool.{cases_lt, cases_eq}
 use Rattle.std.proofs.lemmas.Nat.{div-mul-add, mod-mul-add, mul-add-lt}
-use Rattle.matroid_theory.specs.Field.{IsOrder, IsFactors, IsField}
+use Rattle.matroid_theory.specs.Field.{IsFactors, IsField}
 use Rattle.matroid_theory.specs.Rep.{IsProductColumn}
 use Rattle.matroid_theory.specs.Level.{IsNormalised}
-use Rattle.matroid_theory.proofs.FieldLaws.{by_order, field_laws}
+use Rattle.matroid_theory.proofs.FieldLaws.{order_most, field_laws}
 use Rattle.matroid_theory.proofs.First.{whole, row_below}
 use Rattle.extension.specs.Steps.{IsStart, CanRise, IsLastRise, IsLead, IsRaised, IsNextNormalised, IsLastNormalised}
 use Rattle.extension.proofs.Places.{DiffersAt, first_difference, differing_less, not_greater}
@@ -16,9 +16,6 @@ use Rattle.extension.proofs.Places.{DiffersAt, first_difference, differing_less,
 -- a place of an earlier row comes before a later row
 row_before : (a b c f : ℕ) → a < b → f < c → a * c + f < b * c
 row_before a b c f l m = let h : a * c + f < c * b = mul-add-lt a c f b l m in omega arith
-
-pub order_most : (q : ℕ) → IsOrder q → q ≤ 9
-order_most = by_order (λ q. q ≤ 9) (lit≤ tt) (lit≤ tt) (lit≤ tt) (lit≤ tt) (lit≤ tt) (lit≤ tt) (lit≤ tt)
 
 module _ (factors : List ℕ) (fs : IsFactors factors) (rank : ℕ) where
   abbrev count : ℕ
@@ -285,7 +282,7 @@ module _ (factors : List ℕ) (fs : IsFactors factors) (rank : ℕ) where
     | inl z ↦ omega arith
     | inr n ↦ (let c : CanRise factors lead v k = last.can_rise in
         let b : slice_index v k + 1 < slice_index factors (k % count) = c.below n in
-        let m : slice_index factors (k % count) ≤ 9 = order_most (slice_index factors (k % count)) (fs.fields (k % count) (factor_below k)) in omega arith)
+        let m : slice_index factors (k % count) ≤ 13 = order_most (slice_index factors (k % count)) (fs.fields (k % count) (factor_below k)) in omega arith)
   ]
 
   -- ---- the order

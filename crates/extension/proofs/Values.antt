@@ -1,36 +1,38 @@
--- Columns as numbers: those of a later column are greater, and all are below 10 to the 18.
+-- Columns as numbers: those of a later column are greater, and there is a number above all.
 use Rattle.std.proofs.Common.{◌≡◌, ℕ, zero, suc, ◌+◌, ◌-◌, ◌*◌, ◌/◌, ◌%◌, ◌^◌, ◌<◌, ◌≤◌, refl, sym, ◌∙◌, ap, subst, arith, List, [], ◌∷◌, length, slice_index, inl, inr, lit<}
 use Rattle.std.specs.Cmp.Lexicographic.{slice_cmp}
 use Rattle.std.specs.Ordering.{nat_cmp, ordering_then}
 use Rattle.std.specs.declared.cmp.Ordering.TheVariants.{Less, Greater}
+use Rattle.std.proofs.lemmas.Bool.{cases_eq}
 use Rattle.std.proofs.lemmas.Cmp.{ranked, by_ranked}
 use Rattle.std.proofs.lemmas.Nat.{mul-add-lt}
 use Rattle.std.proofs.Math.Nat.{mul-le-mul, le_refl, pow-succ', pow-le-pow_right, one-le-pow}
 use Rattle.matroid_theory.specs.Field.{IsFactors}
 use Rattle.matroid_theory.specs.Rep.{IsProductColumn}
 use Rattle.matroid_theory.specs.Level.{IsNormalised}
+use Rattle.matroid_theory.proofs.FieldLaws.{order_most}
 use Rattle.matroid_theory.proofs.First.{whole, row_below}
-use Rattle.extension.specs.Admissible.{value}
+use Rattle.extension.specs.Admissible.{value, above_values}
 use Rattle.extension.specs.Steps.{IsStart}
-use Rattle.extension.proofs.Nexts.{order_most, normalised_length}
+use Rattle.extension.proofs.Nexts.{normalised_length}
 
--- each code is a decimal digit
+-- each code is a digit in base 13
 abbrev pub AreDigits : List ℕ → Type 0
-AreDigits xs = (p : ℕ) → p < length xs → slice_index xs p ≤ 9
+AreDigits xs = (p : ℕ) → p < length xs → slice_index xs p ≤ 12
 
 rest_digits : (x : ℕ) (xs : List ℕ) → AreDigits (x ∷ xs) → AreDigits xs
 rest_digits x xs h p l = h (suc p) (omega arith)
 
 -- one digit more
-digit_below : (x n v : ℕ) → x ≤ 9 → v < n → x * n + v < 10 * n
-digit_below x n v l m = let h : x * n ≤ 9 * n = mul-le-mul l (le_refl n) in omega arith
+digit_below : (x n v : ℕ) → x ≤ 12 → v < n → x * n + v < 13 * n
+digit_below x n v l m = let h : x * n ≤ 12 * n = mul-le-mul l (le_refl n) in omega arith
 
 digit_less : (x y n v w : ℕ) → x < y → v < n → x * n + v < y * n + w
 digit_less x y n v w l m = let h : suc x * n ≤ y * n = mul-le-mul (let k : suc x ≤ y = omega arith in k) (le_refl n) in omega arith
 
-pub value_below : (xs : List ℕ) → AreDigits xs → value xs < 10 ^ length xs
+pub value_below : (xs : List ℕ) → AreDigits xs → value xs < 13 ^ length xs
 value_below [] h = lit< tt
-value_below (x ∷ xs) h = subst (λ (n : ℕ). x * 10 ^ length xs + value xs < n) (sym (pow-succ' 10 (length xs))) (digit_below x (10 ^ length xs) (value xs) (h 0 (omega arith)) (value_below xs (rest_digits x xs h)))
+value_below (x ∷ xs) h = subst (λ (n : ℕ). x * 13 ^ length xs + value xs < n) (sym (pow-succ' 13 (length xs))) (digit_below x (13 ^ length xs) (value xs) (h 0 (omega arith)) (value_below xs (rest_digits x xs h)))
 
 value_less : (xs ys : List ℕ) → AreDigits xs → length xs ≡ length ys → slice_cmp nat_cmp xs ys ≡ Less → value xs < value ys
 value_less [] [] h e l = cc
@@ -38,19 +40,28 @@ value_less [] (y ∷ ys) h e l = absurd (omega arith)
 value_less (x ∷ xs) [] h e l = absurd (omega arith)
 value_less (x ∷ xs) (y ∷ ys) h e l =
     let m : length xs ≡ length ys = omega arith in
-    let n : 10 ^ length xs ≡ 10 ^ length ys = ap (λ k. 10 ^ k) m in
+    let n : 13 ^ length xs ≡ 13 ^ length ys = ap (λ k. 13 ^ k) m in
     by_ranked (x < y) (x ≡ y) (y < x) (nat_cmp x y) (ranked x y (nat_cmp x y) refl)
-    (λ _ b. subst (λ (k : ℕ). x * 10 ^ length xs + value xs < y * k + value ys) n (digit_less x y (10 ^ length xs) (value xs) (value ys) b (value_below xs (rest_digits x xs h))))
+    (λ _ b. subst (λ (k : ℕ). x * 13 ^ length xs + value xs < y * k + value ys) n (digit_less x y (13 ^ length xs) (value xs) (value ys) b (value_below xs (rest_digits x xs h))))
     (λ o s. let k : value xs < value ys = value_less xs ys (rest_digits x xs h) m (sym (ap (λ o. ordering_then o (slice_cmp nat_cmp xs ys)) o) ∙ l) in
-    let t : x * 10 ^ length xs ≡ y * 10 ^ length ys = (λ i. s i * n i) in omega arith)
+    let t : x * 13 ^ length xs ≡ y * 13 ^ length ys = (λ i. s i * n i) in omega arith)
     (λ o _. let k : Greater ≡ Less = sym (ap (λ o. ordering_then o (slice_cmp nat_cmp xs ys)) o) ∙ l in cc)
+
+-- 18 digits, the first of them at most 1
+value_short : (xs : List ℕ) → AreDigits xs → length xs ≤ 18 → slice_index xs 0 ≤ 1 → value xs < above_values
+value_short [] h l first = lit< tt
+value_short (x ∷ xs) h l first =
+    let most : x * 13 ^ length xs ≤ 1 * 13 ^ length xs = mul-le-mul first (le_refl (13 ^ length xs)) in
+    let rest : value xs < 13 ^ length xs = value_below xs (rest_digits x xs h) in
+    let room : 13 ^ length xs ≤ 13 ^ 17 = pow-le-pow_right (lit< tt) (omega arith) in
+    omega arith
 
 -- a list with a code that isn't 0
 value_positive : (p : ℕ) (xs : List ℕ) → p < length xs → 0 < slice_index xs p → 0 < value xs
 value_positive p [] l h = absurd (omega arith)
 value_positive zero (x ∷ xs) l h =
-    let o : 1 ≤ 10 ^ length xs = one-le-pow (length xs) 10 (lit< tt) in
-    let m : 1 * 1 ≤ x * 10 ^ length xs = mul-le-mul (let k : 1 ≤ x = omega arith in k) o in omega arith
+    let o : 1 ≤ 13 ^ length xs = one-le-pow (length xs) 13 (lit< tt) in
+    let m : 1 * 1 ≤ x * 13 ^ length xs = mul-le-mul (let k : 1 ≤ x = omega arith in k) o in omega arith
 value_positive (suc p) (x ∷ xs) l h = let k : 0 < value xs = value_positive p xs (omega arith) h in omega arith
 
 module _ (factors : List ℕ) (fs : IsFactors factors) (rank : ℕ) (low : rank ≤ 6) where
@@ -60,20 +71,25 @@ module _ (factors : List ℕ) (fs : IsFactors factors) (rank : ℕ) (low : rank 
       let some : 0 < length factors = fs.some in
       let below : p < rank * length factors = (let e : length v ≡ rank * length factors = c.rows in omega arith) in
       let f : p % length factors < length factors = omega arith in
-      let m : slice_index factors (p % length factors) ≤ 9 = order_most (slice_index factors (p % length factors)) (fs.fields (p % length factors) f) in
+      let m : slice_index factors (p % length factors) ≤ 13 = order_most (slice_index factors (p % length factors)) (fs.fields (p % length factors) f) in
       let o : slice_index v p < slice_index factors (p % length factors) = subst (λ (q : ℕ). slice_index v q < slice_index factors (p % length factors)) (whole p (length factors) some)
       (c.codes (p / length factors) (p % length factors) (row_below p (length factors) rank some below) f) in
       omega arith
 
-  pub value_most : (v : List ℕ) → IsNormalised factors rank v → value v < 10 ^ 18
+  -- the first code is 1 where the first row is the lead, and 0 otherwise
+  first_code : (v : List ℕ) → IsNormalised factors rank v → slice_index v 0 ≤ 1
+  first_code v n = elim (cases_eq n.lead 0) [
+    | inl z ↦ (let one : slice_index v (n.lead * length factors + 0) ≡ 1 = n.ones 0 fs.some in
+        let at : slice_index v (n.lead * length factors + 0) ≡ slice_index v 0 = ap (λ lead. slice_index v (lead * length factors + 0)) z in omega arith)
+    | inr ne ↦ (let zero : slice_index v (0 * length factors + 0) ≡ 0 = n.zeros 0 0 (omega arith) fs.some in omega arith)
+  ]
+
+  pub value_most : (v : List ℕ) → IsNormalised factors rank v → value v < above_values
   value_most v n =
       let c : IsProductColumn factors rank v = n.is_column in
-      let h : value v < 10 ^ length v = value_below v (digits_of v n) in
       let w : rank * length factors ≤ 6 * 3 = mul-le-mul low fs.few in
       let e : length v ≡ rank * length factors = c.rows in
-      let l : length v ≤ 18 = omega arith in
-      let k : 10 ^ length v ≤ 10 ^ 18 = pow-le-pow_right (lit< tt) l in
-      omega arith
+      value_short v (digits_of v n) (omega arith) (first_code v n)
 
   pub value_rises : (u v : List ℕ) → IsStart factors rank u → IsNormalised factors rank v → slice_cmp nat_cmp u v ≡ Less → value u < value v
   value_rises u v s n l = elim s [
@@ -88,5 +104,5 @@ module _ (factors : List ℕ) (fs : IsFactors factors) (rank : ℕ) (low : rank 
           let e : length v ≡ rank * length factors = c.rows in omega arith
 
   -- so each next column is nearer to the end
-  pub nearer : (u v : List ℕ) → IsStart factors rank u → IsNormalised factors rank v → slice_cmp nat_cmp u v ≡ Less → 10 ^ 18 - value v < 10 ^ 18 - value u
-  nearer u v s n l = let a : value u < value v = value_rises u v s n l in let b : value v < 10 ^ 18 = value_most v n in omega arith
+  pub nearer : (u v : List ℕ) → IsStart factors rank u → IsNormalised factors rank v → slice_cmp nat_cmp u v ≡ Less → above_values - value v < above_values - value u
+  nearer u v s n l = let a : value u < value v = value_rises u v s n l in let b : value v < above_values = value_most v n in omega arith

@@ -45,7 +45,11 @@ pub record AreAdmissible (M : Rep) (vs : List (List ℕ)) : Type 0 where
   pub rising : AllPairs (λ v w. slice_cmp nat_cmp v w ≡ Less) vs
   pub exact : (w : List ℕ) → Contains vs w ↔ IsAdmissible M w
 
--- the number whose decimal digits the codes are
+-- the number whose digits in base 13 the codes are
 abbrev pub value : List ℕ → ℕ
 value [] = 0
-value (code ∷ codes) = code * 10 ^ length codes + value codes
+value (code ∷ codes) = code * 13 ^ length codes + value codes
+
+-- a number above those of all normalised columns, which have at most 18 codes, the first of them 0 or 1
+abbrev pub above_values : ℕ
+above_values = 2 * 13 ^ 17

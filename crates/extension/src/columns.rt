@@ -1,8 +1,8 @@
-ghost use Rattle.std.specs.Prelude.{◌≡◌, ◌<◌, ◌-◌, ◌^◌, [], MatchOption};
+ghost use Rattle.std.specs.Prelude.{◌≡◌, ◌<◌, ◌-◌, [], MatchOption};
 ghost use Rattle.std.specs.Iterator.{at_most};
 ghost use Rattle.matroid_theory.specs.Rep.{size, KeepsLimits, IsStandard};
 ghost use Rattle.matroid_theory.specs.Matroid.{Agrees, IsSimple};
-ghost use Rattle.extension.specs.Admissible.{IsNextColumn, IsLastColumn, GivesNext, value};
+ghost use Rattle.extension.specs.Admissible.{IsNextColumn, IsLastColumn, GivesNext, value, above_values};
 ghost use Rattle.extension.specs.Steps.{IsStart, KeepsColumns};
 
 use crate::admissible::is_admissible;
@@ -53,7 +53,7 @@ impl Iterator for Columns {
 
     ghost next_gives = { GivesNext };
 
-    ghost remaining = { λ columns. at_most (10 ^ 18 - value columns.last) };
+    ghost remaining = { λ columns. at_most (above_values - value columns.last) };
 
     fn next(&mut self) -> Option<ProductColumn> {
         let column = next_column(&self.rep, &self.last)?;

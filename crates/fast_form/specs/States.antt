@@ -14,7 +14,7 @@ use Rattle.fast_form.specs.Groups.{AreGroupFactors}
 pub record IsShapeOf (M : Rep) (fields : List ℕ) (factors rank total : ℕ) : Type 0 where
   pub fields_are : (f : ℕ) → f < count M → slice_index fields f ≡ order M f
   pub scalars : (f : ℕ) → f < 3 → 1 < slice_index fields f
-  pub small : (f : ℕ) → f < 3 → slice_index fields f ≤ 9
+  pub small : (f : ℕ) → f < 3 → slice_index fields f ≤ 13
   pub one : 1 ≤ factors
   pub few : factors ≤ 3
   pub low : rank ≤ 6

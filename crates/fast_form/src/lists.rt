@@ -162,7 +162,7 @@ pub fn marked_numbers(
     groups: &Groups,
 ) -> [u128; 16]
     requires factors { (f : ℕ) → f < 3 → 1 < slice_index shape.now.fields f }
-    requires small { (f : ℕ) → f < 3 → slice_index shape.now.fields f ≤ 9 }
+    requires small { (f : ℕ) → f < 3 → slice_index shape.now.fields f ≤ 13 }
     requires low { 1 ≤ shape.now.count }
     requires high { shape.now.count ≤ 3 }
     requires rank { shape.now.rank ≤ 6 }
@@ -181,7 +181,7 @@ pub fn marked_numbers(
 /// The number of the column, scaled by groups, if it is marked.
 fn marked_number(shape: &Shape, column: &Column, mark: bool, groups: &Groups) -> u128
     requires factors { (f : ℕ) → f < 3 → 1 < slice_index shape.now.fields f }
-    requires small { (f : ℕ) → f < 3 → slice_index shape.now.fields f ≤ 9 }
+    requires small { (f : ℕ) → f < 3 → slice_index shape.now.fields f ≤ 13 }
     requires low { 1 ≤ shape.now.count }
     requires high { shape.now.count ≤ 3 }
     requires rank { shape.now.rank ≤ 6 }

@@ -17,23 +17,23 @@ entry T q a b = slice_index_or (slice_index_or (slice_index_or T q []) a []) b 0
 -- the tests of the tables, each computed by the checker
 sums-test : (q : ℕ) → IsOrder q → each_pair q (λ a b. entry SUMS q a b == plus q a b) ≡ true
 unfolding plus poly characteristic degree
-sums-test = by_order (λ q. each_pair q (λ a b. entry SUMS q a b == plus q a b) ≡ true) refl refl refl refl refl refl refl
+sums-test = by_order (λ q. each_pair q (λ a b. entry SUMS q a b == plus q a b) ≡ true) refl refl refl refl refl refl refl refl refl
 
 products-test : (q : ℕ) → IsOrder q → each_pair q (λ a b. entry PRODUCTS q a b == times q a b) ≡ true
 unfolding times poly characteristic degree remainder
-products-test = by_order (λ q. each_pair q (λ a b. entry PRODUCTS q a b == times q a b) ≡ true) refl refl refl refl refl refl refl
+products-test = by_order (λ q. each_pair q (λ a b. entry PRODUCTS q a b == times q a b) ≡ true) refl refl refl refl refl refl refl refl refl
 
 negatives-test : (q : ℕ) → IsOrder q → each q (λ a. place NEGATIVES q a == negative q a) ≡ true
 unfolding negative times poly characteristic degree remainder
-negatives-test = by_order (λ q. each q (λ a. place NEGATIVES q a == negative q a) ≡ true) refl refl refl refl refl refl refl
+negatives-test = by_order (λ q. each q (λ a. place NEGATIVES q a == negative q a) ≡ true) refl refl refl refl refl refl refl refl refl
 
 inverses-test : (q : ℕ) → IsOrder q → each q (λ a. (a == 0) || (place INVERSES q a == inverse q a)) ≡ true
 unfolding inverse times poly characteristic degree remainder
-inverses-test = by_order (λ q. each q (λ a. (a == 0) || (place INVERSES q a == inverse q a)) ≡ true) refl refl refl refl refl refl refl
+inverses-test = by_order (λ q. each q (λ a. (a == 0) || (place INVERSES q a == inverse q a)) ≡ true) refl refl refl refl refl refl refl refl refl
 
 powers-test : (q : ℕ) → IsOrder q → each q (λ a. place POWERS q a == frobenius q a) ≡ true
 unfolding frobenius times poly characteristic degree remainder
-powers-test = by_order (λ q. each q (λ a. place POWERS q a == frobenius q a) ≡ true) refl refl refl refl refl refl refl
+powers-test = by_order (λ q. each q (λ a. place POWERS q a == frobenius q a) ≡ true) refl refl refl refl refl refl refl refl refl
 
 -- what each table holds
 pub sums : (q a b : ℕ) → IsOrder q → a < q → b < q → entry SUMS q a b ≡ plus q a b
@@ -57,4 +57,4 @@ powers q a o l = eqb-true _ _ (all_below-at q (λ a. place POWERS q a == frobeni
 
 pub degrees : (q : ℕ) → IsOrder q → slice_index_or DEGREES q 0 ≡ degree q
 unfolding degree
-degrees = by_order (λ q. slice_index_or DEGREES q 0 ≡ degree q) refl refl refl refl refl refl refl
+degrees = by_order (λ q. slice_index_or DEGREES q 0 ≡ degree q) refl refl refl refl refl refl refl refl refl

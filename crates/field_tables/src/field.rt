@@ -5,7 +5,7 @@ ghost use Rattle.matroid_theory.specs.Matrix.{sum_below};
 use crate::tables::{DEGREES, INVERSES, NEGATIVES, POWERS, PRODUCTS, SUMS};
 use std::marker::Model;
 
-/// The field GF(q), for q one of 2, 3, 4, 5, 7, 8 and 9. Contracts see its order.
+/// The field GF(q), for q one of 2, 3, 4, 5, 7, 8, 9, 11 and 13. Contracts see its order.
 ///
 /// Its elements are the codes below q: code 0 is zero and code 1 is one. The digits of a code in base p, for q = p^k and
 /// lowest first, are the coefficients of a polynomial over the integers modulo p; the moduli are `x^2+x+1` for 4,
@@ -28,10 +28,10 @@ impl Model for Field {
     ghost inverse = { λ q. record { order = q } };
 }
 
-const ORDERS: [u8; 7] = [2, 3, 4, 5, 7, 8, 9];
+const ORDERS: [u8; 9] = [2, 3, 4, 5, 7, 8, 9, 11, 13];
 
 impl Field {
-    /// The field of this order; none where there is none of it, or it is above 9.
+    /// The field of this order; `None` exactly where q isn't 2, 3, 4, 5, 7, 8, 9, 11 or 13.
     pub fn of(q: u8) -> Option<Field>
         ensures found { IsSome result ↔ IsOrder q }
         ensures order { IfSome result (λ field. field ≡ q) }

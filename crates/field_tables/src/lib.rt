@@ -1,5 +1,5 @@
-//! The finite fields GF(q) for q one of 2, 3, 4, 5, 7, 8 and 9, by the codes of their elements, and the columns and sets that
-//! every layer speaks of.
+//! The finite fields GF(q) for q one of 2, 3, 4, 5, 7, 8, 9, 11 and 13, by the codes of their elements, and the columns and
+//! sets that every layer speaks of.
 #![tactic(auto)]
 
 mod field;

@@ -1,5 +1,5 @@
 -- The columns of a representation as numbers, and the first column at which two representations differ.
-use Rattle.std.proofs.Common.{◌≡◌, ◌≢◌, ℕ, zero, suc, ◌+◌, ◌*◌, ◌/◌, ◌%◌, ◌-◌, ◌^◌, ◌<◌, ◌≤◌, refl, sym, ◌∙◌, ap, subst, arith, List, [], ◌∷◌, length, slice_index, slice_index_or, inl, inr, lit≤, lit<}
+use Rattle.std.proofs.Common.{◌≡◌, ◌≢◌, ℕ, zero, suc, ◌+◌, ◌*◌, ◌/◌, ◌%◌, ◌-◌, ◌^◌, ◌<◌, ◌≤◌, refl, sym, ◌∙◌, ap, subst, arith, List, [], ◌∷◌, length, slice_index, slice_index_or, inl, inr, lit<}
 use Rattle.std.specs.Cmp.{IsTotalOrder, nat_cmp_total}
 use Rattle.std.specs.Cmp.Lexicographic.{slice_cmp, lists_total}
 use Rattle.std.specs.Ordering.{nat_cmp, ordering_then}
@@ -9,16 +9,12 @@ use Rattle.std.proofs.lemmas.Cmp.{tied_itself}
 use Rattle.std.proofs.lemmas.Bool.{cases_lt}
 use Rattle.std.proofs.lemmas.List.{ext_get_or}
 use Rattle.std.proofs.Math.Nat.{mod-lt, mul-le-mul, le_refl, pow-le-pow_right, add-mul}
-use Rattle.matroid_theory.specs.Field.{IsOrder}
 use Rattle.matroid_theory.specs.Rep.{Rep, Shape, shape, count, size, order, matrix, IsShaped}
 use Rattle.matroid_theory.proofs.First.{row_below, whole}
-use Rattle.matroid_theory.proofs.FieldLaws.{by_order}
+use Rattle.matroid_theory.proofs.FieldLaws.{order_most}
 use Rattle.form_search.specs.Numbers.{value, weighed}
 use Rattle.form_search.specs.Least.{number}
 use Rattle.form_search.proofs.Numbers.{AreDigits, value-weighed, weighed_same, value_at_most, value_same, value_from, value_within}
-
-pub order_most : (q : ℕ) → IsOrder q → q ≤ 9
-order_most = by_order (λ q. q ≤ 9) (lit≤ tt) (lit≤ tt) (lit≤ tt) (lit≤ tt) (lit≤ tt) (lit≤ tt) (lit≤ tt)
 
 positive : (k r c : ℕ) → k < r * c → 0 < c
 positive k r c l = elim (cases_lt 0 c) [ inl b ↦ b | inr g ↦ (let e : c ≡ 0 = omega arith in let z : r * c ≡ r * 0 = ap (λ c. r * c) e in absurd (omega arith)) ]
@@ -66,7 +62,7 @@ module _ (M N : Rep) (shaped : IsShaped N) (same : shape N ≡ shape M) (p : ℕ
       let f' : e % count M < count N = subst (λ (S : Shape). e % count M < length S.factors) (sym same) f in
       let i' : e / count M < N.rank = subst (λ (S : Shape). e / count M < S.rank) (sym same) (row_below e (count M) M.rank c m) in
       let o : matrix N (e % count M) (e / count M) p < order N (e % count M) = shaped.codes (e % count M) (e / count M) p f' i' here in
-      let w : order N (e % count M) ≤ 9 = order_most (order N (e % count M)) (shaped.orders (e % count M) f') in
+      let w : order N (e % count M) ≤ 13 = order_most (order N (e % count M)) (shaped.orders (e % count M) f') in
       let z : slice_index (column N p) e ≡ matrix N (e % count M) (e / count M) p = code_at e m in
       omega arith
 

@@ -14,6 +14,7 @@ use Rattle.matroid_theory.proofs.Invertible.{combination_zero}
 use Rattle.matroid_theory.proofs.Standard.{ordered_independent}
 use Rattle.matroid_theory.proofs.Units.{units_independent}
 use Rattle.matroid_theory.proofs.First.{row_below}
+use Rattle.matroid_theory.proofs.FieldLaws.{order_most}
 use Rattle.form_search.specs.Trail.{ReachesForm, Trail, AreCoordinates, Follows, IsOrdered, TiesGroups}
 use Rattle.form_search.specs.Pivot.{exchange}
 use Rattle.form_search.specs.Numbers.{weighed}
@@ -24,7 +25,7 @@ use Rattle.form_search.proofs.Numbers.{weighed_injective}
 use Rattle.form_search.proofs.Scalars.{zero_factor}
 use Rattle.form_search.proofs.Exchanges.{exchange_one, exchange_two, exchange_other, exchanged_permutation}
 use Rattle.form_search.proofs.Entries.{field}
-use Rattle.form_search.proofs.Columns.{order_most, number_entries}
+use Rattle.form_search.proofs.Columns.{number_entries}
 use Rattle.form_search.proofs.Ordered.{coordinates_same}
 use Rattle.form_search.proofs.LeastNext.{next_at_most_open}
 use Rattle.form_search.proofs.Placing.{open_place, and_true, both_true, not_same, open_in_form, after, layer_after, rest_after, placed_state, follows_after}
@@ -244,7 +245,7 @@ module _ (M : Rep) (shaped : IsShaped M) (some : 0 < count M) (standard : IsStan
               let f' : e % count M < count M = mod-lt e some in
               let fN : e % count M < count N = subst (λ (S : Shape). e % count M < length S.factors) (sym s) f' in
               let c : matrix N (e % count M) (e / count M) p < order N (e % count M) = t.codes (e % count M) (e / count M) p fN (subst (λ (S : Shape). e / count M < S.rank) (sym s) (row_below e (count M) M.rank some o)) (subst (λ (S : Shape). p < S.size) (sym s) p_below) in
-              let v : order N (e % count M) ≤ 9 = order_most (order N (e % count M)) (t.orders (e % count M) fN) in omega arith
+              let v : order N (e % count M) ≤ 13 = order_most (order N (e % count M)) (t.orders (e % count M) fN) in omega arith
 
       -- what the rows make of an element
       abbrev made_of : ℕ → ℕ → ℕ → ℕ

@@ -1,5 +1,5 @@
 -- What is known after some of the columns of a parent were tried, and after all of them.
-use Rattle.std.proofs.Common.{◌≡◌, ◌≢◌, ◌⊎◌, ◌↔◌, ℕ, ◌+◌, ◌-◌, ◌*◌, ◌^◌, ◌<◌, ◌≤◌, List, [], ◌∷◌, length, slice_index, inl, inr, refl, sym, ◌∙◌, ap, subst, arith}
+use Rattle.std.proofs.Common.{◌≡◌, ◌≢◌, ◌⊎◌, ◌↔◌, ℕ, ◌+◌, ◌-◌, ◌*◌, ◌<◌, ◌≤◌, List, [], ◌∷◌, length, slice_index, inl, inr, refl, sym, ◌∙◌, ap, subst, arith}
 use Rattle.std.specs.List.{Contains}
 use Rattle.std.specs.Cmp.Lexicographic.{slice_cmp}
 use Rattle.std.specs.Ordering.{nat_cmp, ordering_reverse}
@@ -13,7 +13,7 @@ use Rattle.matroid_theory.specs.Move.{AreEquivalent}
 use Rattle.matroid_theory.specs.Order.{IsForm}
 use Rattle.matroid_theory.specs.Minor.{Matroid}
 use Rattle.matroid_theory.specs.Level.{IsCount, IsNormalised, followed_by}
-use Rattle.extension.specs.Admissible.{IsAdmissible, ColumnsAfter, IsNextColumn, IsLastColumn, value}
+use Rattle.extension.specs.Admissible.{IsAdmissible, ColumnsAfter, IsNextColumn, IsLastColumn, value, above_values}
 use Rattle.level_driver.specs.Children.{rep_of, Adds, IsChild, IsCandidate, AddsChildren}
 use Rattle.level_driver.specs.Forbidden.{Avoids}
 use Rattle.level_driver.proofs.Counts.{count_same, count_none, count_one, count_both}
@@ -29,7 +29,7 @@ IsTriedUpTo Ns columns w = IsUpTo columns w × Avoids Ns (followed_by columns.pa
 -- the columns up to the last one were tried, and the forms added
 pub record HasTried (Ns : List Matroid) (start : List (List (List ℕ))) (columns : ColumnsAfter) (tried : ℕ) (found : List (List (List ℕ))) : Type 0 where
   pub count : IsCount (IsTriedUpTo Ns columns) tried
-  pub bound : tried + (10 ^ 18 - value columns.last) ≤ 10 ^ 18
+  pub bound : tried + (above_values - value columns.last) ≤ above_values
   pub kept : (cs : List (List ℕ)) → Contains start cs → Contains found cs
   pub sound : (cs : List (List ℕ)) → Contains found cs → Contains start cs ⊎ ((v : List ℕ) × IsCandidate Ns columns.parent v × IsChild columns.parent v cs)
   pub complete : (v : List ℕ) → IsTriedUpTo Ns columns v → (cs : List (List ℕ)) × Contains found cs × IsChild columns.parent v cs
@@ -98,9 +98,9 @@ module _ (columns : ColumnsAfter) (v : List ℕ) (next : IsNextColumn columns v)
   not_yet : (w : List ℕ) → IsUpTo columns w → w ≡ v → ⊥
   not_yet w u e = u.1 (ap (λ x. slice_cmp nat_cmp x columns.last) e ∙ turned columns.last v Less next.after)
 
-  module _ (Ns : List Matroid) (start found : List (List (List ℕ))) (tried : ℕ) (following : ColumnsAfter) (is : following ≡ record { parent = columns.parent; last = v }) (falls : 10 ^ 18 - value following.last < 10 ^ 18 - value columns.last) (h : HasTried Ns start columns tried found) where
-    fewer : 10 ^ 18 - value v < 10 ^ 18 - value columns.last
-    fewer = subst (λ (c : ColumnsAfter). 10 ^ 18 - value c.last < 10 ^ 18 - value columns.last) is falls
+  module _ (Ns : List Matroid) (start found : List (List (List ℕ))) (tried : ℕ) (following : ColumnsAfter) (is : following ≡ record { parent = columns.parent; last = v }) (falls : above_values - value following.last < above_values - value columns.last) (h : HasTried Ns start columns tried found) where
+    fewer : above_values - value v < above_values - value columns.last
+    fewer = subst (λ (c : ColumnsAfter). above_values - value c.last < above_values - value columns.last) is falls
 
     -- the next one was tried too
     pub tried_more : Avoids Ns (followed_by columns.parent v) → (new : List (List (List ℕ))) (cs : List (List ℕ)) → IsChild columns.parent v cs → Adds found new cs → HasTried Ns start following (tried + 1) new
@@ -108,7 +108,7 @@ module _ (columns : ColumnsAfter) (v : List ℕ) (next : IsNextColumn columns v)
     tried_more avoids new cs child adds =
         subst (λ columns. HasTried Ns start columns (tried + 1) new) (sym is) record {
           count = count_both (IsTriedUpTo Ns columns) (λ w. w ≡ v) (IsTriedUpTo Ns after) tried 1 h.count (count_one v) (λ w u. not_yet w u.0) one_more_tried;
-          bound = (let b : tried + (10 ^ 18 - value columns.last) ≤ 10 ^ 18 = h.bound in let f = fewer in omega arith);
+          bound = (let b : tried + (above_values - value columns.last) ≤ above_values = h.bound in let f = fewer in omega arith);
           kept = λ other c. let a = adds other in a.1 (inl (h.kept other c));
           sound = λ other c.
               let a = adds other in
@@ -135,7 +135,7 @@ module _ (columns : ColumnsAfter) (v : List ℕ) (next : IsNextColumn columns v)
     tried_same has =
         subst (λ columns. HasTried Ns start columns tried found) (sym is) record {
           count = count_same (IsTriedUpTo Ns columns) (IsTriedUpTo Ns after) tried (λ w. (λ u. ((one_more w).1 (inl u.0), u.1), up_to_last w)) h.count;
-          bound = (let b : tried + (10 ^ 18 - value columns.last) ≤ 10 ^ 18 = h.bound in let f = fewer in omega arith);
+          bound = (let b : tried + (above_values - value columns.last) ≤ above_values = h.bound in let f = fewer in omega arith);
           kept = h.kept;
           sound = h.sound;
           complete = λ w u. h.complete w (up_to_last w u);

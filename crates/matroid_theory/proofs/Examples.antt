@@ -9,10 +9,10 @@ use Rattle.matroid_theory.specs.Matroid.{members, IsBasis, Agrees, IsIndependent
 use Rattle.matroid_theory.specs.Order.{rep_cmp}
 use Rattle.matroid_theory.proofs.Tries.{independent_by_test, dependent_by_test}
 
--- entries of the tables of GF(4), GF(8) and GF(9)
-products : (times 4 2 3 ≡ 1) × (times 8 5 7 ≡ 6) × (times 8 6 6 ≡ 2) × (times 9 4 5 ≡ 1) × (times 9 8 8 ≡ 6)
+-- entries of the tables of GF(4), GF(8), GF(9), GF(11) and GF(13)
+products : (times 4 2 3 ≡ 1) × (times 8 5 7 ≡ 6) × (times 8 6 6 ≡ 2) × (times 9 4 5 ≡ 1) × (times 9 8 8 ≡ 6) × (times 11 4 3 ≡ 1) × (times 13 5 8 ≡ 1)
 unfolding times poly characteristic degree remainder
-products = (refl, refl, refl, refl, refl)
+products = (refl, refl, refl, refl, refl, refl, refl)
 
 sums : (plus 9 5 7 ≡ 0) × (plus 8 5 6 ≡ 3)
 unfolding plus poly characteristic degree

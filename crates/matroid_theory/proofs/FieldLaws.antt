@@ -1,5 +1,5 @@
 -- The laws of the fields, by one test over each whole table.
-use Rattle.std.proofs.Common.{◌≡◌, ◌≢◌, ℕ, zero, suc, ◌-◌, ◌/◌, ◌%◌, ◌<◌, refl, sym, ◌∙◌, ap, subst, [], ◌∷◌, Bool, true, false, not, ◌&&◌, ◌||◌, arith, inl, inr, eqb-true, lit<}
+use Rattle.std.proofs.Common.{◌≡◌, ◌≢◌, ℕ, zero, suc, ◌-◌, ◌/◌, ◌%◌, ◌<◌, ◌≤◌, refl, sym, ◌∙◌, ap, subst, [], ◌∷◌, Bool, true, false, not, ◌&&◌, ◌||◌, arith, inl, inr, eqb-true, lit<, lit≤}
 use Rattle.std.specs.Bool.{◌==◌, nat_lt}
 use Rattle.std.specs.List.{slice_index_or}
 use Rattle.std.proofs.lemmas.Bool.{cases_lt, or_cases}
@@ -38,10 +38,10 @@ off_from_not true e = sym e
 off_from_not false e = refl
 
 -- what holds at each order holds at every one
-pub by_order : (P : ℕ → Type 0) → P 2 → P 3 → P 4 → P 5 → P 7 → P 8 → P 9 → (q : ℕ) → IsOrder q → P q
-by_order P a b c d e f g q o = let m = o.listed in at m.0 m.1 m.2
+pub by_order : (P : ℕ → Type 0) → P 2 → P 3 → P 4 → P 5 → P 7 → P 8 → P 9 → P 11 → P 13 → (q : ℕ) → IsOrder q → P q
+by_order P a b c d e f g h i q o = let m = o.listed in at m.0 m.1 m.2
   where
-    at : (k : ℕ) → k < 7 → slice_index_or orders k q ≡ q → P q
+    at : (k : ℕ) → k < 9 → slice_index_or orders k q ≡ q → P q
     at zero l w = subst P w a
     at (suc zero) l w = subst P w b
     at (suc (suc zero)) l w = subst P w c
@@ -49,7 +49,9 @@ by_order P a b c d e f g q o = let m = o.listed in at m.0 m.1 m.2
     at (suc (suc (suc (suc zero)))) l w = subst P w e
     at (suc (suc (suc (suc (suc zero))))) l w = subst P w f
     at (suc (suc (suc (suc (suc (suc zero)))))) l w = subst P w g
-    at (suc (suc (suc (suc (suc (suc (suc k))))))) l w = absurd (omega arith)
+    at (suc (suc (suc (suc (suc (suc (suc zero))))))) l w = subst P w h
+    at (suc (suc (suc (suc (suc (suc (suc (suc zero)))))))) l w = subst P w i
+    at (suc (suc (suc (suc (suc (suc (suc (suc (suc k))))))))) l w = absurd (omega arith)
 
 -- tests of each code, each pair and each triple of codes
 abbrev pub each : ℕ → (ℕ → Bool) → Bool
@@ -71,31 +73,31 @@ at_triple q p h a b c l m n =
 -- the tables' tests, each computed by the checker
 plus_below-test : (q : ℕ) → IsOrder q → each_pair q (λ a b. nat_lt (plus q a b) q) ≡ true
 unfolding plus poly characteristic degree remainder
-plus_below-test = by_order (λ q. each_pair q (λ a b. nat_lt (plus q a b) q) ≡ true) refl refl refl refl refl refl refl
+plus_below-test = by_order (λ q. each_pair q (λ a b. nat_lt (plus q a b) q) ≡ true) refl refl refl refl refl refl refl refl refl
 
 times_below-test : (q : ℕ) → IsOrder q → each_pair q (λ a b. nat_lt (times q a b) q) ≡ true
 unfolding times poly characteristic degree remainder
-times_below-test = by_order (λ q. each_pair q (λ a b. nat_lt (times q a b) q) ≡ true) refl refl refl refl refl refl refl
+times_below-test = by_order (λ q. each_pair q (λ a b. nat_lt (times q a b) q) ≡ true) refl refl refl refl refl refl refl refl refl
 
 plus_comm-test : (q : ℕ) → IsOrder q → each_pair q (λ a b. plus q a b == plus q b a) ≡ true
 unfolding plus poly characteristic degree remainder
-plus_comm-test = by_order (λ q. each_pair q (λ a b. plus q a b == plus q b a) ≡ true) refl refl refl refl refl refl refl
+plus_comm-test = by_order (λ q. each_pair q (λ a b. plus q a b == plus q b a) ≡ true) refl refl refl refl refl refl refl refl refl
 
 times_comm-test : (q : ℕ) → IsOrder q → each_pair q (λ a b. times q a b == times q b a) ≡ true
 unfolding times poly characteristic degree remainder
-times_comm-test = by_order (λ q. each_pair q (λ a b. times q a b == times q b a) ≡ true) refl refl refl refl refl refl refl
+times_comm-test = by_order (λ q. each_pair q (λ a b. times q a b == times q b a) ≡ true) refl refl refl refl refl refl refl refl refl
 
 plus_assoc-test : (q : ℕ) → IsOrder q → each_triple q (λ a b c. plus q (plus q a b) c == plus q a (plus q b c)) ≡ true
 unfolding plus poly characteristic degree remainder
-plus_assoc-test = by_order (λ q. each_triple q (λ a b c. plus q (plus q a b) c == plus q a (plus q b c)) ≡ true) refl refl refl refl refl refl refl
+plus_assoc-test = by_order (λ q. each_triple q (λ a b c. plus q (plus q a b) c == plus q a (plus q b c)) ≡ true) refl refl refl refl refl refl refl refl refl
 
 times_assoc-test : (q : ℕ) → IsOrder q → each_triple q (λ a b c. times q (times q a b) c == times q a (times q b c)) ≡ true
 unfolding times poly characteristic degree remainder
-times_assoc-test = by_order (λ q. each_triple q (λ a b c. times q (times q a b) c == times q a (times q b c)) ≡ true) refl refl refl refl refl refl refl
+times_assoc-test = by_order (λ q. each_triple q (λ a b c. times q (times q a b) c == times q a (times q b c)) ≡ true) refl refl refl refl refl refl refl refl refl
 
 times_plus-test : (q : ℕ) → IsOrder q → each_triple q (λ a b c. times q a (plus q b c) == plus q (times q a b) (times q a c)) ≡ true
 unfolding plus times poly characteristic degree remainder
-times_plus-test = by_order (λ q. each_triple q (λ a b c. times q a (plus q b c) == plus q (times q a b) (times q a c)) ≡ true) refl refl refl refl refl refl refl
+times_plus-test = by_order (λ q. each_triple q (λ a b c. times q a (plus q b c) == plus q (times q a b) (times q a c)) ≡ true) refl refl refl refl refl refl refl refl refl
 
 -- the laws that speak of one code
 abbrev one_code : ℕ → ℕ → Bool
@@ -105,24 +107,24 @@ one_code q a =
 
 one_code-test : (q : ℕ) → IsOrder q → each q (one_code q) ≡ true
 unfolding plus times negative inverse poly characteristic degree remainder
-one_code-test = by_order (λ q. each q (one_code q) ≡ true) refl refl refl refl refl refl refl
+one_code-test = by_order (λ q. each q (one_code q) ≡ true) refl refl refl refl refl refl refl refl refl
 
 frobenius-test : (q : ℕ) → IsOrder q → each_pair q (λ a b. (frobenius q (plus q a b) == plus q (frobenius q a) (frobenius q b)) && ((frobenius q (times q a b) == times q (frobenius q a) (frobenius q b)) && nat_lt (frobenius q a) q)) ≡ true
 unfolding plus times frobenius poly characteristic degree remainder
-frobenius-test = by_order (λ q. each_pair q (λ a b. (frobenius q (plus q a b) == plus q (frobenius q a) (frobenius q b)) && ((frobenius q (times q a b) == times q (frobenius q a) (frobenius q b)) && nat_lt (frobenius q a) q)) ≡ true) refl refl refl refl refl refl refl
+frobenius-test = by_order (λ q. each_pair q (λ a b. (frobenius q (plus q a b) == plus q (frobenius q a) (frobenius q b)) && ((frobenius q (times q a b) == times q (frobenius q a) (frobenius q b)) && nat_lt (frobenius q a) q)) ≡ true) refl refl refl refl refl refl refl refl refl
 
 frobenius_one-test : (q : ℕ) → IsOrder q → frobenius q 1 ≡ 1
 unfolding times frobenius poly characteristic degree remainder
-frobenius_one-test = by_order (λ q. frobenius q 1 ≡ 1) refl refl refl refl refl refl refl
+frobenius_one-test = by_order (λ q. frobenius q 1 ≡ 1) refl refl refl refl refl refl refl refl refl
 
 frobenius_cycle-test : (q : ℕ) → IsOrder q → each q (λ a. raised q (degree q) a == a) ≡ true
 unfolding times frobenius poly characteristic degree remainder
-frobenius_cycle-test = by_order (λ q. each q (λ a. raised q (degree q) a == a) ≡ true) refl refl refl refl refl refl refl
+frobenius_cycle-test = by_order (λ q. each q (λ a. raised q (degree q) a == a) ≡ true) refl refl refl refl refl refl refl refl refl
 
 -- a code that isn't below q counts as its remainder
 poly-mod : (q : ℕ) → IsOrder q → (a : ℕ) → poly q (a % q) ≡ poly q a
 unfolding poly characteristic degree
-poly-mod = by_order (λ q. (a : ℕ) → poly q (a % q) ≡ poly q a) (one 2) (one 3) four (one 5) (one 7) eight nine
+poly-mod = by_order (λ q. (a : ℕ) → poly q (a % q) ≡ poly q a) (one 2) (one 3) four (one 5) (one 7) eight nine (one 11) (one 13)
   where
     one : (p a : ℕ) → digits p 1 (a % p) ≡ digits p 1 a
     one p a = ap (λ d. d ∷ []) (mod-mod a p)
@@ -141,11 +143,15 @@ poly-mod = by_order (λ q. (a : ℕ) → poly q (a % q) ≡ poly q a) (one 2) (o
     nine a = let d0 : a % 9 % 3 ≡ a % 3 = omega arith in let d1 : a % 9 / 3 % 3 ≡ a / 3 % 3 = omega arith in λ i. d0 i ∷ d1 i ∷ []
 
 positive : (q : ℕ) → IsOrder q → 1 < q
-positive = by_order (λ q. 1 < q) (lit< tt) (lit< tt) (lit< tt) (lit< tt) (lit< tt) (lit< tt) (lit< tt)
+positive = by_order (λ q. 1 < q) (lit< tt) (lit< tt) (lit< tt) (lit< tt) (lit< tt) (lit< tt) (lit< tt) (lit< tt) (lit< tt)
+
+-- no order is above 13
+pub order_most : (q : ℕ) → IsOrder q → q ≤ 13
+order_most = by_order (λ q. q ≤ 13) (lit≤ tt) (lit≤ tt) (lit≤ tt) (lit≤ tt) (lit≤ tt) (lit≤ tt) (lit≤ tt) (lit≤ tt) (lit≤ tt)
 
 has_degree : (q : ℕ) → IsOrder q → 0 < degree q
 unfolding degree
-has_degree = by_order (λ q. 0 < degree q) (lit< tt) (lit< tt) (lit< tt) (lit< tt) (lit< tt) (lit< tt) (lit< tt)
+has_degree = by_order (λ q. 0 < degree q) (lit< tt) (lit< tt) (lit< tt) (lit< tt) (lit< tt) (lit< tt) (lit< tt) (lit< tt) (lit< tt)
 
 module _ (q : ℕ) (o : IsOrder q) where
   below : (a : ℕ) → a % q < q

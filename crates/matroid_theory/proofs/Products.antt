@@ -21,11 +21,11 @@ any_below-at (suc n) p h =
 
 some_factor-test : (q : ℕ) → IsOrder q → each_pair q (λ a b. any_below q (λ m. product_number q a b == multiple_number q (times q a b) m)) ≡ true
 unfolding times poly characteristic degree remainder modulus product_number multiple_number
-some_factor-test = by_order (λ q. each_pair q (λ a b. any_below q (λ m. product_number q a b == multiple_number q (times q a b) m)) ≡ true) refl refl refl refl refl refl refl
+some_factor-test = by_order (λ q. each_pair q (λ a b. any_below q (λ m. product_number q a b == multiple_number q (times q a b) m)) ≡ true) refl refl refl refl refl refl refl refl refl
 
 only_product-test : (q : ℕ) → IsOrder q → each_pair q (λ a b. all_below q (λ c. all_below q (λ m. not (product_number q a b == multiple_number q c m) || (c == times q a b)))) ≡ true
 unfolding times poly characteristic degree remainder modulus product_number multiple_number
-only_product-test = by_order (λ q. each_pair q (λ a b. all_below q (λ c. all_below q (λ m. not (product_number q a b == multiple_number q c m) || (c == times q a b)))) ≡ true) refl refl refl refl refl refl refl
+only_product-test = by_order (λ q. each_pair q (λ a b. all_below q (λ c. all_below q (λ m. not (product_number q a b == multiple_number q c m) || (c == times q a b)))) ≡ true) refl refl refl refl refl refl refl refl refl
 
 pub product_exact : (q : ℕ) → IsOrder q → (a b c : ℕ) → a < q → b < q → c < q → IsProduct q a b c ↔ (c ≡ times q a b)
 product_exact q o a b c l m n = (only, (λ e. subst (IsProduct q a b) (sym e) some))
@@ -48,11 +48,11 @@ product_exact q o a b c l m n = (only, (λ e. subst (IsProduct q a b) (sym e) so
 
 number-test : (q : ℕ) → IsOrder q → each q (λ c. number (characteristic q) (poly q c) == c) ≡ true
 unfolding poly characteristic degree
-number-test = by_order (λ q. each q (λ c. number (characteristic q) (poly q c) == c) ≡ true) refl refl refl refl refl refl refl
+number-test = by_order (λ q. each q (λ c. number (characteristic q) (poly q c) == c) ≡ true) refl refl refl refl refl refl refl refl refl
 
 sum-test : (q : ℕ) → IsOrder q → each_pair q (λ a b. bytes_eq (poly q (plus q a b)) (poly_plus (characteristic q) (poly q a) (poly q b))) ≡ true
 unfolding plus poly characteristic degree
-sum-test = by_order (λ q. each_pair q (λ a b. bytes_eq (poly q (plus q a b)) (poly_plus (characteristic q) (poly q a) (poly q b))) ≡ true) refl refl refl refl refl refl refl
+sum-test = by_order (λ q. each_pair q (λ a b. bytes_eq (poly q (plus q a b)) (poly_plus (characteristic q) (poly q a) (poly q b))) ≡ true) refl refl refl refl refl refl refl refl refl
 
 bytes_same : (xs ys : List ℕ) → bytes_eq xs ys ≡ true → xs ≡ ys
 bytes_same xs ys e = let same = bytes_eq-Decides xs ys in same.0 e

@@ -5,7 +5,7 @@ use Rattle.std.specs.List.{Contains}
 
 -- the orders of the fields
 abbrev pub orders : List ℕ
-orders = 2 ∷ 3 ∷ 4 ∷ 5 ∷ 7 ∷ 8 ∷ 9 ∷ []
+orders = 2 ∷ 3 ∷ 4 ∷ 5 ∷ 7 ∷ 8 ∷ 9 ∷ 11 ∷ 13 ∷ []
 
 -- q is the order of a field
 pub record IsOrder (q : ℕ) : Type 0 where

@@ -15,7 +15,7 @@ ghost use Rattle.matroid_theory.specs.Level.{Family, Filters, IsMember, IsLevelF
 ghost use Rattle.matroid_theory.specs.Minor.{Matroid};
 ghost use Rattle.matroid_theory.specs.Given.{Given, IsGivenBy};
 
-/// The operations of each of the seven orders are those of a field.
+/// The operations of each of the nine orders are those of a field.
 pub fn fields()
     ensures { (q : ℕ) → IsOrder q → IsField q }
 {}

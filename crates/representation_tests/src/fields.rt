@@ -51,6 +51,10 @@ fn products(rt: HostRuntime) -> Result<(), Fail> {
             &[4, 7, 3, 2, 5, 1, 6],
         ],
     );
+    let eleven = Field::of(11).ok_or("no field of order 11")?;
+    assert_eq!(rt; eleven.mul(4, 3), 1);
+    let thirteen = Field::of(13).ok_or("no field of order 13")?;
+    assert_eq!(rt; thirteen.mul(12, 11), 2);
     Ok(())
 }
 
@@ -61,8 +65,11 @@ fn orders_and_degrees(rt: HostRuntime) {
         (4, Some(2)),
         (8, Some(3)),
         (9, Some(2)),
+        (11, Some(1)),
+        (13, Some(1)),
         (6, None),
-        (11, None),
+        (12, None),
+        (16, None),
     ];
     for (q, degree) in table {
         assert_eq!(rt; Field::of(q).map(|field| field.degree()), degree, "at {q}");

@@ -61,7 +61,7 @@ fn three_columns(rt: HostRuntime) {
 
 #[test]
 fn as_many_independent_columns_as_rows(rt: HostRuntime) {
-    for q in [2, 3, 4, 5, 7, 8, 9] {
+    for q in [2, 3, 4, 5, 7, 8, 9, 11, 13] {
         match Field::of(q) {
             Some(field) => {
                 let last = field.order() - 1;

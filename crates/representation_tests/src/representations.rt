@@ -14,6 +14,7 @@ fn orders_of_factors(rt: HostRuntime) {
         (&[2][..], true),
         (&[6][..], false),
         (&[2, 3, 9][..], true),
+        (&[13, 11, 9][..], true),
         (&[2, 3, 4, 5][..], false),
     ];
     for (orders, found) in table {

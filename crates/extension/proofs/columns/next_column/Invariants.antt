@@ -1,8 +1,8 @@
-use Rattle.std.proofs.Common.{◌≡◌, ◌-◌, ◌^◌, ℕ, List}
+use Rattle.std.proofs.Common.{◌≡◌, ◌-◌, ℕ, List}
 use Rattle.std.specs.Cmp.Lexicographic.{slice_cmp}
 use Rattle.std.specs.Ordering.{nat_cmp}
 use Rattle.std.specs.declared.cmp.Ordering.TheVariants.{Less}
-use Rattle.extension.specs.Admissible.{IsAdmissible, value}
+use Rattle.extension.specs.Admissible.{IsAdmissible, value, above_values}
 use Rattle.extension.specs.Steps.{IsStart}
 use Rattle.extension.proofs.columns.next_column.Given as goal
 
@@ -16,4 +16,4 @@ invariant-loop-column l =
     }
 
 abbrev pub decreases-loop-column : goal.decreases-loop-column
-decreases-loop-column l = 10 ^ 18 - value l.before.items
+decreases-loop-column l = above_values - value l.before.items

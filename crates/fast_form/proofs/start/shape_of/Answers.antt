@@ -1,8 +1,7 @@
 use Rattle.std.proofs.Common.{◌≡◌, ◌<◌, ◌≤◌, ◌∷◌, [], ℕ, zero, suc, List, length, slice_index, sym, ◌∙◌, ap, subst, arith}
 use Rattle.matroid_theory.specs.Field.{IsOrder}
 use Rattle.matroid_theory.specs.Rep.{count, order}
-use Rattle.matroid_theory.proofs.FieldLaws.{field_laws}
-use Rattle.form_search.proofs.Columns.{order_most}
+use Rattle.matroid_theory.proofs.FieldLaws.{order_most, field_laws}
 use Rattle.fast_form.proofs.start.shape_of.Goals as goal
 
 by_three : (P : ℕ → Type 0) → P 0 → P 1 → P 2 → (f : ℕ) → f < 3 → P f
@@ -23,7 +22,7 @@ returns c = record {
       f (let q : length c.factors-factors.result ≤ 3 = c.count.ensures.are_factors.few in let z : length c.factors-factors.result ≡ count c.args.rep.now = ap (λ (w : List ℕ). length w) c.factors-factors.ensures in omega arith) l;
   scalars = by_three (λ f. 1 < slice_index (c.field_at.result ∷ (c.field_at-2.result ∷ (c.field_at-3.result ∷ []))) f)
       (more_than_one c.field_at.result c.field_at.ensures.is_order) (more_than_one c.field_at-2.result c.field_at-2.ensures.is_order) (more_than_one c.field_at-3.result c.field_at-3.ensures.is_order);
-  small = by_three (λ f. slice_index (c.field_at.result ∷ (c.field_at-2.result ∷ (c.field_at-3.result ∷ []))) f ≤ 9)
+  small = by_three (λ f. slice_index (c.field_at.result ∷ (c.field_at-2.result ∷ (c.field_at-3.result ∷ []))) f ≤ 13)
       (order_most c.field_at.result c.field_at.ensures.is_order) (order_most c.field_at-2.result c.field_at-2.ensures.is_order) (order_most c.field_at-3.result c.field_at-3.ensures.is_order);
   one = subst (λ n. 1 ≤ n) (sym c.count.ensures.count) (let q : 0 < length c.factors-factors.result = c.count.ensures.are_factors.some in omega arith);
   few = subst (λ n. n ≤ 3) (sym c.count.ensures.count) c.count.ensures.are_factors.few;
