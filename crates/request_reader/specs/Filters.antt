@@ -1,5 +1,5 @@
 -- What is known of the filters that were said so far.
-use Rattle.std.specs.Prelude.{◌≡◌, ◌≤◌, List, [], ◌∷◌, ◌++◌, map, cond, filter_map, Option, option_map, option_to_list, IsTrue}
+use Rattle.std.specs.Prelude.{◌≡◌, ◌≤◌, List, [], ◌∷◌, ◌++◌, map, cond, filter_map, Option, option_map, option_to_list}
 use Rattle.matroid_theory.specs.Minor.{Matroid}
 use Rattle.named_matroids.specs.Names.{named_by}
 use Rattle.formats.specs.Statement.{MinorName, Statement, kind_number, named_elements}
@@ -7,7 +7,6 @@ use Rattle.formats.specs.Minors.{given_as}
 use Rattle.formats.specs.Levels.{AreGivenBy}
 use Rattle.formats.specs.Request.{count_of_kind, wanted_in}
 use Rattle.request_reader.specs.declared.filters.Filters.{Filters}
-use Rattle.request_reader.specs.Now.{forms_now}
 
 -- the minor that is wanted, as a line names it
 abbrev pub wanted_of : Filters → Option MinorName
@@ -32,7 +31,6 @@ pub record HoldsFilters (entries : List Statement) (filters : Filters) : Type 0 
 
 -- The entry is a filter that wasn't there, and the filters are those with it.
 pub record IsNewFilter (entries : List Statement) (entry : Statement) (filters : Filters) : Type 0 where
-  pub is_read : IsTrue (forms_now entry)
   pub not_big : named_elements entry ≤ 10
   pub new : count_of_kind (kind_number entry) entries ≡ 0
   pub holds : HoldsFilters (entries ++ entry ∷ []) filters

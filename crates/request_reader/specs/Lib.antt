@@ -1,7 +1,8 @@
 pub mod Filters
 pub mod Limits
-pub mod Now
-pub mod Plain
+pub mod Versions
+pub mod Requested
 pub mod Said
 pub mod Spellings
 pub mod Values
+pub mod Matrices

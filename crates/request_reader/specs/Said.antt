@@ -1,10 +1,9 @@
 -- What a line says, as an entry, and what may be wrong with it after others.
 use Rattle.std.specs.Prelude.{ℕ, ◌≡◌, ◌≢◌, ◌<◌, ◌≤◌, List}
 use Rattle.named_matroids.specs.Names.{named_by, IsSmallName}
-use Rattle.formats.specs.declared.refusal.PrintMode.TheVariants.{Forms}
 use Rattle.formats.specs.declared.refusal.Refusal.{Refusal}
 use Rattle.formats.specs.declared.refusal.Refusal.TheVariants as refusal
-use Rattle.formats.specs.Statement.{MinorName, Statement, Version, RankIs, FieldIs, SizeIs, Forbids, ListsConnected, ListsThreeConnected, ListsCosimple, ListsDistinct, ListsWith, Prints, elements_of, kind_number, forbid_kind, most_of_kind, named_elements}
+use Rattle.formats.specs.Statement.{MinorName, Statement, VersionIs, RankIs, FieldIs, SizeIs, EquivalenceIs, Forbids, ListsConnected, ListsThreeConnected, ListsCosimple, ListsDistinct, ListsWith, Prints, elements_of, kind_number, forbid_kind, most_of_kind, named_elements}
 use Rattle.formats.specs.Request.{count_of_kind}
 use Rattle.request_reader.specs.declared.filters.Flag.{Flag}
 use Rattle.request_reader.specs.declared.filters.Flag.TheVariants.{Connected, Three, Cosimple, Distinct}
@@ -36,13 +35,14 @@ IsFilter (filter.Has item) entry = (named : MinorName) × (entry ≡ ListsWith n
 
 -- the entry is what is said
 abbrev pub IsSaid : Said → Statement → Type 0
-IsSaid said.Version entry = entry ≡ Version
+IsSaid said.Version entry = (n : ℕ) × (entry ≡ VersionIs n)
 IsSaid (said.Rank n) entry = entry ≡ RankIs n
 IsSaid (said.Field factors) entry = entry ≡ FieldIs factors
 IsSaid (said.Size n) entry = entry ≡ SizeIs n
 IsSaid (said.Forbid item) entry = (named : MinorName) × (entry ≡ Forbids named) × IsNamed item named
 IsSaid (said.Filter filter) entry = IsFilter filter entry
-IsSaid said.PrintsForms entry = entry ≡ Prints Forms
+IsSaid (said.Equivalence mode) entry = entry ≡ EquivalenceIs mode
+IsSaid (said.Print print) entry = entry ≡ Prints print
 
 -- this is wrong with the entry after those that were said
 abbrev pub IsWrong : List Statement → Statement → Wrong → Type 0

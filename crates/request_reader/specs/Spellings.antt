@@ -1,4 +1,4 @@
--- How the parts of a line that is read so far are spelled.
+-- How the parts of a line are spelled.
 use Rattle.std.specs.Prelude.{ℕ, List, [], ◌∷◌, map, codes, decimal}
 use Rattle.formats.specs.Lines.{parted}
 use Rattle.request_reader.specs.declared.filters.Flag.{Flag}
@@ -12,6 +12,7 @@ keyword_word keyword.Version = codes "version"
 keyword_word keyword.Rank = codes "rank"
 keyword_word keyword.Field = codes "field"
 keyword_word keyword.Size = codes "size"
+keyword_word keyword.Equivalence = codes "equivalence"
 keyword_word keyword.Forbid = codes "forbid"
 keyword_word keyword.Filter = codes "filter"
 keyword_word keyword.Print = codes "print"

@@ -2,13 +2,14 @@ ghost use Rattle.std.specs.Prelude.{◌≡◌, MatchOption};
 ghost use Rattle.request_reader.specs.Spellings.{keyword_word};
 ghost use Rattle.request_reader.specs.declared.keyword.Keyword.{Keyword};
 
-/// The first word of a line of a form that is read so far.
+/// The first word of a line.
 #[derive(Clone, Copy)]
 pub enum Keyword {
     Version,
     Rank,
     Field,
     Size,
+    Equivalence,
     Forbid,
     Filter,
     Print,
@@ -25,6 +26,7 @@ pub fn keyword_of(word: &[u8]) -> Option<Keyword>
         b"rank" => Some(Keyword::Rank),
         b"field" => Some(Keyword::Field),
         b"size" => Some(Keyword::Size),
+        b"equivalence" => Some(Keyword::Equivalence),
         b"forbid" => Some(Keyword::Forbid),
         b"filter" => Some(Keyword::Filter),
         b"print" => Some(Keyword::Print),

@@ -7,10 +7,13 @@ mod field_line;
 mod filters;
 mod keyword;
 mod line;
+mod matrix_line;
 mod read;
 mod request;
 mod values;
+mod version;
 
 pub use filters::Filters;
 pub use read::read_request;
 pub use request::Request;
+pub use version::Version;

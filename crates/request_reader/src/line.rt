@@ -1,13 +1,17 @@
-ghost use Rattle.std.specs.Prelude.{◌≡◌, ◌↔◌, ◌∷◌, [], IsTrue, ℕ, List, MatchOption, codes, decimal};
+ghost use Rattle.std.specs.Prelude.{◌≡◌, ◌↔◌, ◌≤◌, ◌∷◌, [], IsTrue, ℕ, List, MatchOption, codes, decimal};
 ghost use Rattle.formats.specs.Lines.{words_of};
-ghost use Rattle.formats.specs.Statement.{MinorName, IsMinorName, minor_words, Statement, IsNumber, Says};
-ghost use Rattle.request_reader.specs.Now.{is_name, forms_now};
+ghost use Rattle.formats.specs.Statement.{MinorName, IsMinorName, minor_words, mode_word, print_word, order_of_minor, most_order, Statement, IsNumber, Says};
 ghost use Rattle.request_reader.specs.Said.{IsNamed, IsFilter, IsSaid};
+ghost use Rattle.request_reader.specs.Versions.{version_number};
 
-use crate::cut::next_word;
+use crate::cut::{is_only_word, next_word, only_word};
 use crate::field_line::factors_of;
 use crate::filters::{Filter, flag_of};
 use crate::keyword::{Keyword, keyword_of};
+use crate::matrix_line::matrix_of;
+use crate::version::Version;
+use formats::PrintMode;
+use matroid_theory::Mode;
 use named_matroids::{MinorItem, NameFault, named, number_of};
 use product_rep::Factors;
 
@@ -28,29 +32,8 @@ pub enum Said {
     Size(u32),
     Forbid(NamedMinor),
     Filter(Filter),
-    PrintsForms,
-}
-
-// The word of a text that has only one.
-fn only_word(rest: &[u8]) -> Option<&[u8]>
-    ensures { MatchOption result
-        ((word : List ℕ) → words_of rest.now ≡ word ∷ [] → ⊥)
-        (λ word. words_of rest.now ≡ word.now ∷ []) }
-{
-    let (word, after) = next_word(rest)?;
-    match next_word(after) {
-        Some(_) => None,
-        None => Some(word),
-    }
-}
-
-fn is_only_word(rest: &[u8], expected: &[u8]) -> bool
-    ensures { IsTrue result ↔ (words_of rest.now ≡ expected.now ∷ []) }
-{
-    match only_word(rest) {
-        Some(word) => word == expected,
-        None => false,
-    }
+    Equivalence(Mode),
+    Print(PrintMode),
 }
 
 fn only_number(rest: &[u8]) -> Option<u32>
@@ -61,46 +44,96 @@ fn only_number(rest: &[u8]) -> Option<u32>
     number_of(only_word(rest)?)
 }
 
-// The minor that a text of one word names.
-fn only_minor(rest: &[u8]) -> Option<NamedMinor>
+// The minor that a text names or gives by a matrix, in a text of the version.
+fn minor_of(version: Version, rest: &[u8]) -> Option<NamedMinor>
     ensures { MatchOption result
-        ((minor : MinorName) → IsMinorName minor → IsTrue (is_name minor) → words_of rest.now ≡ minor_words minor → ⊥)
-        (λ named. (minor : MinorName) × IsMinorName minor × IsTrue (is_name minor) × (words_of rest.now ≡ minor_words minor) × IsNamed named minor) }
+        ((minor : MinorName) → IsMinorName minor → order_of_minor minor ≤ most_order (version_number version) → words_of rest.now ≡ minor_words minor → ⊥)
+        (λ named. (minor : MinorName) × IsMinorName minor × (order_of_minor minor ≤ most_order (version_number version)) ×
+        (words_of rest.now ≡ minor_words minor) × IsNamed named minor) }
 {
-    match named(only_word(rest)?) {
+    match next_word(rest)? {
+        (b"matrix", after) => matrix_of(version, after),
+        _ => name_of(only_word(rest)?),
+    }
+}
+
+// The minor that a word names.
+fn name_of(word: &[u8]) -> Option<NamedMinor>
+    ensures { MatchOption result
+        ((minor : MinorName) → IsMinorName minor → minor_words minor ≡ word.now ∷ [] → ⊥)
+        (λ named. (minor : MinorName) × IsMinorName minor × (minor_words minor ≡ word.now ∷ []) × IsNamed named minor) }
+{
+    match named(word) {
         Ok(item) => Some(NamedMinor::Small(item)),
         Err(NameFault::TooBig) => Some(NamedMinor::TooBig),
         Err(NameFault::Unknown) => None,
     }
 }
 
-// The filter that a text spells behind the word `filter`.
-fn filter_of(rest: &[u8]) -> Option<Filter>
+// What a text asks to print behind the word `print`.
+fn print_of(rest: &[u8]) -> Option<PrintMode>
     ensures { MatchOption result
-        ((entry : Statement) → Says forms_now (codes "filter" ∷ words_of rest.now) entry → ⊥)
-        (λ filter. (entry : Statement) × Says forms_now (codes "filter" ∷ words_of rest.now) entry × IsFilter filter entry) }
+        ((print : PrintMode) → words_of rest.now ≡ print_word print ∷ [] → ⊥)
+        (λ print. words_of rest.now ≡ print_word print ∷ []) }
+{
+    match only_word(rest)? {
+        b"forms" => Some(PrintMode::Forms),
+        b"counts" => Some(PrintMode::Counts),
+        _ => None,
+    }
+}
+
+// The mode that a text spells behind the word `equivalence`.
+fn mode_of(rest: &[u8]) -> Option<Mode>
+    ensures { MatchOption result
+        ((mode : Mode) → words_of rest.now ≡ mode_word mode ∷ [] → ⊥)
+        (λ mode. words_of rest.now ≡ mode_word mode ∷ []) }
+{
+    match only_word(rest)? {
+        b"linear" => Some(Mode::Linear),
+        b"semilinear" => Some(Mode::Semilinear),
+        _ => None,
+    }
+}
+
+// Whether a text is the number of the version.
+fn is_number_of(version: Version, rest: &[u8]) -> bool
+    ensures { IsTrue result ↔ (words_of rest.now ≡ decimal (version_number version) ∷ []) }
+{
+    match version {
+        Version::One => is_only_word(rest, b"1"),
+        Version::Two => is_only_word(rest, b"2"),
+    }
+}
+
+// The filter that a text spells behind the word `filter`.
+fn filter_of(version: Version, rest: &[u8]) -> Option<Filter>
+    ensures { MatchOption result
+        ((entry : Statement) → Says (version_number version) (codes "filter" ∷ words_of rest.now) entry → ⊥)
+        (λ filter. (entry : Statement) × Says (version_number version) (codes "filter" ∷ words_of rest.now) entry × IsFilter filter entry) }
 {
     match next_word(rest)? {
-        (b"has", after) => Some(Filter::Has(only_minor(after)?)),
+        (b"has", after) => Some(Filter::Has(minor_of(version, after)?)),
         _ => Some(Filter::Flag(flag_of(only_word(rest)?)?)),
     }
 }
 
-/// What a line says, where it has one of the forms that are read so far.
-pub fn said_by(line: &[u8]) -> Option<Said>
+/// What a line says in a text of the version, where it has one of the forms of a line.
+pub fn said_by(version: Version, line: &[u8]) -> Option<Said>
     ensures { MatchOption result
-        ((entry : Statement) → Says forms_now (words_of line.now) entry → ⊥)
-        (λ said. (entry : Statement) × Says forms_now (words_of line.now) entry × IsSaid said entry) }
+        ((entry : Statement) → Says (version_number version) (words_of line.now) entry → ⊥)
+        (λ said. (entry : Statement) × Says (version_number version) (words_of line.now) entry × IsSaid said entry) }
 {
     let (word, rest) = next_word(line)?;
     match keyword_of(word)? {
-        Keyword::Version if is_only_word(rest, b"1") => Some(Said::Version),
+        Keyword::Version if is_number_of(version, rest) => Some(Said::Version),
+        Keyword::Version => None,
         Keyword::Rank => Some(Said::Rank(only_number(rest)?)),
-        Keyword::Field => Some(Said::Field(factors_of(rest)?)),
+        Keyword::Field => Some(Said::Field(factors_of(version, rest)?)),
         Keyword::Size => Some(Said::Size(only_number(rest)?)),
-        Keyword::Forbid => Some(Said::Forbid(only_minor(rest)?)),
-        Keyword::Filter => Some(Said::Filter(filter_of(rest)?)),
-        Keyword::Print if is_only_word(rest, b"forms") => Some(Said::PrintsForms),
-        _ => None,
+        Keyword::Equivalence => Some(Said::Equivalence(mode_of(rest)?)),
+        Keyword::Forbid => Some(Said::Forbid(minor_of(version, rest)?)),
+        Keyword::Filter => Some(Said::Filter(filter_of(version, rest)?)),
+        Keyword::Print => Some(Said::Print(print_of(rest)?)),
     }
 }

@@ -30,9 +30,9 @@ pub enum Columns {
 pub fn matrix_of(version: Version, rest: &[u8]) -> Option<NamedMinor>
     ensures { MatchOption result
         ((order : ℕ) (columns : List (List ℕ)) → IsMatrix order columns → order ≤ most_order (version_number version) →
-            words_of rest.now ≡ matrix_words order columns → ⊥)
+        words_of rest.now ≡ matrix_words order columns → ⊥)
         (λ named. (order : ℕ) × (columns : List (List ℕ)) × IsMatrix order columns × (order ≤ most_order (version_number version)) ×
-            (words_of rest.now ≡ matrix_words order columns) × IsNamed named (ByMatrix order columns)) }
+        (words_of rest.now ≡ matrix_words order columns) × IsNamed named (ByMatrix order columns)) }
 {
     let (word, after) = next_word(rest)?;
     let order = order_of(version, word)?;

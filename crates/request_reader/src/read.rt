@@ -1,35 +1,39 @@
 ghost use Rattle.std.specs.Prelude.{◌≡◌, ◌≤◌, length, IfOk, IfErr};
-ghost use Rattle.formats.specs.Lines.{words_of, is_skipped};
-ghost use Rattle.formats.specs.Request.{most_bytes};
+ghost use Rattle.formats.specs.Request.{most_bytes, version_of as version_of_lem, StandsFor};
 ghost use Rattle.formats.specs.Refusal.{HasRefusal};
-ghost use Rattle.request_reader.specs.Now.{forms_now, IsAccepted, IsRefused};
 ghost use Rattle.request_reader.specs.Values.{AreSaid};
+ghost use Rattle.request_reader.specs.Versions.{version_number};
 
-use crate::cut::{next_line, next_word};
+use crate::cut::{is_skipped_line, next_line};
 use crate::line::said_by;
-use crate::request::{Request, request_for};
+use crate::request::{Asked, Request, request_for};
 use crate::values::Values;
-use formats::{Refusal, Word};
+use crate::version::{Version, version_of};
+use formats::{PrintMode, Refusal, Word};
+use matroid_theory::Mode;
 
 const MOST_BYTES: usize = 65_536;
 
 /// Reads a request text: the request that it asks for, or the first of its faults. The text has at most 65,536 bytes. Each
 /// line says one thing; a line is skipped where it has no word or its first word begins with `#`.
 pub fn read_request(text: &[u8]) -> Result<Request, Refusal>
-    ensures ok { IfOk result (λ request. IsAccepted text.now request) }
-    ensures err { IfErr result (λ why. IsRefused text.now why) }
+    ensures ok { IfOk result (λ request. StandsFor text.now request) }
+    ensures err { IfErr result (λ why. HasRefusal text.now why) }
 {
     if text.len() > MOST_BYTES {
         return Err(Refusal::TooLong);
     }
+    let version = version_of(text);
     let Values {
         rank,
         factors,
         size,
         forbid,
         filters,
+        print,
+        mode,
         ..
-    } = read_values(text)?;
+    } = read_values(version, text)?;
     let Some(rank) = rank else {
         return Err(Refusal::Missing(Word::Rank));
     };
@@ -39,14 +43,24 @@ pub fn read_request(text: &[u8]) -> Result<Request, Refusal>
     let Some(size) = size else {
         return Err(Refusal::Missing(Word::Size));
     };
-    request_for(rank, factors, size, forbid, filters)
+    request_for(Asked {
+        version,
+        factors,
+        rank,
+        size,
+        forbid,
+        filters,
+        print: print.unwrap_or(PrintMode::Forms),
+        mode: mode.unwrap_or(Mode::Linear),
+    })
 }
 
 // What the lines say, each kind at most once.
-fn read_values(text: &[u8]) -> Result<Values, Refusal>
-    requires { length text.now ≤ most_bytes }
+fn read_values(version: Version, text: &[u8]) -> Result<Values, Refusal>
+    requires short { length text.now ≤ most_bytes }
+    requires version { version_number version ≡ version_of_lem text.now }
     ensures ok { IfOk result (λ values. AreSaid text.now values) }
-    ensures err { IfErr result (λ why. HasRefusal forms_now text.now why) }
+    ensures err { IfErr result (λ why. HasRefusal text.now why) }
 {
     let mut values = Values::new();
     let mut number = 0;
@@ -58,7 +72,7 @@ fn read_values(text: &[u8]) -> Result<Values, Refusal>
         if is_skipped_line(line) {
             continue;
         }
-        let Some(said) = said_by(line) else {
+        let Some(said) = said_by(version, line) else {
             return Err(Refusal::BadLine(number));
         };
         match values.with(said) {
@@ -67,13 +81,4 @@ fn read_values(text: &[u8]) -> Result<Values, Refusal>
         }
     }
     Ok(values)
-}
-
-fn is_skipped_line(line: &[u8]) -> bool
-    ensures { result ≡ is_skipped (words_of line.now) }
-{
-    match next_word(line) {
-        None | Some(([b'#', ..], _)) => true,
-        Some(_) => false,
-    }
 }

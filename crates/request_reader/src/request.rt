@@ -3,15 +3,17 @@ ghost use Rattle.matroid_theory.specs.Field.{IsFactors};
 ghost use Rattle.formats.specs.Levels.{AreGivenBy};
 ghost use Rattle.formats.specs.Minors.{given_as};
 ghost use Rattle.formats.specs.Request.{IsWithinLimits};
-ghost use Rattle.formats.specs.declared.refusal.PrintMode.TheVariants.{Forms};
 ghost use Rattle.request_reader.specs.Filters.{wanted_of, wanted_matroid, IsWantedGiven};
-ghost use Rattle.request_reader.specs.Plain.{request_with, minors_of, AreGiven};
+ghost use Rattle.request_reader.specs.Requested.{asked_request, minors_of, AreGiven, AreNames, IsRequestOfVersion};
 ghost use Rattle.request_reader.specs.Limits.{IsLate};
+ghost use Rattle.request_reader.specs.Versions.{version_number};
 
 use crate::columns::column_count;
 use crate::filters::Filters;
+use crate::version::Version;
 use arrayvec::ArrayVec;
-use formats::Refusal;
+use formats::{PrintMode, Refusal};
+use matroid_theory::Mode;
 use named_matroids::MinorItem;
 use product_rep::Factors;
 use std::marker::Model;
@@ -22,21 +24,22 @@ const MOST_SIZE: u32 = 16;
 
 const MOST_COLUMNS: u64 = 1_000_000;
 
-/// A request within its limits. So far its forms are printed. Contracts see what it asks for.
+/// A request within its limits. Contracts see what it asks for.
 #[derive(Drop)]
 pub struct Request {
+    version: Version,
     factors: Factors,
     rank: u8,
     size: u8,
+    mode: Mode,
     forbid: ArrayVec<MinorItem, 8>,
     filters: Filters,
+    print: PrintMode,
 }
 
 impl Model for Request {
     ghost use Rattle.formats.specs.Request.{Request as Asked};
-    ghost use Rattle.formats.specs.declared.refusal.PrintMode.TheVariants.{Forms};
-    ghost use Rattle.request_reader.specs.Filters.{wanted_of, wanted_matroid, IsWantedGiven};
-    ghost use Rattle.request_reader.specs.Plain.{request_of, KeepsLimits};
+    ghost use Rattle.request_reader.specs.Requested.{request_of, KeepsLimits};
 
     ghost Value = { Asked };
 
@@ -57,7 +60,8 @@ impl Request {
     pub fn laws(&self)
         ensures limits { IsWithinLimits self.now }
         ensures factors { IsFactors self.now.factors }
-        ensures plain { self.now.print ≡ Forms }
+        ensures of_version { IsRequestOfVersion self.now }
+        ensures names { AreNames self.now }
     {
         let _filters = &self.filters;
     }
@@ -96,38 +100,71 @@ impl Request {
     {
         &self.filters
     }
+
+    /// What is printed of a level beside its numbers.
+    pub fn print(&self) -> PrintMode
+        ensures { result ≡ self.now.print }
+    {
+        self.print
+    }
+
+    /// Which moves count for equivalence.
+    pub fn mode(&self) -> Mode
+        ensures { result ≡ self.now.mode }
+    {
+        self.mode
+    }
+
+    /// The version of the request language, 1 or 2.
+    pub fn version(&self) -> u8
+        ensures { result ≡ self.now.version }
+    {
+        self.version.number()
+    }
+}
+
+/// What a text asks for, in any limits.
+#[derive(Drop)]
+pub struct Asked {
+    pub version: Version,
+    pub factors: Factors,
+    pub rank: u32,
+    pub size: u32,
+    pub mode: Mode,
+    pub forbid: ArrayVec<MinorItem, 8>,
+    pub filters: Filters,
+    pub print: PrintMode,
 }
 
 /// The request for these values, where they are within the limits.
-pub fn request_for(
-    rank: u32,
-    factors: Factors,
-    size: u32,
-    forbid: ArrayVec<MinorItem, 8>,
-    filters: Filters,
-) -> Result<Request, Refusal>
-    requires forbid { AreGiven forbid.items }
-    requires wanted { IsWantedGiven filters }
-    ensures request { IfOk result (λ request. request ≡ request_with factors rank size (minors_of forbid.items) filters) }
+pub fn request_for(asked: Asked) -> Result<Request, Refusal>
+    requires forbid { AreGiven asked.forbid.items }
+    requires wanted { IsWantedGiven asked.filters }
+    requires of_version { IsRequestOfVersion (asked_request asked) }
+    requires names { AreNames (asked_request asked) }
+    ensures request { IfOk result (λ request. request ≡ asked_request asked) }
     ensures limits { IfOk result (λ request. IsWithinLimits request) }
-    ensures refused { IfErr result (λ why. IsLate rank factors size why) }
+    ensures refused { IfErr result (λ why. IsLate asked.rank asked.factors asked.size why) }
 {
+    let Asked { rank, size, .. } = asked;
     if rank == 0 || rank > MOST_RANK {
         return Err(Refusal::Rank(rank));
     }
     if size < rank || size > MOST_SIZE {
         return Err(Refusal::Size(size));
     }
-    let (rank, size) = (rank as u8, size as u8);
-    let columns = column_count(rank, &factors);
+    let columns = column_count(rank as u8, &asked.factors);
     if columns > MOST_COLUMNS {
         return Err(Refusal::TooWide(columns));
     }
     Ok(Request {
-        factors,
-        rank,
-        size,
-        forbid,
-        filters,
+        version: asked.version,
+        factors: asked.factors,
+        rank: rank as u8,
+        size: size as u8,
+        mode: asked.mode,
+        forbid: asked.forbid,
+        filters: asked.filters,
+        print: asked.print,
     })
 }

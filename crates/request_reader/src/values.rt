@@ -9,11 +9,12 @@ ghost use Rattle.request_reader.specs.Values.{Holds};
 use crate::filters::Filters;
 use crate::line::{NamedMinor, Said};
 use arrayvec::ArrayVec;
-use formats::Refusal;
+use formats::{PrintMode, Refusal};
+use matroid_theory::Mode;
 use named_matroids::MinorItem;
 use product_rep::Factors;
 
-/// What may be wrong with a line of a form that is read, after others.
+/// What may be wrong with a line that has a form, after others.
 #[derive(Clone, Copy)]
 pub enum Wrong {
     /// It says again what may be said once.
@@ -46,7 +47,8 @@ pub struct Values {
     pub size: Option<u32>,
     pub forbid: ArrayVec<MinorItem, 8>,
     pub filters: Filters,
-    pub print: bool,
+    pub print: Option<PrintMode>,
+    pub mode: Option<Mode>,
 }
 
 impl Values {
@@ -61,7 +63,8 @@ impl Values {
             size: None,
             forbid: ArrayVec::new(),
             filters: Filters::new(),
-            print: false,
+            print: None,
+            mode: None,
         }
     }
 
@@ -95,8 +98,12 @@ impl Values {
                 Ok(filters) => Ok(Values { filters, ..self }),
                 Err(wrong) => Err(wrong),
             },
-            Said::PrintsForms if !self.print => Ok(Values {
-                print: true,
+            Said::Equivalence(mode) if self.mode.is_none() => Ok(Values {
+                mode: Some(mode),
+                ..self
+            }),
+            Said::Print(print) if self.print.is_none() => Ok(Values {
+                print: Some(print),
                 ..self
             }),
             _ => Err(Wrong::Again),
