@@ -1,6 +1,6 @@
 -- Columns as lists of codes.
 use Rattle.std.proofs.Common.{◌≡◌, ◌&&◌, ℕ, zero, suc, eqb-true, ◌<◌, sym, ◌∙◌, ap, subst, arith, Bool, true, List, [], ◌∷◌, length}
-use Rattle.std.specs.List.{slice_index, slice_index_or, list_all}
+use Rattle.std.specs.List.{slice_index, slice_index_or, list_all, AllByRecursion}
 use Rattle.std.proofs.Math.ListN.{get_or-map}
 use Rattle.std.proofs.lemmas.List.{length-map}
 use Rattle.std.specs.Bool.{◌==◌, nat_lt}
@@ -10,6 +10,7 @@ use Rattle.arrayvec.specs.ArrayVec.{ArrayVec}
 use Rattle.matroid_theory.specs.Matrix.{IsIndependent, IsRankOf}
 use Rattle.matroid_theory.specs.Given as given
 use Rattle.matroid_theory.proofs.FieldLaws.{both_left, both_right}
+use Rattle.formats.specs.Statement.{IsMatrix}
 use Rattle.elimination.specs.Columns.{column, matrix_of, height, AreColumns}
 use Rattle.small_lists.specs.Lists.{lists}
 use Rattle.named_matroids.specs.Listed.{are_codes}
@@ -55,7 +56,28 @@ tested_columns q rows columns t j l = record {
     rows_at : (j : ℕ) → j < length columns → length (column columns j) ≡ rows
     rows_at j l = eqb-true (length (column columns j)) rows (both_left (length (column columns j) == rows) _ (test_at j l))
 
+all_at : {X : Type 0} (P : X → Type 0) (xs : List X) (d : X) → AllByRecursion P xs → (j : ℕ) → j < length xs → P (slice_index_or xs j d)
+all_at P [] d all j l = absurd (omega arith)
+all_at P (x ∷ xs) d all zero l = all.0
+all_at P (x ∷ xs) d all (suc j) l = all_at P xs d all.1 j (omega arith)
+
+-- the columns of a matrix
+matrix_columns : (q : ℕ) (columns : List (ArrayVec ℕ)) → IsMatrix q (lists columns) → AreColumns q (height columns) columns
+matrix_columns q columns m j l = record {
+  rows = rows_at j l ∙ sym (rows_at 0 (omega arith));
+  below = λ i k. all_at (λ code. code < q) (column columns j) 0 (codes_at j l) i (let e : length (column columns j) ≡ length (column columns 0) = rows_at j l ∙ sym (rows_at 0 (omega arith)) in omega arith);
+}
+  where
+    rows_at : (j : ℕ) → j < length columns → length (column columns j) ≡ m.height.0
+    rows_at j l =
+        subst (λ (c : List ℕ). length c ≡ m.height.0) (column_codes columns j)
+        (all_at (λ (c : List ℕ). length c ≡ m.height.0) (lists columns) [] m.height.3 j (let e : length (lists columns) ≡ length columns = length_codes columns in omega arith))
+
+    codes_at : (j : ℕ) → j < length columns → AllByRecursion (λ code. code < q) (column columns j)
+    codes_at j l =
+        subst (λ (c : List ℕ). AllByRecursion (λ code. code < q) c) (column_codes columns j)
+        (all_at (λ (c : List ℕ). AllByRecursion (λ code. code < q) c) (lists columns) [] m.entries j (let e : length (lists columns) ≡ length columns = length_codes columns in omega arith))
+
 -- the same for other names of the order and of the list
-pub named_columns : (q order rows : ℕ) (v w : List (ArrayVec ℕ)) (table : List (List ℕ)) → q ≡ order → v ≡ w → lists w ≡ table → are_codes order rows table ≡ true → AreColumns q (height v) v
-named_columns q order rows v w table e d f t =
-    subst (λ (q : ℕ). AreColumns q (height v) v) (sym e) (tested_columns order rows v (subst (λ (x : List (List ℕ)). are_codes order rows x ≡ true) (sym (ap lists d ∙ f)) t))
+pub named_matrix : (q order : ℕ) (v : List (ArrayVec ℕ)) (columns : List (List ℕ)) → q ≡ order → lists v ≡ columns → IsMatrix order columns → AreColumns q (height v) v
+named_matrix q order v columns e f m = subst (λ (q : ℕ). AreColumns q (height v) v) (sym e) (matrix_columns order v (subst (IsMatrix order) (sym f) m))

@@ -1,5 +1,5 @@
 -- A text with a comma in it.
-use Rattle.std.proofs.Common.{◌≡◌, ℕ, zero, suc, ◌+◌, ◌<◌, ◌≤◌, refl, sym, ◌∙◌, ap, arith, List, [], ◌∷◌, ◌++◌, length, get_or, take, drop, ◌-◌, Some, None, true, false, not, cond, eqb-true, eq-eqb, lt-ltb}
+use Rattle.std.proofs.Common.{◌≡◌, ℕ, zero, suc, ◌+◌, ◌<◌, refl, sym, ◌∙◌, ap, arith, List, [], ◌∷◌, ◌++◌, length, get_or, take, drop, ◌-◌, Some, None, true, false, not, cond, eqb-true, eq-eqb, lt-ltb}
 use Rattle.std.specs.Prelude.{decimal, position}
 use Rattle.std.specs.List.{position_or_len}
 use Rattle.std.specs.Bool.{◌==◌, nat_lt}
@@ -8,32 +8,9 @@ use Rattle.std.proofs.Math.Seq.{drop-cons}
 use Rattle.std.proofs.lemmas.List.{take-append-drop}
 use Rattle.std.proofs.lemmas.Grind.{common_steps}
 use Rattle.std.proofs.lemmas.List.Quantifiers.{position-Some}
-use Rattle.std.specs.List.{AllByRecursion}
-use Rattle.std.specs.Str.Parse.{AllDigits}
-use Rattle.std.proofs.lemmas.Fmt.{decimal_is_IsNumeral, decimal_injective}
-use Rattle.std.proofs.lemmas.Str.Parse.{digit_from_value}
+use Rattle.std.proofs.lemmas.Fmt.{decimal_injective}
 use Rattle.formats.specs.Statement.{IsNumber}
-
--- no comma in front of the first comma of another
-abbrev NoComma : List ℕ → Type 0
-NoComma bytes = AllByRecursion (λ b. 48 ≤ b) bytes
-
-no_comma : (bytes : List ℕ) → AllDigits 10 bytes → NoComma bytes
-no_comma [] all = tt
-no_comma (b ∷ bytes) all = (let range = digit_from_value b all.0 in omega (arith, range.0), no_comma bytes all.1)
-
-decimal_no_comma : (n : ℕ) → IsNumber n → NoComma (decimal n)
-decimal_no_comma n lt = no_comma (decimal n) ((decimal_is_IsNumeral n (omega arith)).0.1)
-
-split_comma : (a b c d : List ℕ) → NoComma a → NoComma c → a ++ 44 ∷ b ≡ c ++ 44 ∷ d → (a ≡ c) × (b ≡ d)
-split_comma [] b [] d p q e = (refl, cc (e))
-split_comma [] b (y ∷ c) d p q e = let h : 44 ≡ y = cc (e) in absurd (omega (arith, h, q.0))
-split_comma (x ∷ a) b [] d p q e = let h : x ≡ 44 = cc (e) in absurd (omega (arith, h, p.0))
-split_comma (x ∷ a) b (y ∷ c) d p q e =
-    let h : x ≡ y = cc (e) in
-    let t : a ++ 44 ∷ b ≡ c ++ 44 ∷ d = cc (e) in
-    let rest = split_comma a b c d p.1 q.1 t in
-    (cc (h, rest.0), rest.1)
+use Rattle.formats.proofs.Unique.{NoComma, decimal_no_comma, split_comma}
 
 -- two numbers with a comma between them are spelled in one way
 pub same_numbers : (m n k l : ℕ) → IsNumber m → IsNumber n → IsNumber k → IsNumber l → decimal m ++ 44 ∷ decimal n ≡ decimal k ++ 44 ∷ decimal l → (m ≡ k) × (n ≡ l)

@@ -1,3 +1,4 @@
+pub mod CodeMatrix
 pub mod Listed
 pub mod Names
 pub mod SmallMatroids

@@ -3,11 +3,12 @@ ghost use Rattle.std.specs.Prelude.{◌≡◌, ◌≤◌, ℕ, [], ◌∷◌, Ma
 ghost use Rattle.formats.specs.Statement.{Uniform as AsUniform, IsUniform, minor_words};
 ghost use Rattle.named_matroids.specs.Names.{named_by, IsSmallName, IsNameFault};
 
+use crate::matrix_text::MatrixText;
 use crate::number::numbers_of;
 use thiserror::Error;
 
-/// A matroid by its name.
-#[derive(Clone, Copy, Debug, PartialEq, Eq)]
+/// A matroid by its name or by a matrix.
+#[derive(Debug, Drop)]
 pub enum Spelling {
     /// `Ur,n`, the uniform matroid of rank r on n elements.
     Uniform(u8, u8),
@@ -21,6 +22,25 @@ pub enum Spelling {
     KFour,
     /// `K5`.
     KFive,
+    /// `matrix q C1 .. Cn`, the matroid of the columns over the field of order q.
+    Matrix(MatrixText),
+}
+
+impl Spelling {
+    /// The same name, or the same matrix.
+    pub(crate) fn copy(&self) -> Spelling
+        ensures { result ≡ self.now }
+    {
+        match self {
+            Spelling::Uniform(rank, size) => Spelling::Uniform(*rank, *size),
+            Spelling::Fano => Spelling::Fano,
+            Spelling::FanoDual => Spelling::FanoDual,
+            Spelling::NonFano => Spelling::NonFano,
+            Spelling::KFour => Spelling::KFour,
+            Spelling::KFive => Spelling::KFive,
+            Spelling::Matrix(text) => Spelling::Matrix(text.copy()),
+        }
+    }
 }
 
 /// Why a text names no matroid of at most 10 elements.

@@ -5,10 +5,10 @@ ghost use Rattle.matroid_theory.specs.Given.{ColumnsOver, IsGivenBy};
 ghost use Rattle.small_lists.specs.Lists.{lists};
 ghost use Rattle.named_matroids.specs.Listed.{are_codes};
 
-use crate::columns::matroid_of;
+use crate::columns::matroid_over;
 use crate::minor::Minor;
 use arrayvec::ArrayVec;
-use field_tables::{Column, Field};
+use field_tables::Column;
 use small_lists::list_of;
 
 /// The columns of the Fano matroid over GF(2). The first six are those of K4.
@@ -46,10 +46,7 @@ pub fn matroid_of_table<const N: usize>(order: u8, table: &[[u8; N]]) -> Minor
     ensures { IsGivenBy (ColumnsOver order table.now) result }
 {
     let columns = columns_of(table);
-    match Field::of(order) {
-        Some(field) => matroid_of(field, columns.as_slice()),
-        None => unreachable!(),
-    }
+    matroid_over(order, columns.as_slice())
 }
 
 /// The columns of the table.

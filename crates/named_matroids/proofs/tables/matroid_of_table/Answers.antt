@@ -1,6 +1,9 @@
-use Rattle.named_matroids.proofs.ColumnLists.{named_columns}
+use Rattle.std.proofs.Common.{◌≡◌, ℕ, List, true, sym, ◌∙◌, ap, subst}
+use Rattle.small_lists.specs.Lists.{lists}
+use Rattle.named_matroids.specs.Listed.{are_codes}
+use Rattle.named_matroids.proofs.ColumnLists.{tested_columns}
 use Rattle.named_matroids.proofs.tables.matroid_of_table.Goals as goal
 
-pub matroid_of-requires-clause-columns : goal.matroid_of-requires-clause-columns
-matroid_of-requires-clause-columns g c =
-    named_columns c.in-Some.field c.args.order g.row.N c.as_slice.result.now c.columns_of-columns.result.items c.args.table.now c.in-Some.ensures.order c.as_slice.ensures.value c.columns_of-columns.ensures c.requires.codes
+pub matroid_over-requires-clause-columns : goal.matroid_over-requires-clause-columns
+matroid_over-requires-clause-columns g c =
+    tested_columns c.args.order g.row.N c.as_slice.result.now (subst (λ (x : List (List ℕ)). are_codes c.args.order g.row.N x ≡ true) (sym (ap lists c.as_slice.ensures.value ∙ c.columns_of-columns.ensures)) c.requires.codes)
