@@ -7,7 +7,7 @@ use Rattle.named_matroids.specs.Names.{NamedMatroid, named_by}
 use Rattle.formats.specs.Lines.{line_of_words}
 use Rattle.formats.specs.Statement.{MinorName, Statement, Version, FieldIs, RankIs, SizeIs, Forbids, spelling}
 use Rattle.formats.specs.Listing.{where_set, text_of_statements}
-use Rattle.request_reader.specs.Plain.{minors_of}
+use Rattle.request_reader.specs.Requested.{minors_of}
 
 -- the line of an entry
 abbrev pub entry_text : Statement → List ℕ

@@ -5,7 +5,7 @@ ghost use Rattle.formats.specs.Statement.{Version, FieldIs, RankIs, SizeIs, Forb
 ghost use Rattle.formats.specs.Listing.{text_of_statements};
 ghost use Rattle.formats.specs.Listing as listing;
 ghost use Rattle.request_reader.specs.Filters.{wanted_of};
-ghost use Rattle.request_reader.specs.Plain.{minors_of};
+ghost use Rattle.request_reader.specs.Requested.{minors_of};
 
 use crate::line::{Head, Line, push_bytes, push_line};
 use arrayvec::ArrayVec;

@@ -18,8 +18,7 @@ use Rattle.request_reader.specs.declared.values.Wrong.{Wrong}
 use Rattle.request_reader.specs.declared.values.Wrong.TheVariants as wrong
 use Rattle.request_reader.specs.Filters.{wanted_of, HoldsFilters, IsNewFilter}
 use Rattle.request_reader.specs.Said.{flag_entry, IsFilter, IsWrong}
-use Rattle.request_reader.proofs.EntryCounts.{count_end, count_kept, wanted_count, values_end, values_kept, name_read, flag_again, value_again, none_there}
-use Rattle.formats.proofs.Heads.{of_kind}
+use Rattle.formats.proofs.KindCounts.{of_kind, count_end, count_kept, wanted_count, values_end, values_kept, flag_again, value_again, none_there}
 
 -- an entry that is no filter changes none
 pub filters_kept : (es : List Statement) (e : Statement) (filters : Filters) → HoldsFilters es filters → of_kind 5 e ≡ 0 → of_kind 6 e ≡ 0 → of_kind 7 e ≡ 0 → of_kind 8 e ≡ 0 → wanted_in e ≡ None → HoldsFilters (es ++ e ∷ []) filters
@@ -41,7 +40,6 @@ pub connected_new : (es : List Statement) (filters : Filters) (f : Flag) → Hol
 connected_new es filters f h is new =
     let none : count_of_kind 5 es ≡ 0 = unset _ filters.connected h.connected new in
     subst (λ (f : Flag). IsNewFilter es (flag_entry f) (record filters { connected = true })) (sym is) (record {
-      is_read = refl;
       not_big = omega arith;
       new = none;
       holds = record {
@@ -58,7 +56,6 @@ pub three_new : (es : List Statement) (filters : Filters) (f : Flag) → HoldsFi
 three_new es filters f h is new =
     let none : count_of_kind 6 es ≡ 0 = unset _ filters.three h.three new in
     subst (λ (f : Flag). IsNewFilter es (flag_entry f) (record filters { three = true })) (sym is) (record {
-      is_read = refl;
       not_big = omega arith;
       new = none;
       holds = record {
@@ -75,7 +72,6 @@ pub cosimple_new : (es : List Statement) (filters : Filters) (f : Flag) → Hold
 cosimple_new es filters f h is new =
     let none : count_of_kind 7 es ≡ 0 = unset _ filters.cosimple h.cosimple new in
     subst (λ (f : Flag). IsNewFilter es (flag_entry f) (record filters { cosimple = true })) (sym is) (record {
-      is_read = refl;
       not_big = omega arith;
       new = none;
       holds = record {
@@ -92,7 +88,6 @@ pub distinct_new : (es : List Statement) (filters : Filters) (f : Flag) → Hold
 distinct_new es filters f h is new =
     let none : count_of_kind 8 es ≡ 0 = unset _ filters.distinct h.distinct new in
     subst (λ (f : Flag). IsNewFilter es (flag_entry f) (record filters { distinct = true })) (sym is) (record {
-      is_read = refl;
       not_big = omega arith;
       new = none;
       holds = record {
@@ -130,7 +125,6 @@ wanted_new es filters more f e named item h said is new small made given =
     let none : filter_map wanted_in es ≡ [] = none_wanted es filters h (none_there filters.has new) in
     let entry : Statement = ListsWith (named_by item.spelling) in
     subst (λ (m : Filters). IsNewFilter es e m) (sym made) (subst (λ (e : Statement). IsNewFilter es e (record filters { has = Some item })) (sym same) (record {
-      is_read = name_read item.spelling;
       not_big = name.few;
       new = wanted_count es ∙ ap length none;
       holds = record {

@@ -1,27 +1,27 @@
 -- The lines of a text that were read so far, and one line more.
-use Rattle.std.proofs.Common.{◌≡◌, ◌∙◌, ℕ, ◌+◌, ◌<◌, ◌≤◌, Bool, true, false, not, cond, List, [], ◌∷◌, ◌++◌, length, refl, sym, ap, arith, append_assoc, length-append}
-use Rattle.std.specs.Prelude.{IsTrue}
+use Rattle.std.proofs.Common.{◌≡◌, ◌∙◌, ℕ, ◌+◌, ◌<◌, ◌≤◌, Bool, true, false, not, cond, List, [], ◌∷◌, ◌++◌, length, refl, sym, ap, subst, arith, append_assoc, length-append}
 use Rattle.std.proofs.lemmas.List.{map-append}
 use Rattle.formats.specs.Lines.{lines_of, words_of, is_skipped, statements_of}
-use Rattle.formats.specs.Statement.{Statement, Says, IsStatement, spelling}
-use Rattle.formats.specs.Request.{SayInTurn}
+use Rattle.formats.specs.Statement.{Statement, Says, IsStatement, IsOfVersion, spelling}
+use Rattle.formats.specs.Request.{version_of, SayInTurn}
 use Rattle.formats.specs.Refusal.{Fault, Again, NinthForbid, TooBig, HasFault, FirstFault, HasRefusal}
 use Rattle.formats.proofs.Unique.{statements_split}
+use Rattle.formats.proofs.KindCounts.{all_end}
 use Rattle.request_reader.specs.declared.values.Values.{Values}
 use Rattle.request_reader.specs.declared.values.Wrong.{Wrong}
 use Rattle.request_reader.specs.declared.values.Wrong.TheVariants as wrong
-use Rattle.request_reader.specs.Now.{forms_now}
 use Rattle.request_reader.specs.Said.{IsWrong, refusal_at}
 use Rattle.request_reader.specs.Values.{Holds}
-use Rattle.request_reader.proofs.EntryCounts.{all_end}
+
 
 -- so many lines were read, they say entries with these values, and the rest is left
-pub record HasRead (text : List ℕ) (values : Values) (number : ℕ) (rest : List ℕ) : Type 0 where
+pub record HasRead (version : ℕ) (text : List ℕ) (values : Values) (number : ℕ) (rest : List ℕ) : Type 0 where
   pub short : length text ≤ 65536
+  pub is_version : version ≡ version_of text
   pub before : List (List ℕ)
   pub entries : List Statement
   pub split : lines_of text ≡ before ++ lines_of rest
-  pub says : SayInTurn forms_now before entries
+  pub says : SayInTurn version before entries
   pub holds : Holds entries values
   pub place : number ≡ length before
   pub few : number + length rest ≤ 65536
@@ -32,13 +32,14 @@ pub record IsNext (rest line after : List ℕ) : Type 0 where
   pub shorter : length after < length rest
 
 -- nothing was read at the start
-pub start_read : (text : List ℕ) (values : Values) → length text ≤ 65536 → Holds [] values → HasRead text values 0 text
-start_read text values short none = record {
+pub start_read : (version : ℕ) (text : List ℕ) (values : Values) → length text ≤ 65536 → version ≡ version_of text → Holds [] values → HasRead version text values 0 text
+start_read version text values short is_version none = record {
   short = short;
+  is_version = is_version;
   before = [];
   entries = [];
   split = refl;
-  says = record { may = tt; are_read = tt; spelled = refl };
+  says = record { may = tt; of_version = tt; spelled = refl };
   holds = none;
   place = refl;
   few = omega arith;
@@ -57,27 +58,29 @@ place_next : (before : List (List ℕ)) (line : List ℕ) (number : ℕ) → num
 place_next before line number e = let l : length (before ++ line ∷ []) ≡ length before + 1 = length-append before (line ∷ []) in omega arith
 
 -- after a line that is skipped, and one that says something new
-pub skip_line : (text : List ℕ) (values : Values) (number : ℕ) (rest line after : List ℕ) → HasRead text values number rest → IsNext rest line after → is_skipped (words_of line) ≡ true → HasRead text values (number + 1) after
-skip_line text values number rest line after h n skip = record {
+pub skip_line : (version : ℕ) (text : List ℕ) (values : Values) (number : ℕ) (rest line after : List ℕ) → HasRead version text values number rest → IsNext rest line after → is_skipped (words_of line) ≡ true → HasRead version text values (number + 1) after
+skip_line version text values number rest line after h n skip = record {
   short = h.short;
+  is_version = h.is_version;
   before = h.before ++ line ∷ [];
   entries = h.entries;
   split = split_next text h.before rest line after h.split n.lines;
-  says = record { may = h.says.may; are_read = h.says.are_read; spelled = statements_skipped h.before line skip ∙ h.says.spelled };
+  says = record { may = h.says.may; of_version = h.says.of_version; spelled = statements_skipped h.before line skip ∙ h.says.spelled };
   holds = h.holds;
   place = place_next h.before line number h.place;
   few = omega (arith, h.few, n.shorter);
 }
 
-pub say_line : (text : List ℕ) (values more : Values) (number : ℕ) (rest line after : List ℕ) (e : Statement) → HasRead text values number rest → IsNext rest line after → is_skipped (words_of line) ≡ false → Says forms_now (words_of line) e → ((entries : List Statement) → Holds entries values → Holds (entries ++ e ∷ []) more) → HasRead text more (number + 1) after
-say_line text values more number rest line after e h n counts says with_it = record {
+pub say_line : (version : ℕ) (text : List ℕ) (values more : Values) (number : ℕ) (rest line after : List ℕ) (e : Statement) → HasRead version text values number rest → IsNext rest line after → is_skipped (words_of line) ≡ false → Says version (words_of line) e → ((entries : List Statement) → Holds entries values → Holds (entries ++ e ∷ []) more) → HasRead version text more (number + 1) after
+say_line version text values more number rest line after e h n counts says with_it = record {
   short = h.short;
+  is_version = h.is_version;
   before = h.before ++ line ∷ [];
   entries = h.entries ++ e ∷ [];
   split = split_next text h.before rest line after h.split n.lines;
   says = record {
     may = all_end IsStatement h.entries e h.says.may says.may;
-    are_read = all_end (λ e. IsTrue (forms_now e)) h.entries e h.says.are_read says.is_read;
+    of_version = all_end (IsOfVersion version) h.entries e h.says.of_version says.of_version;
     spelled = statements_split h.before line [] counts ∙ (λ i. h.says.spelled i ++ says.spelled i ∷ []) ∙ sym (map-append spelling h.entries (e ∷ []));
   };
   holds = with_it h.entries h.holds;
@@ -86,8 +89,8 @@ say_line text values more number rest line after e h n counts says with_it = rec
 }
 
 -- the next line is the first at fault
-fault_here : (text : List ℕ) (values : Values) (number : ℕ) (rest line after : List ℕ) (h : HasRead text values number rest) → IsNext rest line after → is_skipped (words_of line) ≡ false → (fault : Fault) → HasFault forms_now h.entries (words_of line) fault → FirstFault forms_now text (number + 1) fault
-fault_here text values number rest line after h n counts fault wrong = record {
+fault_here : (version : ℕ) (text : List ℕ) (values : Values) (number : ℕ) (rest line after : List ℕ) (h : HasRead version text values number rest) → IsNext rest line after → is_skipped (words_of line) ≡ false → (fault : Fault) → HasFault version h.entries (words_of line) fault → FirstFault text (number + 1) fault
+fault_here version text values number rest line after h n counts fault wrong = record {
   short = h.short;
   before = h.before;
   line = line;
@@ -95,17 +98,17 @@ fault_here text values number rest line after h n counts fault wrong = record {
   split = h.split ∙ ap (λ (l : List (List ℕ)). h.before ++ l) n.lines;
   place = ap (λ (k : ℕ). k + 1) h.place;
   said = h.entries;
-  says = h.says;
+  says = subst (λ (v : ℕ). SayInTurn v h.before h.entries) h.is_version h.says;
   in_order = h.holds.in_order;
   counts = counts;
-  wrong = wrong;
+  wrong = subst (λ (v : ℕ). HasFault v h.entries (words_of line) fault) h.is_version wrong;
 }
 
 -- the text is refused for the next line
-pub wrong_line : (text : List ℕ) (values : Values) (number : ℕ) (rest line after : List ℕ) (e : Statement) (w : Wrong) → HasRead text values number rest → IsNext rest line after → is_skipped (words_of line) ≡ false → Says forms_now (words_of line) e → ((entries : List Statement) → Holds entries values → IsWrong entries e w) → HasRefusal forms_now text (refusal_at w (number + 1))
-wrong_line text values number rest line after e w h n counts says is = by w (is h.entries h.holds)
+pub wrong_line : (version : ℕ) (text : List ℕ) (values : Values) (number : ℕ) (rest line after : List ℕ) (e : Statement) (w : Wrong) → HasRead version text values number rest → IsNext rest line after → is_skipped (words_of line) ≡ false → Says version (words_of line) e → ((entries : List Statement) → Holds entries values → IsWrong entries e w) → HasRefusal text (refusal_at w (number + 1))
+wrong_line version text values number rest line after e w h n counts says is = by w (is h.entries h.holds)
   where
-    by : (w : Wrong) → IsWrong h.entries e w → HasRefusal forms_now text (refusal_at w (number + 1))
-    by wrong.Again i = fault_here text values number rest line after h n counts Again (e, says, i.0, i.1)
-    by wrong.NinthForbid i = fault_here text values number rest line after h n counts NinthForbid (e, says, i.0, i.1)
-    by wrong.TooBig i = fault_here text values number rest line after h n counts TooBig (e, says, i.0, i.1)
+    by : (w : Wrong) → IsWrong h.entries e w → HasRefusal text (refusal_at w (number + 1))
+    by wrong.Again i = fault_here version text values number rest line after h n counts Again (e, says, i.0, i.1)
+    by wrong.NinthForbid i = fault_here version text values number rest line after h n counts NinthForbid (e, says, i.0, i.1)
+    by wrong.TooBig i = fault_here version text values number rest line after h n counts TooBig (e, says, i.0, i.1)

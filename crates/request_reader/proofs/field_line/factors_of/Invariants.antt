@@ -1,16 +1,16 @@
 use Rattle.std.proofs.Common.{◌≡◌, ◌++◌, ℕ, List, ◌-◌, ◌<◌, length, slice_index}
-use Rattle.matroid_theory.specs.Field.{IsOrder, IsFactors}
 use Rattle.formats.specs.Lines.{words_of}
 use Rattle.request_reader.specs.Spellings.{factor_words}
+use Rattle.request_reader.specs.Versions.{version_number, IsOrderIn, AreFactorsIn}
 use Rattle.request_reader.proofs.FieldLines.{begun, AreLeft}
 use Rattle.request_reader.proofs.field_line.factors_of.Given as goal
 
 abbrev pub invariant-loop-word : goal.invariant-loop-word
 invariant-loop-word l =
     record {
-      fields : (f : ℕ) → f < length l.orders.items → IsOrder (slice_index l.orders.items f);
+      fields : (f : ℕ) → f < length l.orders.items → IsOrderIn (version_number l.version) (slice_index l.orders.items f);
       spelled : words_of l.fn.rest ≡ begun l.orders.items ++ words_of l.left;
-      others : (factors : List ℕ) → IsFactors factors → words_of l.fn.rest ≡ factor_words factors → AreLeft (length l.orders.items) factors (words_of l.left);
+      others : (factors : List ℕ) → AreFactorsIn (version_number l.version) factors → words_of l.fn.rest ≡ factor_words factors → AreLeft (version_number l.version) (length l.orders.items) factors (words_of l.left);
     }
 
 abbrev pub decreases-loop-word : goal.decreases-loop-word

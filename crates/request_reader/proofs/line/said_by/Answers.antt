@@ -2,18 +2,22 @@ use Rattle.std.proofs.Common.{◌≡◌, ◌∙◌, ℕ, List, ◌∷◌, refl, 
 use Rattle.std.specs.Prelude.{codes}
 use Rattle.formats.specs.Lines.{words_of}
 use Rattle.formats.specs.Statement.{Forbids, Says}
-use Rattle.request_reader.specs.Now.{forms_now}
+use Rattle.request_reader.specs.Versions.{version_number}
 use Rattle.request_reader.specs.Spellings.{keyword_word}
 use Rattle.request_reader.proofs.Spellings.{keyword_said}
 use Rattle.request_reader.proofs.line.said_by.Goals as goal
 
 pub returns-in_err-keyword_of : goal.returns-in_err-keyword_of
 returns-in_err-keyword_of c = rw c.from_residual-in_err-keyword_of.ensures (λ entry said.
-    let is = keyword_said c.in_ok-word.word.now (words_of c.in_ok-word.rest.now) entry (subst (λ (l : List (List ℕ)). Says forms_now l entry) c.in_ok-word.ensures.words said) in
+    let is = keyword_said (version_number c.args.version) c.in_ok-word.word.now (words_of c.in_ok-word.rest.now) entry (subst (λ (l : List (List ℕ)). Says (version_number c.args.version) l entry) c.in_ok-word.ensures.words said) in
     c.in_err-keyword_of.ensures is.0 is.1)
 
-pub returns-in_ok-only_minor-in-Forbid : goal.returns-in_ok-only_minor-in-Forbid
-returns-in_ok-only_minor-in-Forbid c =
-    let named = c.in_ok-only_minor-in-Forbid.ensures in
+pub returns-in_ok-minor_of-in-Forbid : goal.returns-in_ok-minor_of-in-Forbid
+returns-in_ok-minor_of-in-Forbid c =
+    let named = c.in_ok-minor_of-in-Forbid.ensures in
     let word : c.in_ok-word.word.now ≡ codes "forbid" = c.in_ok-keyword_of.ensures ∙ ap keyword_word c.in-Forbid.is in
-    (Forbids named.0, record { may = named.1; is_read = named.2; spelled = c.in_ok-word.ensures.words ∙ (λ i. word i ∷ named.3 i) }, (named.0, refl, named.4))
+    (
+      Forbids named.0,
+      record { may = named.1; of_version = named.2; spelled = c.in_ok-word.ensures.words ∙ (λ i. word i ∷ named.3 i) },
+      (named.0, refl, named.4),
+    )

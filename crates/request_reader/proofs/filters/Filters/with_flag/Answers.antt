@@ -1,4 +1,4 @@
-use Rattle.request_reader.proofs.EntryCounts.{on_from_not}
+use Rattle.formats.proofs.KindCounts.{on_from_not}
 use Rattle.request_reader.proofs.FilterValues.{connected_new, three_new, cosimple_new, distinct_new, connected_again, three_again, cosimple_again, distinct_again}
 use Rattle.request_reader.proofs.filters.Filters.with_flag.Goals as goal
 use Rattle.request_reader.proofs.filters.Filters.with_flag.Goals.{in_default-via-in-Connected+else-not-self, in_default-via-in-Three+else-not-self-2, in_default-via-in-Cosimple+else-not-self-3, in_default-via-in-Distinct+else-not-self-4}

@@ -3,10 +3,10 @@ use Rattle.std.proofs.lemmas.Bool.Decides.{nat_tests}
 use Rattle.request_reader.specs.declared.line.NamedMinor.TheVariants.{Small}
 use Rattle.request_reader.specs.declared.line.Said.TheVariants.{Forbid}
 use Rattle.request_reader.specs.Values.{Holds}
-use Rattle.request_reader.proofs.EntryCounts.{is_there, not_there}
-use Rattle.request_reader.proofs.EntryValues.{version_new, rank_new, field_new, size_new, forbid_new, filter_new, filter_wrong, print_new, version_again, rank_again, field_again, size_again, ninth, too_big, print_again}
+use Rattle.formats.proofs.KindCounts.{is_there, not_there}
+use Rattle.request_reader.proofs.EntryValues.{version_new, rank_new, field_new, size_new, forbid_new, filter_new, filter_wrong, print_new, mode_new, version_again, rank_again, field_again, size_again, ninth, too_big, print_again, mode_again}
 use Rattle.request_reader.proofs.values.Values.with.Goals as goal
-use Rattle.request_reader.proofs.values.Values.with.Goals.{in_default-via-in-Version+else-not-self, in_default-via-in-Rank+else-is_none, in_default-via-in-Field+else-is_none-2, in_default-via-in-Size+else-is_none-3, in_default-via-in-PrintsForms+else-not-self-2}
+use Rattle.request_reader.proofs.values.Values.with.Goals.{in_default-via-in-Version+else-not-self, in_default-via-in-Rank+else-is_none, in_default-via-in-Field+else-is_none-2, in_default-via-in-Size+else-is_none-3, in_default-via-in-Equivalence+else-is_none-4, in_default-via-in-Print+else-is_none-5}
 
 pub returns-in-Version : goal.returns-in-Version
 returns-in-Version c = λ es e h s. version_new es c.args.self c.args.said e h s c.in-Version.is c.if-not-self.true
@@ -42,8 +42,11 @@ returns-in-Ok c = λ es e h s. filter_new es c.args.self c.args.said e c.in-Filt
 pub returns-in-Err : goal.returns-in-Err
 returns-in-Err c = λ es e h s. filter_wrong es c.args.self c.args.said e c.in-Filter.filter c.in-Err.wrong h s c.in-Filter.is (c.in-Err.ensures es e)
 
-pub returns-in-PrintsForms : goal.returns-in-PrintsForms
-returns-in-PrintsForms c = λ es e h s. print_new es c.args.self c.args.said e h s c.in-PrintsForms.is c.if-not-self-2.true
+pub returns-in-Equivalence : goal.returns-in-Equivalence
+returns-in-Equivalence c = λ es e h s. mode_new es c.args.self c.args.said e c.in-Equivalence.mode h s c.in-Equivalence.is c.if-is_none-4.ensures
+
+pub returns-in-Print : goal.returns-in-Print
+returns-in-Print c = λ es e h s. print_new es c.args.self c.args.said e c.in-Print.print h s c.in-Print.is c.if-is_none-5.ensures
 
 pub returns-in_default : goal.returns-in_default
 returns-in_default c = λ es e h s. elim c.in_default.branch [
@@ -51,5 +54,6 @@ returns-in_default c = λ es e h s. elim c.in_default.branch [
   | in_default-via-in-Rank+else-is_none w ↦ rank_again es c.args.self c.args.said e w.in-Rank.rank h s w.in-Rank.is (is_there _ _ w.is_none.ensures w.if-is_none.false)
   | in_default-via-in-Field+else-is_none-2 w ↦ field_again es c.args.self c.args.said e w.in-Field.factors h s w.in-Field.is w.if-is_none-2.ensures
   | in_default-via-in-Size+else-is_none-3 w ↦ size_again es c.args.self c.args.said e w.in-Size.size h s w.in-Size.is w.if-is_none-3.ensures
-  | in_default-via-in-PrintsForms+else-not-self-2 w ↦ print_again es c.args.self c.args.said e h s w.in-PrintsForms.is w.if-not-self-2.false
+  | in_default-via-in-Equivalence+else-is_none-4 w ↦ mode_again es c.args.self c.args.said e w.in-Equivalence.mode h s w.in-Equivalence.is w.if-is_none-4.ensures
+  | in_default-via-in-Print+else-is_none-5 w ↦ print_again es c.args.self c.args.said e w.in-Print.print h s w.in-Print.is w.if-is_none-5.ensures
 ]
