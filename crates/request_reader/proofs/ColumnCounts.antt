@@ -36,13 +36,15 @@ product_more xs i l =
     ∙ ap product_of (map-append (λ (q : ℕ). q - 1) (take i xs) (slice_index xs i ∷ []))
     ∙ product-append (map (λ q. q - 1) (take i xs)) (slice_index xs i - 1)
 
--- a field has 2 to 9 elements
-pub order_range : (q : ℕ) → IsOrder q → (2 ≤ q) × (q ≤ 9)
-order_range = by_order (λ q. (2 ≤ q) × (q ≤ 9)) (lit≤ tt, lit≤ tt) (lit≤ tt, lit≤ tt) (lit≤ tt, lit≤ tt) (lit≤ tt, lit≤ tt) (lit≤ tt, lit≤ tt) (lit≤ tt, lit≤ tt) (lit≤ tt, lit≤ tt)
+-- a field has 2 to 13 elements
+pub order_range : (q : ℕ) → IsOrder q → (2 ≤ q) × (q ≤ 13)
+order_range =
+    by_order (λ q. (2 ≤ q) × (q ≤ 13)) (lit≤ tt, lit≤ tt) (lit≤ tt, lit≤ tt) (lit≤ tt, lit≤ tt) (lit≤ tt, lit≤ tt) (lit≤ tt, lit≤ tt)
+    (lit≤ tt, lit≤ tt) (lit≤ tt, lit≤ tt) (lit≤ tt, lit≤ tt) (lit≤ tt, lit≤ tt)
 
--- fields have at most 8 entries each that aren't 0
-pub entries_few : (n i : ℕ) → n ≤ 8 ^ i → i ≤ 3 → n ≤ 512
-entries_few n i h l = let p : 8 ^ i ≤ 8 ^ 3 = pow-le-pow_right (lit< tt) l in omega arith
+-- fields have at most 12 entries each that aren't 0
+pub entries_few : (n i : ℕ) → n ≤ 12 ^ i → i ≤ 3 → n ≤ 1728
+entries_few n i h l = let p : 12 ^ i ≤ 12 ^ 3 = pow-le-pow_right (lit< tt) l in omega arith
 
 -- one support more
 pub count_more : (rank : ℕ) (factors : List ℕ) (s : ℕ) → sum (map (columns_of_support rank factors) (range_with_len 1 (s + 1))) ≡ sum (map (columns_of_support rank factors) (range_with_len 1 s)) + subsets rank (s + 1) * product_of (map (λ q. q - 1) factors) ^ s
@@ -53,31 +55,24 @@ count_more rank factors s =
     ∙ ap (λ (k : ℕ). sum (map (columns_of_support rank factors) (range_with_len 1 s)) + subsets rank (s + 1) * product_of (map (λ q. (q - 1) ^ k) factors)) at
     ∙ ap (λ (n : ℕ). sum (map (columns_of_support rank factors) (range_with_len 1 s)) + subsets rank (s + 1) * n) (product_powers s factors)
 
--- a power of at most 512 entries is small
-power_few : (s entries : ℕ) → s ≤ 5 → entries ≤ 512 → entries ^ s ≤ 512 ^ 5
+-- a power of at most 1728 entries is small
+pub power_few : (s entries : ℕ) → s ≤ 5 → entries ≤ 1728 → entries ^ s ≤ 1728 ^ 5
 power_few s entries l e =
-    let p : entries ^ s ≤ 512 ^ s = pow-le-pow_left e s in
-    let q : 512 ^ s ≤ 512 ^ 5 = pow-le-pow_right (lit< tt) l in
+    let p : entries ^ s ≤ 1728 ^ s = pow-le-pow_left e s in
+    let q : 1728 ^ s ≤ 1728 ^ 5 = pow-le-pow_right (lit< tt) l in
     omega arith
 
--- what a support adds is at most 2^51
-pub few_more : (s choices below entries : ℕ) → s ≤ 5 → choices ≤ 64 → below ≡ entries ^ s → entries ≤ 512 → choices * below ≤ 2 ^ 51
+-- what a support adds is at most 2^60
+pub few_more : (s choices below entries : ℕ) → s ≤ 5 → choices ≤ 64 → below ≡ entries ^ s → entries ≤ 1728 → choices * below ≤ 2 ^ 60
 few_more s choices below entries l c b e =
-    let p : entries ^ s ≤ 512 ^ 5 = power_few s entries l e in
-    let r : below ≤ 512 ^ 5 = omega arith in
-    let q : choices * below ≤ 64 * 512 ^ 5 = mul-le-mul c r in
+    let p : entries ^ s ≤ 1728 ^ 5 = power_few s entries l e in
+    let r : below ≤ 1728 ^ 5 = omega arith in
+    let q : choices * below ≤ 64 * 1728 ^ 5 = mul-le-mul c r in
     omega arith
 
-pub power_fits : (s below entries : ℕ) → s ≤ 5 → below ≡ entries ^ s → entries ≤ 512 → below * entries < 2 ^ 64
-power_fits s below entries l b e =
-    let p : entries ^ s ≤ 512 ^ 5 = power_few s entries l e in
-    let r : below ≤ 512 ^ 5 = omega arith in
-    let q : below * entries ≤ 512 ^ 5 * 512 = mul-le-mul r e in
-    omega arith
-
--- one factor more, of at most 8 entries
-pub eight_more : (n m i : ℕ) → n ≤ 8 ^ i → m ≤ 8 → n * m ≤ 8 ^ (i + 1)
-eight_more n m i h l = let p : n * m ≤ 8 ^ i * 8 = mul-le-mul h l in omega (arith, pow_more 8 i)
+-- one factor more, of at most 12 entries
+pub twelve_more : (n m i : ℕ) → n ≤ 12 ^ i → m ≤ 12 → n * m ≤ 12 ^ (i + 1)
+twelve_more n m i h l = let p : n * m ≤ 12 ^ i * 12 = mul-le-mul h l in omega (arith, pow_more 12 i)
 
 -- the sets that have the first thing, and those that haven't
 pub subsets_both : (n k a b : ℕ) → n ≢ 0 → k ≢ 0 → a ≡ subsets (n - 1) (k - 1) → b ≡ subsets (n - 1) k → a + b ≡ subsets n k
@@ -106,11 +101,8 @@ pub count_step : (rank : ℕ) (factors : List ℕ) (s count choices below entrie
 count_step rank factors s count choices below entries c h b e =
     (λ i. c i + h i * (b ∙ (λ t. e t ^ s)) i) ∙ sym (count_more rank factors s)
 
-pub few_step : (s count more : ℕ) → count ≤ s * 2 ^ 51 → more ≤ 2 ^ 51 → count + more ≤ (s + 1) * 2 ^ 51
+pub few_step : (s count more : ℕ) → count ≤ s * 2 ^ 60 → more ≤ 2 ^ 60 → count + more ≤ (s + 1) * 2 ^ 60
 few_step s count more h l = omega arith
 
-pub power_step : (s below entries : ℕ) → below ≡ entries ^ s → below * entries ≡ entries ^ (s + 1)
-power_step s below entries e = ap (λ (n : ℕ). n * entries) e ∙ sym (pow_more entries s)
-
-pub sum_fits : (s count more : ℕ) → s ≤ 5 → count ≤ s * 2 ^ 51 → more ≤ 2 ^ 51 → count + more < 2 ^ 64
+pub sum_fits : (s count more : ℕ) → s ≤ 5 → count ≤ s * 2 ^ 60 → more ≤ 2 ^ 60 → count + more < 2 ^ 64
 sum_fits s count more l h m = omega arith

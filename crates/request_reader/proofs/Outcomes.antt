@@ -39,11 +39,11 @@ request_from version factors rank size values = record {
 kept : {Y : Type 0} (P : Statement → Type 0) (Q : Y → Type 0) (value : Statement → Option Y) → ((e : Statement) (y : Y) → value e ≡ Some y → P e → Q y)
     → (es : List Statement) → AllByRecursion P es → AllByRecursion Q (filter_map value es)
 kept P Q value each [] all = tt
-kept {Y = Y} P Q value each (e ∷ es) all = at (value e) refl
+kept {Y = Y} P Q value each (e ∷ es) all = at (value e) refl (kept P Q value each es all.1)
   where
-    at : (o : Option Y) → value e ≡ o → AllByRecursion Q (cons_option o (filter_map value es))
-    at None is = kept P Q value each es all.1
-    at (Some y) is = (each e y is all.0, kept P Q value each es all.1)
+    at : (o : Option Y) → value e ≡ o → AllByRecursion Q (filter_map value es) → AllByRecursion Q (cons_option o (filter_map value es))
+    at None is rest = rest
+    at (Some y) is rest = (each e y is all.0, rest)
 
 -- statements of a version, with small names, ask for a request of that version with such names
 factors_of_version : (version : ℕ) (e : Statement) (fs : List ℕ) → field_in e ≡ Some fs → IsOfVersion version e → AllByRecursion (λ order. order ≤ most_order version) fs

@@ -22,7 +22,7 @@ fn subsets(n: u8, k: u8) -> u64
 // How many entries other than 0 the fields have together.
 fn entry_count(factors: &Factors) -> u64
     ensures value { result ≡ product_of (map (λ q. q - 1) factors.now) }
-    ensures few { result ≤ 512 }
+    ensures few { result ≤ 1728 }
 {
     let mut entries = 1;
     for i in 0..factors.count() {
@@ -38,10 +38,8 @@ pub fn column_count(rank: u8, factors: &Factors) -> u64
 {
     let entries = entry_count(factors);
     let mut count = 0;
-    let mut below = 1;
     for s in 0..rank {
-        count += subsets(rank, s + 1) * below;
-        below *= entries;
+        count += subsets(rank, s + 1) * entries.pow(u32::from(s));
     }
     count
 }

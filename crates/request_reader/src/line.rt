@@ -70,26 +70,26 @@ fn name_of(word: &[u8]) -> Option<NamedMinor>
     }
 }
 
-// What a text asks to print behind the word `print`.
-fn print_of(rest: &[u8]) -> Option<PrintMode>
+// What a word asks to print.
+fn print_of(word: &[u8]) -> Option<PrintMode>
     ensures { MatchOption result
-        ((print : PrintMode) → words_of rest.now ≡ print_word print ∷ [] → ⊥)
-        (λ print. words_of rest.now ≡ print_word print ∷ []) }
+        ((print : PrintMode) → word.now ≡ print_word print → ⊥)
+        (λ print. word.now ≡ print_word print) }
 {
-    match only_word(rest)? {
+    match word {
         b"forms" => Some(PrintMode::Forms),
         b"counts" => Some(PrintMode::Counts),
         _ => None,
     }
 }
 
-// The mode that a text spells behind the word `equivalence`.
-fn mode_of(rest: &[u8]) -> Option<Mode>
+// The mode that a word spells.
+fn mode_of(word: &[u8]) -> Option<Mode>
     ensures { MatchOption result
-        ((mode : Mode) → words_of rest.now ≡ mode_word mode ∷ [] → ⊥)
-        (λ mode. words_of rest.now ≡ mode_word mode ∷ []) }
+        ((mode : Mode) → word.now ≡ mode_word mode → ⊥)
+        (λ mode. word.now ≡ mode_word mode) }
 {
-    match only_word(rest)? {
+    match word {
         b"linear" => Some(Mode::Linear),
         b"semilinear" => Some(Mode::Semilinear),
         _ => None,
@@ -131,9 +131,9 @@ pub fn said_by(version: Version, line: &[u8]) -> Option<Said>
         Keyword::Rank => Some(Said::Rank(only_number(rest)?)),
         Keyword::Field => Some(Said::Field(factors_of(version, rest)?)),
         Keyword::Size => Some(Said::Size(only_number(rest)?)),
-        Keyword::Equivalence => Some(Said::Equivalence(mode_of(rest)?)),
+        Keyword::Equivalence => Some(Said::Equivalence(mode_of(only_word(rest)?)?)),
         Keyword::Forbid => Some(Said::Forbid(minor_of(version, rest)?)),
         Keyword::Filter => Some(Said::Filter(filter_of(version, rest)?)),
-        Keyword::Print => Some(Said::Print(print_of(rest)?)),
+        Keyword::Print => Some(Said::Print(print_of(only_word(rest)?)?)),
     }
 }

@@ -7,7 +7,6 @@ use Rattle.request_reader.proofs.columns.column_count.Given as goal
 abbrev pub invariant-loop-s : goal.invariant-loop-s
 invariant-loop-s l =
     record {
-      powers : l.below ≡ l.entries ^ l.s;
       counted : l.count ≡ sum (map (columns_of_support l.rank l.factors) (range_with_len 1 l.s));
-      few : l.count ≤ l.s * 2 ^ 51;
+      few : l.count ≤ l.s * 2 ^ 60;
     }

@@ -6,5 +6,5 @@ abbrev pub invariant-loop-i : goal.invariant-loop-i
 invariant-loop-i l =
     record {
       value : l.entries ≡ product_of (map (λ q. q - 1) (take l.i l.factors));
-      few : l.entries ≤ 8 ^ l.i;
+      few : l.entries ≤ 12 ^ l.i;
     }
