@@ -4,8 +4,8 @@ use Rattle.request_reader.proofs.columns.column_count.Goals as goal
 
 pub pow-requires : goal.pow-requires
 pow-requires c =
-    let few : c.entry_count-entries.result ^ c.loop-s.s ≤ 1728 ^ 5 =
-        power_few c.loop-s.s c.entry_count-entries.result (omega arith) c.entry_count-entries.ensures.few in
+    let few : c.entry_count-entries.result ^ c.from.result ≤ 1728 ^ 5 =
+        power_few c.from.result c.entry_count-entries.result (omega (arith, c.from.ensures)) c.entry_count-entries.ensures.few in
     omega arith
 
 pub overflow_mul-count : goal.overflow_mul-count
