@@ -24,10 +24,10 @@ use Rattle.matroid_theory.proofs.Compared.{not_above_itself, not_above_trans}
 abbrev pub with_power : ℕ → ℕ → (ℕ → ℕ) → ℕ → ℕ
 with_power f t powers g = if g == f then t else powers g
 
-power_here : (f t : ℕ) (powers : ℕ → ℕ) → with_power f t powers f ≡ t
+pub power_here : (f t : ℕ) (powers : ℕ → ℕ) → with_power f t powers f ≡ t
 power_here f t powers = ap (λ b. if b then t else powers f) (same_number f)
 
-power_elsewhere : (f t : ℕ) (powers : ℕ → ℕ) (g : ℕ) → g ≢ f → with_power f t powers g ≡ powers g
+pub power_elsewhere : (f t : ℕ) (powers : ℕ → ℕ) (g : ℕ) → g ≢ f → with_power f t powers g ≡ powers g
 power_elsewhere f t powers g n = ap (λ b. if b then t else powers g) (other_number g f n)
 
 -- a linear move is one of the other mode
@@ -57,10 +57,12 @@ linear_move S m v z = record {
 }
 
 -- a move with another power below the degree is a move
-pub power_move : (S : Shape) (m : Move) (f t : ℕ) → t < degree (slice_index S.factors f) → IsMove Semilinear S m → IsMove Semilinear S (record m { power = with_power f t m.power })
+pub power_move : (S : Shape) (m : Move) (f t : ℕ) → t < degree (slice_index S.factors f) → IsMove Semilinear S m
+    → IsMove Semilinear S (record m { power = with_power f t m.power })
 power_move S m f t b v = record {
   powers = λ g l. elim (cases_eq g f) [
-    | inl e ↦ subst (λ (x : ℕ). with_power f t m.power x < degree (slice_index S.factors x)) (sym e) (subst (λ (x : ℕ). x < degree (slice_index S.factors f)) (sym (power_here f t m.power)) b)
+    | inl e ↦ subst (λ (x : ℕ). with_power f t m.power x < degree (slice_index S.factors x)) (sym e)
+        (subst (λ (x : ℕ). x < degree (slice_index S.factors f)) (sym (power_here f t m.power)) b)
     | inr n ↦ subst (λ (x : ℕ). x < degree (slice_index S.factors g)) (sym (power_elsewhere f t m.power g n)) (v.powers g l)
   ];
   allowed = λ g l. tt;
@@ -80,7 +82,8 @@ module _ (M : Rep) (f t : ℕ) (R : Rep) (s : IsShaped M) (l : f < count M) (h :
 
   -- what a move of power 0 in factor f makes of R is what the one of power t makes of M
   raised_first : (m : Move) (a b : ℕ → ℕ) → IsMove Semilinear (shape M) m → a f ≡ t → b f ≡ 0 → ((g : ℕ) → g ≢ f → a g ≡ b g)
-      → (g i j : ℕ) → g < count M → i < M.rank → j < size M → moved (shape M) (matrix R) (record m { power = b }) g i j ≡ moved (shape M) (matrix M) (record m { power = a }) g i j
+      → (g i j : ℕ) → g < count M → i < M.rank → j < size M
+      → moved (shape M) (matrix R) (record m { power = b }) g i j ≡ moved (shape M) (matrix M) (record m { power = a }) g i j
   raised_first m a b v at bt same g i j k n o =
       ap (times (order M g) (m.scalar g j)) (combination-same (order M g) (field_laws (order M g) (s.orders g k)) M.rank (m.rows g)
       (λ x. raised (order M g) (b g) (matrix R g x (m.label j))) (λ x. raised (order M g) (a g) (matrix M g x (m.label j))) i
@@ -116,7 +119,8 @@ module _ (M : Rep) (f t : ℕ) (R : Rep) (s : IsShaped M) (l : f < count M) (h :
           shaped = e.takes.shaped;
           codes = λ g i j k n o.
               c g i j k n o
-              ∙ raised_first e.move (with_power f t e.move.power) e.move.power v (power_here f t e.move.power) (e.zeros f (there f l) (omega arith)) (power_elsewhere f t e.move.power) g i j k n o;
+              ∙ raised_first e.move (with_power f t e.move.power) e.move.power v (power_here f t e.move.power) (e.zeros f (there f l) (omega arith))
+              (power_elsewhere f t e.move.power) g i j k n o;
         };
       }
     where
@@ -130,7 +134,8 @@ module _ (M : Rep) (f t : ℕ) (R : Rep) (s : IsShaped M) (l : f < count M) (h :
       let v : IsMove Semilinear (shape M) (record e.move { power = with_power f 0 e.move.power }) = power_move (shape M) e.move f 0 F.degree_positive e.valid in
       let c : Codes N (matrix R) (record e.move { power = with_power f 0 e.move.power }) (shape M) =
       λ g i j k n o. e.takes.codes g i j k n o
-      ∙ sym (raised_first e.move e.move.power (with_power f 0 e.move.power) e.valid p (power_here f 0 e.move.power) (λ g d. sym (power_elsewhere f 0 e.move.power g d)) g i j k n o) in
+      ∙ sym (raised_first e.move e.move.power (with_power f 0 e.move.power) e.valid p (power_here f 0 e.move.power)
+      (λ g d. sym (power_elsewhere f 0 e.move.power g d)) g i j k n o) in
       record {
         shaped = h.shaped;
         move = record e.move { power = with_power f 0 e.move.power };
@@ -236,7 +241,8 @@ module _ (M : Rep) (f t : ℕ) (R : Rep) (s : IsShaped M) (l : f < count M) (h :
           let r : M.rank ≤ size M = u.room in
           elim (cases_eq g f) [
             | inl e ↦ subst (λ (x : ℕ). matrix R x i j ≡ unit i j) (sym e)
-                (h.here i j m (omega arith) ∙ ap (raised (order M f) t) (u.units f i j l m n) ∙ raised_unit (order M f) i j (field_laws (order M f) (s.orders f l)))
+                (h.here i j m (omega arith) ∙ ap (raised (order M f) t) (u.units f i j l m n)
+                ∙ raised_unit (order M f) i j (field_laws (order M f) (s.orders f l)))
             | inr d ↦ h.elsewhere g i j k d m (omega arith) ∙ u.units g i j k m n
           ]
 
@@ -293,7 +299,8 @@ least_first f M N s l h =
     }
 
 -- one more power
-module _ (f t : ℕ) (M R best other : Rep) (s : IsShaped M) (l : f < count M) (d : t < degree (order M f)) (h : IsRaised M f t R) (b : IsLeastBelow f t M best) (o : IsLeastFrom (f + 1) R other) where
+module _ (f t : ℕ) (M R best other : Rep) (s : IsShaped M) (l : f < count M) (d : t < degree (order M f))
+    (h : IsRaised M f t R) (b : IsLeastBelow f t M best) (o : IsLeastFrom (f + 1) R other) where
   least_of : (N : Rep) → IsStandard N → AreEquivalentFrom f M N → rep_cmp N best ≢ Greater → rep_cmp N other ≢ Greater → IsLeastBelow f (t + 1) M N
   least_of N n e x y = record {
     standard = n;

@@ -1,4 +1,4 @@
--- Powers of the Frobenius automorphism, factor by factor: a representation with one factor raised, and equivalence by moves that raise no factor before a given one.
+-- Powers of the Frobenius automorphism, factor by factor: a representation with one factor raised, and equivalence by moves that don't raise the first factors.
 use Rattle.std.specs.Prelude.{ℕ, ◌<◌, ◌≡◌, ◌≢◌}
 use Rattle.std.specs.declared.cmp.Ordering.TheVariants.{Greater}
 use Rattle.matroid_theory.specs.declared.Mode.TheVariants.{Semilinear}
