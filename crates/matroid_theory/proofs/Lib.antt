@@ -24,6 +24,8 @@ pub mod Pairs
 pub mod Equivalence
 pub mod Carried
 pub mod Forms
+pub mod Compared
+pub mod Semilinear
 pub mod Standard
 pub mod Built
 pub mod Columns

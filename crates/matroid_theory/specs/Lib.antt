@@ -4,6 +4,7 @@ pub mod Rep
 pub mod Matroid
 pub mod Move
 pub mod Order
+pub mod Powers
 pub mod Minor
 pub mod Given
 pub mod Connection

@@ -5,6 +5,7 @@ use Rattle.std.proofs.lemmas.Grind.{common_steps}
 use Rattle.std.proofs.lemmas.Bool.{cases_lt}
 use Rattle.std.proofs.lemmas.List.{get_or-set_same, get_or-set_other, length-set}
 use Rattle.std.proofs.lemmas.Nat.{div-mul-add}
+use Rattle.matroid_theory.specs.Field.{degree}
 use Rattle.matroid_theory.specs.Move.{MoveTable, row_place, scalar_place}
 use Rattle.product_rep.specs.Tables.{KeepsMove}
 use Rattle.product_rep.proofs.PiecesLemmas.{place_below}
@@ -64,6 +65,7 @@ module _ (t : MoveTable) (h : KeepsMove t) where
         rank_most = h.rank_most;
         size_most = h.size_most;
         powers = h.powers;
+        powers_below = h.powers_below;
         rows = length-set t.rows (row_place t.shape f i k) x ∙ h.rows;
         back = length-set t.back (row_place t.shape f i k) y ∙ h.back;
         scalars = h.scalars;
@@ -74,6 +76,26 @@ module _ (t : MoveTable) (h : KeepsMove t) where
         label_columns = h.label_columns;
       })))
 
+  pub power_kept : (f x : ℕ) → f < length t.shape.factors → x < degree (slice_index t.shape.factors f)
+      → (powers : List ℕ) → powers ≡ slice_set t.powers f x → KeepsMove (record t { powers = powers })
+  power_kept f x l b powers e = subst (λ (v : List ℕ). KeepsMove (record t { powers = v })) (sym e) (record {
+    fields = h.fields;
+    rank_positive = h.rank_positive;
+    rank_most = h.rank_most;
+    size_most = h.size_most;
+    powers = length-set t.powers f x ∙ h.powers;
+    powers_below = λ g k. set_below t.powers f x g (degree (slice_index t.shape.factors g)) (subst (λ (n : ℕ). f < n) (sym h.powers) l)
+        (λ e. subst (λ (f : ℕ). x < degree (slice_index t.shape.factors f)) e b) (h.powers_below g k);
+    rows = h.rows;
+    back = h.back;
+    scalars = h.scalars;
+    labels = h.labels;
+    row_codes = h.row_codes;
+    back_codes = h.back_codes;
+    scalar_codes = h.scalar_codes;
+    label_columns = h.label_columns;
+  })
+
   pub scalar_kept : (f j x p : ℕ) → f < length t.shape.factors → j < t.shape.size → x < slice_index t.shape.factors f → p ≡ scalar_place t.shape f j
       → (scalars : List ℕ) → scalars ≡ slice_set t.scalars p x → KeepsMove (record t { scalars = scalars })
   scalar_kept f j x p l m b e scalars se = subst (λ (v : List ℕ). KeepsMove (record t { scalars = v })) (sym se) (subst (λ (p : ℕ). KeepsMove (record t { scalars = slice_set t.scalars p x })) (sym e) (record {
@@ -82,6 +104,7 @@ module _ (t : MoveTable) (h : KeepsMove t) where
     rank_most = h.rank_most;
     size_most = h.size_most;
     powers = h.powers;
+    powers_below = h.powers_below;
     rows = h.rows;
     back = h.back;
     scalars = length-set t.scalars (scalar_place t.shape f j) x ∙ h.scalars;
@@ -101,6 +124,7 @@ module _ (t : MoveTable) (h : KeepsMove t) where
     rank_most = h.rank_most;
     size_most = h.size_most;
     powers = h.powers;
+    powers_below = h.powers_below;
     rows = h.rows;
     back = h.back;
     scalars = h.scalars;

@@ -9,12 +9,14 @@ use Rattle.std.proofs.lemmas.List.Sums.{position_or_len_is}
 use Rattle.std.proofs.Math.Seq.{get_or-append_seam}
 use Rattle.std.proofs.Math.ListN.{get_or-append}
 use Rattle.std.proofs.lemmas.Grind.{common_steps}
-use Rattle.matroid_theory.specs.declared.Mode.TheVariants.{Linear}
+use Rattle.matroid_theory.specs.declared.Mode.{Mode}
 use Rattle.matroid_theory.specs.Field.{times, raised, degree, IsField}
 use Rattle.matroid_theory.specs.Matrix.{Matrix, unit, matrix_product, sum_below}
 use Rattle.matroid_theory.specs.Rep.{Rep, size, count, order, matrix, shape, KeepsLimits}
-use Rattle.matroid_theory.specs.Move.{MoveTable, IsMove, TakesTo, move_of, row_place, scalar_place}
+use Rattle.matroid_theory.specs.Move.{MoveTable, AllowsPower, IsMove, TakesTo, moved, move_of, row_place, scalar_place}
+use Rattle.matroid_theory.proofs.Equivalence.{allowed_zero}
 use Rattle.matroid_theory.proofs.FieldLaws.{field_laws}
+use Rattle.matroid_theory.proofs.Frobenius.{raised_below}
 use Rattle.matroid_theory.proofs.Sums.{sum_same, combination-unit, same_number, other_number}
 use Rattle.matroid_theory.proofs.Dimension.{unit_code}
 use Rattle.product_rep.proofs.PiecesLemmas.{place_below}
@@ -57,14 +59,20 @@ unit-product q r F A B a b i j l m =
     sum_same q F r (λ k. times q (A i k) (B k j)) (λ k. times q (unit i k) (unit k j)) (λ k o. λ u. times q (a i k l o u) (b k j o m u))
     ∙ combination-unit q F r (λ k. unit k j) i l (unit_code q F i j)
 
-module _ (M : Rep) (t : MoveTable) (h : KeepsLimits M) (powers : (f : ℕ) → f < count M → slice_index t.powers f ≡ 0) (rows : (f i k : ℕ) → f < count M → i < M.rank → k < M.rank → slice_index t.rows (row_place t.shape f i k) ≡ unit i k) (scalars : (f j : ℕ) → f < count M → j < size M → slice_index t.scalars (scalar_place t.shape f j) ≡ 1) (labels : (j : ℕ) → j < size M → slice_index t.labels j ≡ j) where
+-- tables of unit matrices, scalars 1 and each column's own label
+module _ (M : Rep) (t : MoveTable) (h : KeepsLimits M)
+    (rows : (f i k : ℕ) → f < count M → i < M.rank → k < M.rank → slice_index t.rows (row_place t.shape f i k) ≡ unit i k)
+    (scalars : (f j : ℕ) → f < count M → j < size M → slice_index t.scalars (scalar_place t.shape f j) ≡ 1)
+    (labels : (j : ℕ) → j < size M → slice_index t.labels j ≡ j) where
   field : (f : ℕ) → f < count M → IsField (order M f)
   field f l = field_laws (order M f) (h.fields.fields f l)
 
-  pub identity_valid : ((f i k : ℕ) → f < count M → i < M.rank → k < M.rank → slice_index t.back (row_place t.shape f i k) ≡ unit i k) → length t.labels ≡ size M → IsMove Linear (shape M) (move_of t)
-  identity_valid back e = record {
+  pub identity_valid : (mode : Mode) → ((f : ℕ) → f < count M → slice_index t.powers f ≡ 0)
+      → ((f i k : ℕ) → f < count M → i < M.rank → k < M.rank → slice_index t.back (row_place t.shape f i k) ≡ unit i k)
+      → length t.labels ≡ size M → IsMove mode (shape M) (move_of t)
+  identity_valid mode powers back e = record {
     powers = λ f l. subst (λ (x : ℕ). x < degree (order M f)) (sym (powers f l)) (field f l).degree_positive;
-    allowed = powers;
+    allowed = λ f l. subst (AllowsPower mode) (sym (powers f l)) (allowed_zero mode);
     codes = λ f i k l m o. subst (λ (x : ℕ). x < order M f) (sym (rows f i k l m o)) (unit_code (order M f) (field f l) i k);
     back_codes = λ f i k l m o. subst (λ (x : ℕ). x < order M f) (sym (back f i k l m o)) (unit_code (order M f) (field f l) i k);
     inverse = λ f l. record {
@@ -84,21 +92,27 @@ module _ (M : Rep) (t : MoveTable) (h : KeepsLimits M) (powers : (f : ℕ) → f
       place : (j : ℕ) → j < size M → unwrap_or (position (λ l. l == j) t.labels) 0 ≡ j
       place j l = place-at t.labels j j (omega arith) (labels j l) (λ k b z. let z : k ≡ j = sym (labels k (omega arith)) ∙ z in absurd (omega arith))
 
-  pub identity_takes : TakesTo M (move_of t) M
-  identity_takes = record {
+  -- such a move raises each code by its factor's power
+  pub unit_moved : (f i j : ℕ) → f < count M → i < M.rank → j < size M
+      → moved (shape M) (matrix M) (move_of t) f i j ≡ raised (order M f) (slice_index t.powers f) (matrix M f i j)
+  unit_moved f i j l m o =
+      (λ u. times (order M f) (scalars f j l o u) (terms u))
+      ∙ ap (times (order M f) 1) (combination-unit (order M f) (field f l) M.rank (λ k. raised (order M f) (slice_index t.powers f) (matrix M f k j)) i m code)
+      ∙ (field f l).times_one (raised (order M f) (slice_index t.powers f) (matrix M f i j)) code
+    where
+      code : raised (order M f) (slice_index t.powers f) (matrix M f i j) < order M f
+      code = raised_below (order M f) (field f l) (slice_index t.powers f) (matrix M f i j) (h.shaped.codes f i j l m o)
+
+      terms : sum_below (order M f) M.rank (λ k. times (order M f) (slice_index t.rows (row_place t.shape f i k)) (raised (order M f) (slice_index t.powers f) (matrix M f k (slice_index t.labels j))))
+          ≡ sum_below (order M f) M.rank (λ k. times (order M f) (unit i k) (raised (order M f) (slice_index t.powers f) (matrix M f k j)))
+      terms = sum_same (order M f) (field f l) M.rank
+          (λ k. times (order M f) (slice_index t.rows (row_place t.shape f i k)) (raised (order M f) (slice_index t.powers f) (matrix M f k (slice_index t.labels j))))
+          (λ k. times (order M f) (unit i k) (raised (order M f) (slice_index t.powers f) (matrix M f k j)))
+          (λ k b. λ u. times (order M f) (rows f i k l m b u) (raised (order M f) (slice_index t.powers f) (matrix M f k (labels j o u))))
+
+  pub identity_takes : ((f : ℕ) → f < count M → slice_index t.powers f ≡ 0) → TakesTo M (move_of t) M
+  identity_takes powers = record {
     same_shape = refl;
     shaped = h.shaped;
-    codes = λ f i j l m o. sym (same f i j l m o);
+    codes = λ f i j l m o. sym (unit_moved f i j l m o ∙ ap (λ (x : ℕ). raised (order M f) x (matrix M f i j)) (powers f l));
   }
-    where
-      same : (f i j : ℕ) → f < count M → i < M.rank → j < size M → times (order M f) (slice_index t.scalars (scalar_place t.shape f j)) (sum_below (order M f) M.rank (λ k. times (order M f) (slice_index t.rows (row_place t.shape f i k)) (raised (order M f) (slice_index t.powers f) (matrix M f k (slice_index t.labels j))))) ≡ matrix M f i j
-      same f i j l m o =
-          (λ u. times (order M f) (scalars f j l o u) (terms u))
-          ∙ ap (times (order M f) 1) (combination-unit (order M f) (field f l) M.rank (λ k. matrix M f k j) i m (h.shaped.codes f i j l m o))
-          ∙ (field f l).times_one (matrix M f i j) (h.shaped.codes f i j l m o)
-        where
-          terms : sum_below (order M f) M.rank (λ k. times (order M f) (slice_index t.rows (row_place t.shape f i k)) (raised (order M f) (slice_index t.powers f) (matrix M f k (slice_index t.labels j)))) ≡ sum_below (order M f) M.rank (λ k. times (order M f) (unit i k) (matrix M f k j))
-          terms = sum_same (order M f) (field f l) M.rank
-              (λ k. times (order M f) (slice_index t.rows (row_place t.shape f i k)) (raised (order M f) (slice_index t.powers f) (matrix M f k (slice_index t.labels j))))
-              (λ k. times (order M f) (unit i k) (matrix M f k j))
-              (λ k b. λ u. times (order M f) (rows f i k l m b u) (raised (order M f) (powers f l u) (matrix M f k (labels j o u))))

@@ -1,10 +1,7 @@
 -- What makes a table a move.
 use Rattle.std.proofs.Common.{◌≡◌, ◌<◌, ◌≤◌, ◌+◌, ◌*◌, ◌↔◌, ℕ, Bool, IsTrue, List, length, sym, ◌∙◌, ap, subst, arith, slice_index}
-use Rattle.std.proofs.lemmas.List.{get_or-replicate}
-use Rattle.matroid_theory.specs.declared.Mode.TheVariants.{Linear}
-use Rattle.matroid_theory.specs.Field.{degree}
-use Rattle.matroid_theory.specs.Move.{MoveTable, ArePermutation, IsMove, move_of}
-use Rattle.matroid_theory.proofs.FieldLaws.{field_laws}
+use Rattle.matroid_theory.specs.declared.Mode.{Mode}
+use Rattle.matroid_theory.specs.Move.{MoveTable, AllowsPower, ArePermutation, IsMove, move_of}
 use Rattle.product_rep.specs.declared.moves.Move.TheInside.{Inside}
 use Rattle.product_rep.specs.Tables.{table, KeepsMove}
 use Rattle.product_rep.specs.Valid.{block, HasBlock, AreCodes, AreInverseCodes, IsFactorPart}
@@ -49,11 +46,12 @@ same_test q s r n f g m h xs vs ys ws b qe re fe me he xe ye d =
     (subst (λ (xs : List ℕ). IsTrue b ↔ AreInverseCodes q r (block r f xs) (block m h ws)) xe
     (subst (λ (ys : List ℕ). IsTrue b ↔ AreInverseCodes q r (block r f xs) (block m h ys)) ye d))))))
 
--- a table whose factors and labels are those of a move
-pub is_move : (t : MoveTable) → KeepsMove t → ((f : ℕ) → f < length t.shape.factors → IsFactorPart t f) → ArePermutation t.shape.size (move_of t).label (move_of t).place → IsMove Linear t.shape (move_of t)
-is_move t h p l = record {
-  powers = λ f b. subst (λ (x : ℕ). x < degree (slice_index t.shape.factors f)) (sym (power f b)) (field_laws (slice_index t.shape.factors f) (h.fields.fields f b)).degree_positive;
-  allowed = power;
+-- a table whose powers, factors and labels are those of a move of the mode
+pub is_move : (mode : Mode) (t : MoveTable) → KeepsMove t → ((f : ℕ) → f < length t.shape.factors → AllowsPower mode (slice_index t.powers f))
+    → ((f : ℕ) → f < length t.shape.factors → IsFactorPart t f) → ArePermutation t.shape.size (move_of t).label (move_of t).place → IsMove mode t.shape (move_of t)
+is_move mode t h a p l = record {
+  powers = h.powers_below;
+  allowed = a;
   codes = h.row_codes;
   back_codes = h.back_codes;
   inverse = λ f b. record {
@@ -64,6 +62,3 @@ is_move t h p l = record {
   nonzero = λ f j b o. ((p f b).scalars j o).nonzero;
   labels = l;
 }
-  where
-    power : (f : ℕ) → f < length t.shape.factors → slice_index t.powers f ≡ 0
-    power f b = ap (λ (xs : List ℕ). slice_index xs f) h.powers ∙ get_or-replicate (length t.shape.factors) f 0 0 b

@@ -7,5 +7,6 @@ mod moves;
 mod rep;
 
 pub use factors::Factors;
-pub use moves::{Move, act};
+pub use matroid_theory::Mode;
+pub use moves::{Move, act, raised};
 pub use rep::{ProductColumn, Rep, code, compare, place};

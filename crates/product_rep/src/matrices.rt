@@ -136,6 +136,18 @@ pub fn ones(length: usize) -> ArrayVec<u8, 48>
     list
 }
 
+/// The code 0 that many times.
+pub fn zeros(length: usize) -> ArrayVec<u8, 3>
+    requires { length ≤ 3 }
+    ensures { result.items ≡ replicate length 0 }
+{
+    let mut list = ArrayVec::new();
+    for _ in 0..length {
+        list.push(0);
+    }
+    list
+}
+
 /// The numbers below this one.
 pub fn numbers(size: usize) -> ArrayVec<u8, 16>
     requires { size ≤ 16 }

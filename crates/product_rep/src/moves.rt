@@ -1,25 +1,29 @@
 //! Moves, and what they make of representations.
-ghost use Rattle.std.specs.Prelude.{◌≡◌, ◌<◌, ◌+◌, ◌*◌, ℕ, length, slice_index, slice_set};
-ghost use Rattle.matroid_theory.specs.declared.Mode.TheVariants.{Linear as linear};
-ghost use Rattle.matroid_theory.specs.Rep.{count, size, matrix, shape, KeepsLimits};
+ghost use Rattle.std.specs.Prelude.{◌≡◌, ◌<◌, ◌+◌, ◌*◌, ℕ, length, map, slice_index, slice_set};
+ghost use Rattle.matroid_theory.specs.declared.Mode.{Mode};
+ghost use Rattle.matroid_theory.specs.declared.Mode.TheVariants.{Semilinear as semilinear};
+ghost use Rattle.matroid_theory.specs.Field.{degree, raised as raised_by};
+ghost use Rattle.matroid_theory.specs.Rep.{count, size, order, matrix, shape, KeepsLimits};
 ghost use Rattle.matroid_theory.specs.Move.{IsMove, TakesTo, moved, move_of, row_place, scalar_place};
+ghost use Rattle.matroid_theory.specs.Powers.{IsRaised};
 ghost use Rattle.product_rep.specs.Tables.{KeepsMove, IsIdentityTable};
 
 mod validity;
 
-use crate::matrices::{numbers, ones, unit_rows};
+use crate::matrices::{numbers, ones, unit_rows, zeros};
 use crate::{Factors, ProductColumn, Rep};
 use arrayvec::ArrayVec;
-use field_tables::Field;
+use field_tables::{Column, Field};
 use std::marker::Model;
 
-/// A move of representations of one shape: for each factor a square matrix with its inverse and a scalar for each column, and
-/// one relabelling of the columns. Contracts see the table of its entries.
+/// A move of representations of one shape: for each factor a power of the Frobenius map, a square matrix with its inverse and a
+/// scalar for each column, and one relabelling of the columns. Contracts see the table of its entries.
 #[derive(Drop)]
 pub struct Move {
     factors: Factors,
     rank: u8,
     size: u8,
+    powers: ArrayVec<u8, 3>,
     rows: ArrayVec<u8, 108>,
     back: ArrayVec<u8, 108>,
     scalars: ArrayVec<u8, 48>,
@@ -38,10 +42,10 @@ impl Model for Move {
 }
 
 impl Move {
-    /// The move that changes nothing.
+    /// The move that changes nothing. It is one of each mode.
     pub fn identity(rep: &Rep) -> Move
         ensures shape { result.shape ≡ shape rep.now }
-        ensures valid { IsMove linear (shape rep.now) (move_of result) }
+        ensures valid { (mode : Mode) → IsMove mode (shape rep.now) (move_of result) }
         ensures entries { IsIdentityTable (shape rep.now) result }
         ensures takes { TakesTo rep.now (move_of result) rep.now }
     {
@@ -54,6 +58,7 @@ impl Move {
         Move {
             rank: rank as u8,
             size: size as u8,
+            powers: zeros(count),
             rows: unit_rows(count, rank),
             back: unit_rows(count, rank),
             scalars: ones(count * size),
@@ -62,12 +67,21 @@ impl Move {
         }
     }
 
-    /// What the type keeps, for the proofs of callers: lists as long as the shape says, codes of the fields, and labels that are
-    /// columns.
+    /// What the type keeps, for the proofs of callers: lists as long as the shape says, powers below the degrees, codes of the
+    /// fields, and labels that are columns.
     pub fn laws(&self)
         ensures { KeepsMove self.now }
     {
         let _labels = &self.labels;
+    }
+
+    /// Makes the factor's power of the Frobenius map this one: codes are raised so many times to the power of the characteristic.
+    pub fn set_power(&mut self, factor: usize, power: u8)
+        requires factor { factor < length self.old.shape.factors }
+        requires power { power < degree (slice_index self.old.shape.factors factor) }
+        ensures { self.new ≡ record self.old { powers = slice_set self.old.powers factor power } }
+    {
+        self.powers[factor] = power;
     }
 
     /// Makes an entry of the factor's matrix the code, and that of its inverse the other code.
@@ -118,6 +132,14 @@ impl Move {
         self.factors.field(factor)
     }
 
+    /// The factor's power of the Frobenius map.
+    fn power(&self, factor: usize) -> u8
+        requires { factor < length self.now.shape.factors }
+        ensures { result ≡ slice_index self.now.powers factor }
+    {
+        self.powers[factor]
+    }
+
     /// Row `i` of the factor's matrix.
     fn row(&self, factor: usize, i: usize) -> &[u8]
         requires factor { factor < length self.now.shape.factors }
@@ -149,11 +171,11 @@ impl Move {
     }
 }
 
-/// What the move makes of the representation: column `j` is, in each factor, the scalar `j` times the matrix times the column
-/// that `j` comes from.
+/// What the move makes of the representation: column `j` is, in each factor, the scalar `j` times the matrix times the raised
+/// column that `j` comes from.
 pub fn act(rep: &Rep, step: &Move) -> Rep
     requires shape { step.now.shape ≡ shape rep.now }
-    requires valid { IsMove linear (shape rep.now) (move_of step.now) }
+    requires valid { IsMove semilinear (shape rep.now) (move_of step.now) }
     ensures { TakesTo rep.now (move_of step.now) result }
 {
     rep.laws();
@@ -166,11 +188,24 @@ pub fn act(rep: &Rep, step: &Move) -> Rep
     image
 }
 
+/// The representation with each code of the factor raised so many times to the power of the characteristic.
+pub fn raised(rep: &Rep, factor: usize, power: u8) -> Rep
+    requires factor { factor < count rep.now }
+    requires power { power < degree (order rep.now factor) }
+    ensures { IsRaised rep.now factor power result }
+{
+    rep.laws();
+    let mut step = Move::identity(rep);
+    step.laws();
+    step.set_power(factor, power);
+    act(rep, &step)
+}
+
 /// Column `j` of all factors, after the move.
 fn moved_column(rep: &Rep, step: &Move, j: usize) -> ProductColumn
     requires is_rep { KeepsLimits rep.now }
     requires shape { step.now.shape ≡ shape rep.now }
-    requires valid { IsMove linear (shape rep.now) (move_of step.now) }
+    requires valid { IsMove semilinear (shape rep.now) (move_of step.now) }
     requires column { j < size rep.now }
     ensures rows { length result.items ≡ rep.now.rank * count rep.now }
     ensures codes { (i f : ℕ) → i < rep.now.rank → f < count rep.now →
@@ -188,7 +223,7 @@ fn moved_column(rep: &Rep, step: &Move, j: usize) -> ProductColumn
 fn moved_code(rep: &Rep, step: &Move, factor: usize, i: usize, j: usize) -> u8
     requires is_rep { KeepsLimits rep.now }
     requires shape { step.now.shape ≡ shape rep.now }
-    requires valid { IsMove linear (shape rep.now) (move_of step.now) }
+    requires valid { IsMove semilinear (shape rep.now) (move_of step.now) }
     requires factor { factor < count rep.now }
     requires row { i < rep.now.rank }
     requires column { j < size rep.now }
@@ -196,7 +231,33 @@ fn moved_code(rep: &Rep, step: &Move, factor: usize, i: usize, j: usize) -> u8
 {
     step.laws();
     let field = step.field(factor);
-    let column = rep.factor_column(factor, step.label(j));
+    let from = rep.factor_column(factor, step.label(j));
+    let column = raised_column(field, step.power(factor), &from);
     let code = field.sum_of_products(step.row(factor, i), column.as_slice());
     field.mul(step.scalar(factor, j), code)
+}
+
+/// The column with each code raised so many times to the power of the characteristic.
+fn raised_column(field: Field, power: u8, column: &Column) -> Column
+    requires { (k : ℕ) → k < length column.now.items → slice_index column.now.items k < field }
+    ensures { result.items ≡ map (raised_by field power) column.now.items }
+{
+    let mut image = ArrayVec::new();
+    for code in column.as_slice() {
+        image.push(raised_code(field, power, *code));
+    }
+    image
+}
+
+/// The code raised so many times to the power of the characteristic.
+fn raised_code(field: Field, power: u8, code: u8) -> u8
+    requires { code < field }
+    ensures value { result ≡ raised_by field power code }
+    ensures code { result < field }
+{
+    let mut image = code;
+    for _ in 0..power {
+        image = field.frobenius(image);
+    }
+    image
 }

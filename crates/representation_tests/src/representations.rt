@@ -3,7 +3,7 @@ ghost use Rattle.std.specs.Prelude.{◌≡◌, IfOk, IfSome};
 ghost use Rattle.matroid_theory.specs.Rep.{shape};
 
 use arrayvec::CapacityError;
-use product_rep::{Factors, Move, ProductColumn, Rep, act, compare, place};
+use product_rep::{Factors, Mode, Move, ProductColumn, Rep, act, compare, place, raised};
 use std::cmp::Ordering;
 use std::test::Fail;
 
@@ -119,23 +119,43 @@ fn moves_of_representations(rt: HostRuntime) -> Result<(), Fail> {
     Ok(())
 }
 
+// The Frobenius map of GF(4) exchanges x and x + 1, the codes 2 and 3.
+#[test]
+fn moves_with_a_power(rt: HostRuntime) -> Result<(), Fail> {
+    let mut rep = Rep::unit(Factors::of(&[4, 4]).ok_or("no factors")?, 2);
+    rep.push_column(&column(&[1, 1, 2, 3])?);
+    let mut step = with_power(&rep, 0, 1).ok_or("no power")?;
+    assert!(rt; !step.valid(&rep, Mode::Linear));
+    step.set_scalar(0, 2, 2);
+    let image = moved(&rep, &step).ok_or("no move")?;
+    assert_eq!(rt; image.column(0).as_slice(), &[1, 1, 0, 0][..]);
+    assert_eq!(rt; image.column(2).as_slice(), &[2, 1, 1, 3][..]);
+    for (factor, codes) in [(0, &[1, 1, 3, 3][..]), (1, &[1, 1, 2, 2][..])] {
+        let image = raised_in(&rep, factor, 1).ok_or("no power")?;
+        assert_eq!(rt; image.column(2).as_slice(), codes, "at {factor}");
+        let restored = raised_in(&image, factor, 1).ok_or("no power")?;
+        assert_eq!(rt; compare(&restored, &rep), Ordering::Equal, "at {factor}");
+    }
+    Ok(())
+}
+
 #[test]
 fn moves_that_are_none(rt: HostRuntime) -> Result<(), Fail> {
     let rep = Rep::unit(Factors::of(&[2, 3]).ok_or("no factors")?, 3);
     let mut scaled = Move::identity(&rep);
-    assert!(rt; scaled.valid(&rep));
+    assert!(rt; scaled.valid(&rep, Mode::Linear));
     scaled.set_scalar(1, 2, 0);
-    assert!(rt; !scaled.valid(&rep));
+    assert!(rt; !scaled.valid(&rep, Mode::Linear));
     let mut sheared = Move::identity(&rep);
     sheared.set_rows(1, 0, 2, 1, 1);
-    assert!(rt; !sheared.valid(&rep));
+    assert!(rt; !sheared.valid(&rep, Mode::Linear));
     sheared.set_rows(1, 0, 2, 1, 2);
-    assert!(rt; sheared.valid(&rep));
+    assert!(rt; sheared.valid(&rep, Mode::Linear));
     let mut relabelled = Move::identity(&rep);
     relabelled.set_label(0, 1);
-    assert!(rt; !relabelled.valid(&rep));
+    assert!(rt; !relabelled.valid(&rep, Mode::Linear));
     relabelled.set_label(1, 0);
-    assert!(rt; relabelled.valid(&rep));
+    assert!(rt; relabelled.valid(&rep, Mode::Linear));
     Ok(())
 }
 
@@ -143,8 +163,34 @@ fn moves_that_are_none(rt: HostRuntime) -> Result<(), Fail> {
 fn moved(rep: &Rep, step: &Move) -> Option<Rep>
     ensures { IfSome result (λ image. shape image ≡ shape rep.now) }
 {
-    if step.valid(rep) {
+    if step.valid(rep, Mode::Semilinear) {
         Some(act(rep, step))
+    } else {
+        None
+    }
+}
+
+/// The move that has this power in the factor and changes nothing else, if there is such a power.
+fn with_power(rep: &Rep, factor: usize, power: u8) -> Option<Move>
+    ensures { IfSome result (λ step. step.shape ≡ shape rep.now) }
+{
+    let factors = rep.factors();
+    if factor < factors.count() && power < factors.field(factor).degree() {
+        let mut step = Move::identity(rep);
+        step.set_power(factor, power);
+        Some(step)
+    } else {
+        None
+    }
+}
+
+/// The representation with the factor raised, if there is such a power.
+fn raised_in(rep: &Rep, factor: usize, power: u8) -> Option<Rep>
+    ensures { IfSome result (λ image. shape image ≡ shape rep.now) }
+{
+    let factors = rep.factors();
+    if factor < factors.count() && power < factors.field(factor).degree() {
+        Some(raised(rep, factor, power))
     } else {
         None
     }

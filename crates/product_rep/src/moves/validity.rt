@@ -1,22 +1,21 @@
 //! Whether a table is a move.
 ghost use Rattle.std.specs.Prelude.{◌==◌, ◌↔◌, IsTrue, unwrap_or, ◌≡◌, ◌<◌, ℕ, length, slice_index};
 ghost use Rattle.std.specs.List.{position};
-ghost use Rattle.matroid_theory.specs.declared.Mode.TheVariants.{Linear as linear};
 ghost use Rattle.matroid_theory.specs.Rep.{shape};
-ghost use Rattle.matroid_theory.specs.Move.{ArePermutation, IsMove, move_of};
+ghost use Rattle.matroid_theory.specs.Move.{AllowsPower, ArePermutation, IsMove, move_of};
 ghost use Rattle.product_rep.specs.Valid.{IsScalar, IsLabel, AreInverseCodes, IsFactorPart};
 
-use crate::Rep;
 use crate::matrices::{Square, are_inverse};
 use crate::moves::Move;
+use crate::{Mode, Rep};
 
 impl Move {
-    /// Whether this is a move for the representation: of its shape, each matrix times its inverse and its inverse times it are
-    /// the identity, no scalar is 0, and the labels are a permutation.
-    pub fn valid(&self, rep: &Rep) -> bool
-        ensures { IsTrue result ↔ ((self.now.shape ≡ shape rep.now) × IsMove linear (shape rep.now) (move_of self.now)) }
+    /// Whether this is a move of the mode for the representation: of its shape, each power is 0 if the mode is linear, each matrix
+    /// times its inverse and its inverse times it are the identity, no scalar is 0, and the labels are a permutation.
+    pub fn valid(&self, rep: &Rep, mode: Mode) -> bool
+        ensures { IsTrue result ↔ ((self.now.shape ≡ shape rep.now) × IsMove mode (shape rep.now) (move_of self.now)) }
     {
-        self.has_shape(rep) && self.is_move()
+        self.has_shape(rep) && self.is_move(mode)
     }
 
     /// Whether the representation has this shape.
@@ -28,12 +27,37 @@ impl Move {
             && usize::from(self.size) == rep.size()
     }
 
-    /// Whether this is a move of representations of its own shape.
-    fn is_move(&self) -> bool
-        ensures { IsTrue result ↔ IsMove linear self.now.shape (move_of self.now) }
+    /// Whether this is a move of the mode for representations of its own shape.
+    fn is_move(&self, mode: Mode) -> bool
+        ensures { IsTrue result ↔ IsMove mode self.now.shape (move_of self.now) }
     {
         self.laws();
+        if !self.has_powers(mode) {
+            return false;
+        }
         self.has_factors() && self.has_labels()
+    }
+
+    /// Whether the mode allows each power.
+    fn has_powers(&self, mode: Mode) -> bool
+        ensures { IsTrue result ↔ ((f : ℕ) → f < length self.now.shape.factors → AllowsPower mode (slice_index self.now.powers f)) }
+    {
+        match mode {
+            Mode::Linear => self.has_no_power(),
+            Mode::Semilinear => true,
+        }
+    }
+
+    /// Whether each power is 0.
+    fn has_no_power(&self) -> bool
+        ensures { IsTrue result ↔ ((f : ℕ) → f < length self.now.shape.factors → slice_index self.now.powers f ≡ 0) }
+    {
+        for factor in 0..self.factors.count() {
+            if self.power(factor) != 0 {
+                return false;
+            }
+        }
+        true
     }
 
     /// Whether each factor has its matrices and scalars.
