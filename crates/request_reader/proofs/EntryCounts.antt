@@ -9,13 +9,10 @@ use Rattle.std.proofs.lemmas.Bool.Decides.{nat_tests}
 use Rattle.std.proofs.lemmas.List.Sums.{sum_by-append, sum_by-cons}
 use Rattle.std.proofs.lemmas.List.Elements.{filter_map-append}
 use Rattle.matroid_theory.specs.Given.{IsGivenBy}
-use Rattle.named_matroids.specs.declared.spelling.Spelling.{Spelling}
-use Rattle.named_matroids.specs.declared.spelling.Spelling.TheVariants as spelling
 use Rattle.named_matroids.specs.Names.{NamedMatroid, named_by}
 use Rattle.formats.specs.Statement.{Statement, RankIs, FieldIs, SizeIs, Forbids, ListsWith, kind_number, most_of_kind, named_elements}
 use Rattle.formats.specs.Minors.{given_as}
 use Rattle.formats.specs.Request.{AreInOrder, count_of_kind, rank_in, field_in, size_in, forbidden_in, wanted_in}
-use Rattle.request_reader.specs.Now.{is_name}
 use Rattle.request_reader.specs.Plain.{AreGiven}
 use Rattle.formats.proofs.Heads.{of_kind, count_cons, some_of_kind}
 
@@ -102,15 +99,6 @@ values_more value es e x xs held is = filter_map-append value es (e ∷ []) ∙ 
 pub given_end : (items : List NamedMatroid) (item : NamedMatroid) → AreGiven items → IsGivenBy (given_as (named_by item.spelling)) item.matroid → AreGiven (items ++ item ∷ [])
 given_end [] item all given = (given, tt)
 given_end (x ∷ items) item all given = (all.0, given_end items item all.1 given)
-
--- a name is read
-pub name_read : (s : Spelling) → IsTrue (is_name (named_by s))
-name_read (spelling.Uniform rank size) = refl
-name_read spelling.Fano = refl
-name_read spelling.FanoDual = refl
-name_read spelling.NonFano = refl
-name_read spelling.KFour = refl
-name_read spelling.KFive = refl
 
 -- a kind that has a value was there
 pub flag_again : (es : List Statement) (kind : ℕ) (flag : Bool) → count_of_kind kind es ≡ cond flag 1 0 → flag ≡ true → 1 ≤ count_of_kind kind es

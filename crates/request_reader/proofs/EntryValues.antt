@@ -5,7 +5,7 @@ use Rattle.std.proofs.lemmas.List.{map-append, length-map}
 use Rattle.std.specs.Prelude.{IsTrue, filter_map, option_to_list}
 use Rattle.matroid_theory.specs.Given.{IsGivenBy}
 use Rattle.named_matroids.specs.Names.{NamedMatroid, named_by, IsSmallName}
-use Rattle.formats.specs.Statement.{Statement, Version, RankIs, FieldIs, SizeIs, Forbids, Prints, kind_number}
+use Rattle.formats.specs.Statement.{MinorName, Statement, Version, RankIs, FieldIs, SizeIs, Forbids, Prints, kind_number}
 use Rattle.formats.specs.Minors.{given_as}
 use Rattle.formats.specs.Request.{count_of_kind, rank_in, field_in, size_in, forbidden_in}
 use Rattle.formats.specs.declared.refusal.PrintMode.TheVariants.{Forms}
@@ -22,10 +22,10 @@ use Rattle.request_reader.specs.declared.line.NamedMinor.TheVariants as minor
 use Rattle.request_reader.specs.declared.line.Said.{Said}
 use Rattle.request_reader.specs.declared.line.Said.TheVariants as said
 use Rattle.request_reader.specs.Filters.{HoldsFilters, IsNewFilter}
-use Rattle.request_reader.specs.Now.{forms_now}
+use Rattle.request_reader.specs.Now.{is_name, forms_now}
 use Rattle.request_reader.specs.Said.{flag_entry, IsFilter, IsSaid, IsWrong}
 use Rattle.request_reader.specs.Values.{Holds}
-use Rattle.request_reader.proofs.EntryCounts.{count_end, count_kept, all_end, order_end, order_new, rank_count, field_count, size_count, forbid_count, values_end, values_kept, values_more, given_end, name_read, flag_again, value_again, none_there}
+use Rattle.request_reader.proofs.EntryCounts.{count_end, count_kept, all_end, order_end, order_new, rank_count, field_count, size_count, forbid_count, values_end, values_kept, values_more, given_end, flag_again, value_again, none_there}
 use Rattle.request_reader.proofs.FilterValues.{filters_kept}
 use Rattle.formats.proofs.Heads.{of_kind}
 
@@ -114,12 +114,12 @@ print_end es values h new =
 pub forbids_held : (es : List Statement) (values : Values) → Holds es values → count_of_kind 4 es ≡ length values.forbid.items
 forbids_held es values h = forbid_count es ∙ ap length h.forbid ∙ length-map values.forbid.items (λ item. named_by item.spelling)
 
-pub forbid_end : (es : List Statement) (values : Values) (item : NamedMatroid) → Holds es values → length values.forbid.items < 8 → IsSmallName (named_by item.spelling) → IsGivenBy (given_as (named_by item.spelling)) item.matroid → Holds (es ++ Forbids (named_by item.spelling) ∷ []) (record values { forbid = record { items = values.forbid.items ++ item ∷ [] } })
-forbid_end es values item h room small given =
+pub forbid_end : (es : List Statement) (values : Values) (item : NamedMatroid) → Holds es values → length values.forbid.items < 8 → IsSmallName (named_by item.spelling) → IsTrue (is_name (named_by item.spelling)) → IsGivenBy (given_as (named_by item.spelling)) item.matroid → Holds (es ++ Forbids (named_by item.spelling) ∷ []) (record values { forbid = record { items = values.forbid.items ++ item ∷ [] } })
+forbid_end es values item h room small is_read given =
     let e : Statement = Forbids (named_by item.spelling) in
     let fewer : count_of_kind 4 es < 8 = omega (arith, forbids_held es values h) in
     record {
-      are_read = all_end (λ e. IsTrue (forms_now e)) es e h.are_read (name_read item.spelling);
+      are_read = all_end (λ e. IsTrue (forms_now e)) es e h.are_read is_read;
       in_order = order_end es e h.in_order small.few fewer;
       version = count_end 0 es e ∙ add-zero _ ∙ h.version;
       rank = values_kept rank_in es e _ h.rank refl;
@@ -202,7 +202,7 @@ forbid_new es values s e item h said is room given =
     let at = subst (λ (s : Said). IsSaid s e) is said in
     let small : IsSmallName (named_by item.spelling) = subst IsSmallName at.2.0 at.2.1 in
     let same : e ≡ Forbids (named_by item.spelling) = at.1 ∙ ap Forbids at.2.0 in
-    subst (λ (e : Statement). Holds (es ++ e ∷ []) (record values { forbid = record { items = values.forbid.items ++ item ∷ [] } })) (sym same) (forbid_end es values item h room small given)
+    subst (λ (e : Statement). Holds (es ++ e ∷ []) (record values { forbid = record { items = values.forbid.items ++ item ∷ [] } })) (sym same) (forbid_end es values item h room small (subst (λ (m : MinorName). IsTrue (is_name m)) at.2.0 at.2.2) given)
 
 pub version_again : (es : List Statement) (values : Values) (s : Said) (e : Statement) → Holds es values → IsSaid s e → s ≡ said.Version → values.version ≡ true → IsWrong es e wrong.Again
 version_again es values s e h said is set =

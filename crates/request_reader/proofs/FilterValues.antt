@@ -1,10 +1,11 @@
 -- What one more entry does to the filters.
 use Rattle.std.proofs.Common.{◌≡◌, ◌∙◌, ℕ, ◌<◌, Bool, true, false, cond, List, [], ◌∷◌, ◌++◌, length, Option, None, Some, refl, sym, ap, subst, arith}
 use Rattle.std.specs.Option.{is_some, option_map}
-use Rattle.std.specs.Prelude.{filter_map, option_to_list, Result, Ok, Err, MatchResult}
+use Rattle.std.specs.Prelude.{IsTrue, filter_map, option_to_list, Result, Ok, Err, MatchResult}
 use Rattle.matroid_theory.specs.Given.{IsGivenBy}
 use Rattle.named_matroids.specs.Names.{NamedMatroid, named_by, IsSmallName}
-use Rattle.formats.specs.Statement.{Statement, ListsConnected, ListsThreeConnected, ListsCosimple, ListsDistinct, ListsWith}
+use Rattle.request_reader.specs.Now.{is_name}
+use Rattle.formats.specs.Statement.{MinorName, Statement, ListsConnected, ListsThreeConnected, ListsCosimple, ListsDistinct, ListsWith}
 use Rattle.formats.specs.Minors.{given_as}
 use Rattle.formats.specs.Request.{count_of_kind, wanted_in}
 use Rattle.request_reader.specs.declared.filters.Flag.{Flag}
@@ -18,7 +19,7 @@ use Rattle.request_reader.specs.declared.values.Wrong.{Wrong}
 use Rattle.request_reader.specs.declared.values.Wrong.TheVariants as wrong
 use Rattle.request_reader.specs.Filters.{wanted_of, HoldsFilters, IsNewFilter}
 use Rattle.request_reader.specs.Said.{flag_entry, IsFilter, IsWrong}
-use Rattle.request_reader.proofs.EntryCounts.{count_end, count_kept, wanted_count, values_end, values_kept, name_read, flag_again, value_again, none_there}
+use Rattle.request_reader.proofs.EntryCounts.{count_end, count_kept, wanted_count, values_end, values_kept, flag_again, value_again, none_there}
 use Rattle.formats.proofs.Heads.{of_kind}
 
 -- an entry that is no filter changes none
@@ -130,7 +131,7 @@ wanted_new es filters more f e named item h said is new small made given =
     let none : filter_map wanted_in es ≡ [] = none_wanted es filters h (none_there filters.has new) in
     let entry : Statement = ListsWith (named_by item.spelling) in
     subst (λ (m : Filters). IsNewFilter es e m) (sym made) (subst (λ (e : Statement). IsNewFilter es e (record filters { has = Some item })) (sym same) (record {
-      is_read = name_read item.spelling;
+      is_read = subst (λ (m : MinorName). IsTrue (is_name m)) at.2.0 at.2.2;
       not_big = name.few;
       new = wanted_count es ∙ ap length none;
       holds = record {
