@@ -12,7 +12,7 @@ use field_tables::Column;
 use product_rep::Rep;
 
 /// The word that spells a column: a digit for each code.
-fn column_word(column: &Column) -> Column
+pub fn column_word(column: &Column) -> Column
     requires { AllByRecursion (λ code. code < 10) column.now.items }
     ensures { result.items ≡ word_of_codes column.now.items }
 {

@@ -1,16 +1,17 @@
 ghost use Rattle.std.specs.Prelude.{◌≡◌, ◌+◌, ◌*◌, ◌≤◌, [], ◌∷◌, ◌++◌, false, IsTrue, length, map, option_to_list, codes};
 ghost use Rattle.named_matroids.specs.Names.{named_by};
 ghost use Rattle.formats.specs.Lines.{line_of_words};
-ghost use Rattle.formats.specs.Statement.{Version, FieldIs, RankIs, SizeIs, Forbids, ListsWith, minor_words, spelling};
+ghost use Rattle.formats.specs.Statement.{Version, FieldIs, RankIs, SizeIs, Forbids, ListsWith, spelling};
 ghost use Rattle.formats.specs.Listing.{text_of_statements};
 ghost use Rattle.formats.specs.Listing as listing;
 ghost use Rattle.request_reader.specs.Filters.{wanted_of};
 ghost use Rattle.request_reader.specs.Requested.{minors_of};
 
-use crate::line::{Head, Line, push_bytes, push_line};
+use crate::line::{Head, push_line};
+use crate::name::name_of;
 use arrayvec::ArrayVec;
 use itoa::Buffer;
-use named_matroids::{MinorItem, Spelling};
+use named_matroids::MinorItem;
 use product_rep::Factors;
 use request_reader::{Filters, Request};
 
@@ -39,35 +40,11 @@ fn push_field_line(head: &mut Head, factors: &Factors)
     push_line(head, &[field, q, b"x", r, b"x", s]);
 }
 
-/// The name of a matroid.
-fn name_of(spelling: Spelling) -> Line
-    ensures name { minor_words (named_by spelling) ≡ result.items ∷ [] }
-    ensures short { length result.items ≤ 8 }
-{
-    let mut name = ArrayVec::new();
-    match spelling {
-        Spelling::Uniform(rank, size) => {
-            let mut rank_text = Buffer::new();
-            let mut size_text = Buffer::new();
-            push_bytes(&mut name, b"U");
-            push_bytes(&mut name, rank_text.format(rank).as_bytes());
-            push_bytes(&mut name, b",");
-            push_bytes(&mut name, size_text.format(size).as_bytes());
-        }
-        Spelling::Fano => push_bytes(&mut name, b"F7"),
-        Spelling::FanoDual => push_bytes(&mut name, b"F7*"),
-        Spelling::NonFano => push_bytes(&mut name, b"F7-"),
-        Spelling::KFour => push_bytes(&mut name, b"K4"),
-        Spelling::KFive => push_bytes(&mut name, b"K5"),
-    }
-    name
-}
-
 /// Appends the line that forbids a minor.
 fn push_forbid_line(head: &mut Head, item: &MinorItem)
     requires { length head.old.items ≤ 900 }
     ensures bytes { head.new.items ≡ head.old.items ++ line_of_words (spelling (Forbids (named_by item.now.spelling))) }
-    ensures short { length head.new.items ≤ length head.old.items + 16 }
+    ensures short { length head.new.items ≤ length head.old.items + 88 }
 {
     let name = name_of(item.spelling());
     push_line(head, &[b"forbid".as_slice(), name.as_slice()]);
@@ -75,9 +52,9 @@ fn push_forbid_line(head: &mut Head, item: &MinorItem)
 
 /// Appends the lines that forbid minors, in their order.
 fn push_forbid_lines(head: &mut Head, items: &[MinorItem])
-    requires { length head.old.items + 16 * length items.now ≤ 900 }
+    requires { length head.old.items + 88 * length items.now ≤ 900 }
     ensures bytes { head.new.items ≡ head.old.items ++ text_of_statements (map Forbids (minors_of items.now)) }
-    ensures short { length head.new.items ≤ length head.old.items + 16 * length items.now }
+    ensures short { length head.new.items ≤ length head.old.items + 88 * length items.now }
 {
     for item in items {
         push_forbid_line(head, item);
@@ -101,7 +78,7 @@ fn push_flag_line(head: &mut Head, is_set: bool, word: &[u8])
 fn push_has_line(head: &mut Head, filters: &Filters)
     requires { length head.old.items ≤ 900 }
     ensures bytes { head.new.items ≡ head.old.items ++ text_of_statements (map ListsWith (option_to_list (wanted_of filters.now))) }
-    ensures short { length head.new.items ≤ length head.old.items + 20 }
+    ensures short { length head.new.items ≤ length head.old.items + 92 }
 {
     if let Some(item) = &filters.has {
         let name = name_of(item.spelling());

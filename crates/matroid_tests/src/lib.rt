@@ -32,6 +32,8 @@ mod forms;
 #[cfg(test)]
 mod isomorphisms;
 #[cfg(test)]
+mod matrices;
+#[cfg(test)]
 mod minors;
 #[cfg(test)]
 mod names;

@@ -7,5 +7,5 @@ use Rattle.lister.proofs.head.push_forbid_lines.Given as goal
 abbrev pub invariant-loop-item : goal.invariant-loop-item
 invariant-loop-item l = record {
   so_far : l.head.items ≡ l.initial.head.items ++ text_of_statements (map Forbids (minors_of (take l.item-index l.items)));
-  room : length l.head.items ≤ length l.initial.head.items + 16 * l.item-index;
+  room : length l.head.items ≤ length l.initial.head.items + 88 * l.item-index;
 }
