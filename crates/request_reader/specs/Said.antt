@@ -1,11 +1,10 @@
 -- What a line says, as an entry, and what may be wrong with it after others.
-use Rattle.std.specs.Prelude.{ℕ, ◌≡◌, ◌≢◌, ◌<◌, ◌≤◌, List, IsTrue}
+use Rattle.std.specs.Prelude.{ℕ, ◌≡◌, ◌≢◌, ◌<◌, ◌≤◌, List}
 use Rattle.named_matroids.specs.Names.{named_by, IsSmallName}
 use Rattle.formats.specs.declared.refusal.Refusal.{Refusal}
 use Rattle.formats.specs.declared.refusal.Refusal.TheVariants as refusal
 use Rattle.formats.specs.Statement.{MinorName, Statement, VersionIs, RankIs, FieldIs, SizeIs, EquivalenceIs, Forbids, ListsConnected, ListsThreeConnected, ListsCosimple, ListsDistinct, ListsWith, Prints, elements_of, kind_number, forbid_kind, most_of_kind, named_elements}
 use Rattle.formats.specs.Request.{count_of_kind}
-use Rattle.request_reader.specs.Now.{is_name}
 use Rattle.request_reader.specs.declared.filters.Flag.{Flag}
 use Rattle.request_reader.specs.declared.filters.Flag.TheVariants.{Connected, Three, Cosimple, Distinct}
 use Rattle.request_reader.specs.declared.filters.Filter.{Filter}
@@ -19,7 +18,7 @@ use Rattle.request_reader.specs.declared.values.Wrong.TheVariants as wrong
 
 -- the minor is the one that is named
 abbrev pub IsNamed : NamedMinor → MinorName → Type 0
-IsNamed (minor.Small item) named = (named ≡ named_by item.spelling) × IsSmallName named × IsTrue (is_name named)
+IsNamed (minor.Small item) named = (named ≡ named_by item.spelling) × IsSmallName named
 IsNamed minor.TooBig named = 10 < elements_of named
 
 -- what a filter without a minor says
