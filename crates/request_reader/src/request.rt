@@ -1,4 +1,5 @@
-ghost use Rattle.std.specs.Prelude.{◌≡◌, ◌≤◌, length, map, option_to_list, IfOk, IfErr};
+ghost use Rattle.std.specs.Prelude.{◌≡◌, ◌≤◌, List, Option, length, map, option_to_list, IfOk, IfErr};
+ghost use Rattle.matroid_theory.specs.Minor.{Matroid};
 ghost use Rattle.matroid_theory.specs.Field.{IsFactors};
 ghost use Rattle.formats.specs.Levels.{AreGivenBy};
 ghost use Rattle.formats.specs.Minors.{given_as};
@@ -62,6 +63,8 @@ impl Request {
         ensures factors { IsFactors self.now.factors }
         ensures of_version { IsRequestOfVersion self.now }
         ensures names { AreNames self.now }
+        ensures forbidden { (minors : List Matroid) × AreGivenBy (map given_as self.now.forbid) minors }
+        ensures wanted { (minor : Option Matroid) × AreGivenBy (map given_as (option_to_list self.now.has)) (option_to_list minor) }
     {
         let _filters = &self.filters;
     }
