@@ -1,6 +1,6 @@
 -- The lines of a text that were read so far, and one line more.
 use Rattle.std.proofs.Common.{◌≡◌, ◌∙◌, ℕ, ◌+◌, ◌<◌, ◌≤◌, Bool, true, false, not, cond, List, [], ◌∷◌, ◌++◌, length, refl, sym, ap, subst, arith, append_assoc, length-append}
-use Rattle.std.proofs.lemmas.List.{map-append}
+use Rattle.std.proofs.lemmas.List.{append-nil, map-append}
 use Rattle.formats.specs.Lines.{lines_of, words_of, is_skipped, statements_of}
 use Rattle.formats.specs.Statement.{Statement, Says, IsStatement, IsOfVersion, spelling}
 use Rattle.formats.specs.Request.{version_of, SayInTurn}
@@ -11,7 +11,7 @@ use Rattle.request_reader.specs.declared.values.Values.{Values}
 use Rattle.request_reader.specs.declared.values.Wrong.{Wrong}
 use Rattle.request_reader.specs.declared.values.Wrong.TheVariants as wrong
 use Rattle.request_reader.specs.Said.{IsWrong, refusal_at}
-use Rattle.request_reader.specs.Values.{Holds}
+use Rattle.request_reader.specs.Values.{Holds, AreSaid}
 
 -- so many lines were read, they say entries with these values, and the rest is left
 pub record HasRead (version : ℕ) (text : List ℕ) (values : Values) (number : ℕ) (rest : List ℕ) : Type 0 where
@@ -111,3 +111,20 @@ wrong_line version text values number rest line after e w h n counts says is = b
     by wrong.Again i = fault_here version text values number rest line after h n counts Again (e, says, i.0, i.1)
     by wrong.NinthForbid i = fault_here version text values number rest line after h n counts NinthForbid (e, says, i.0, i.1)
     by wrong.TooBig i = fault_here version text values number rest line after h n counts TooBig (e, says, i.0, i.1)
+
+-- where nothing is left, all lines were read
+pub all_read : (version : ℕ) (text : List ℕ) (values : Values) (number : ℕ) (rest : List ℕ) → HasRead version text values number rest → length rest ≡ 0
+    → AreSaid text values
+all_read version text values number [] h none =
+    let all : lines_of text ≡ h.before = h.split ∙ append-nil h.before in
+    record {
+      entries = h.entries;
+      none = record {
+        short = h.short;
+        said = subst (λ (v : ℕ). SayInTurn v (lines_of text) h.entries) h.is_version
+            (subst (λ (ls : List (List ℕ)). SayInTurn version ls h.entries) (sym all) h.says);
+        in_order = h.holds.in_order;
+      };
+      holds = h.holds;
+    }
+all_read version text values number (b ∷ rest) h none = absurd (omega arith)

@@ -1,12 +1,15 @@
 -- The first word of a line that says something, and the word of a name.
-use Rattle.std.proofs.Common.{◌≡◌, ◌∙◌, ℕ, ◌≤◌, List, [], ◌∷◌, length, slice_index, slice_index_or, refl, sym, ap, arith}
-use Rattle.std.specs.Prelude.{codes, decimal, ◌++◌}
-use Rattle.formats.specs.Statement.{MinorName, Uniform, Fano, FanoDual, NonFano, KFour, KFive, ByMatrix, IsMinorName, minor_words, most_order, order_of_minor}
+use Rattle.std.proofs.Common.{◌≡◌, ◌∙◌, ℕ, ◌≤◌, Option, None, Some, subst, List, [], ◌∷◌, length, slice_index, slice_index_or, refl, sym, ap, arith}
+use Rattle.std.specs.Prelude.{codes, decimal, ◌++◌, MatchOption}
+use Rattle.formats.specs.Statement.{MinorName, Uniform, Fano, FanoDual, NonFano, KFour, KFive, ByMatrix, IsMatrix, IsMinorName, minor_words, most_order, order_of_minor}
 use Rattle.formats.specs.Statement.{Statement, VersionIs, RankIs, FieldIs, SizeIs, EquivalenceIs, Forbids, ListsConnected, ListsThreeConnected, ListsCosimple, ListsDistinct, ListsWith, Prints, Says}
 use Rattle.request_reader.specs.declared.keyword.Keyword.{Keyword}
 use Rattle.request_reader.specs.declared.keyword.Keyword.TheVariants as keyword
 use Rattle.request_reader.specs.declared.filters.Flag.{Flag}
 use Rattle.request_reader.specs.declared.filters.Flag.TheVariants as flag
+use Rattle.request_reader.specs.declared.line.NamedMinor.{NamedMinor}
+use Rattle.request_reader.specs.Matrices.{matrix_words}
+use Rattle.request_reader.specs.Said.{IsNamed}
 use Rattle.request_reader.specs.Spellings.{keyword_word, flag_word}
 
 -- the first word is a keyword
@@ -68,6 +71,35 @@ name_alone NonFano words word more is at none = cc (is, at)
 name_alone KFour words word more is at none = cc (is, at)
 name_alone KFive words word more is at none = cc (is, at)
 name_alone (ByMatrix order columns) words word more is at none = absurd (none (cc (is, at)))
+
+-- a minor whose first word is `matrix` is a matrix
+abbrev initial : List (List ℕ) → ℕ
+initial words = slice_index (slice_index_or words 0 []) 0
+
+pub matrix_alone : (minor : MinorName) (words : List (List ℕ)) → codes "matrix" ∷ words ≡ minor_words minor
+    → (order : ℕ) × (columns : List (List ℕ)) × (minor ≡ ByMatrix order columns) × (words ≡ matrix_words order columns)
+matrix_alone (Uniform rank size) words is = absurd (omega (arith, ap initial is))
+matrix_alone Fano words is = absurd (omega (arith, ap initial is))
+matrix_alone FanoDual words is = absurd (omega (arith, ap initial is))
+matrix_alone NonFano words is = absurd (omega (arith, ap initial is))
+matrix_alone KFour words is = absurd (omega (arith, ap initial is))
+matrix_alone KFive words is = absurd (omega (arith, ap initial is))
+matrix_alone (ByMatrix order columns) words is = (order, columns, refl, cc (is))
+
+-- so what is read behind that word is what is read with it
+pub matrix_read : (version : ℕ) (o : Option NamedMinor) (all words : List (List ℕ)) → all ≡ codes "matrix" ∷ words
+    → MatchOption o
+        ((order : ℕ) (columns : List (List ℕ)) → IsMatrix order columns → order ≤ most_order version → words ≡ matrix_words order columns → ⊥)
+        (λ named. (order : ℕ) × (columns : List (List ℕ)) × IsMatrix order columns × (order ≤ most_order version) × (words ≡ matrix_words order columns)
+            × IsNamed named (ByMatrix order columns))
+    → MatchOption o
+        ((minor : MinorName) → IsMinorName minor → order_of_minor minor ≤ most_order version → all ≡ minor_words minor → ⊥)
+        (λ named. (minor : MinorName) × IsMinorName minor × (order_of_minor minor ≤ most_order version) × (all ≡ minor_words minor) × IsNamed named minor)
+matrix_read version None all words at none = λ minor may of_version is.
+    let m = matrix_alone minor words (sym at ∙ is) in
+    none m.0 m.1 (subst IsMinorName m.2 may) (subst (λ (n : MinorName). order_of_minor n ≤ most_order version) m.2 of_version) m.3
+matrix_read version (Some named) all words at some =
+    (ByMatrix some.0 some.1, some.2, some.3, at ∙ ap (λ (ws : List (List ℕ)). codes "matrix" ∷ ws) some.4, some.5)
 
 -- one word that is no flag
 pub no_flag : (version : ℕ) (words : List (List ℕ)) (word : List ℕ) (entry : Statement) → words ≡ word ∷ [] → ((f : Flag) → word ≡ flag_word f → ⊥)

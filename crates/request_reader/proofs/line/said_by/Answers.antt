@@ -1,7 +1,9 @@
-use Rattle.std.proofs.Common.{◌≡◌, ◌∙◌, ℕ, List, ◌∷◌, refl, ap, subst}
+use Rattle.std.proofs.Common.{◌≡◌, ◌∙◌, ℕ, List, ◌∷◌, refl, ap, subst, lit<}
 use Rattle.std.specs.Prelude.{codes}
 use Rattle.formats.specs.Lines.{words_of}
-use Rattle.formats.specs.Statement.{Forbids, Says}
+use Rattle.formats.specs.Statement.{VersionIs, Forbids, IsNumber, Says}
+use Rattle.request_reader.specs.declared.version.Version.{Version}
+use Rattle.request_reader.specs.declared.version.Version.TheVariants.{One, Two}
 use Rattle.request_reader.specs.Versions.{version_number}
 use Rattle.request_reader.specs.Spellings.{keyword_word}
 use Rattle.request_reader.proofs.Spellings.{keyword_said}
@@ -11,6 +13,21 @@ pub returns-in_err-keyword_of : goal.returns-in_err-keyword_of
 returns-in_err-keyword_of c = rw c.from_residual-in_err-keyword_of.ensures (λ entry said.
     let is = keyword_said (version_number c.args.version) c.in_ok-word.word.now (words_of c.in_ok-word.rest.now) entry (subst (λ (l : List (List ℕ)). Says (version_number c.args.version) l entry) c.in_ok-word.ensures.words said) in
     c.in_err-keyword_of.ensures is.0 is.1)
+
+-- the number of a version is short
+short_number : (v : Version) → IsNumber (version_number v)
+short_number One = lit< tt
+short_number Two = lit< tt
+
+pub returns-in-Version : goal.returns-in-Version
+returns-in-Version c =
+    let word : c.in_ok-word.word.now ≡ codes "version" = c.in_ok-keyword_of.ensures ∙ ap keyword_word c.in-Version.is in
+    let rest = c.is_number_of.ensures.0 c.if-is_number_of.true in
+    let v = version_number c.args.version in (
+      VersionIs v,
+      record { may = short_number c.args.version; of_version = refl; spelled = c.in_ok-word.ensures.words ∙ (λ i. word i ∷ rest i) },
+      (v, refl),
+    )
 
 pub returns-in_ok-minor_of-in-Forbid : goal.returns-in_ok-minor_of-in-Forbid
 returns-in_ok-minor_of-in-Forbid c =

@@ -1,7 +1,8 @@
-use Rattle.std.proofs.Common.{◌∙◌, sym, subst}
+use Rattle.std.proofs.Common.{◌≡◌, ◌∙◌, length, sym, subst, arith}
+use Rattle.std.proofs.lemmas.Bool.Decides.{nat_tests}
 use Rattle.formats.specs.Refusal.{HasRefusal}
 use Rattle.request_reader.specs.Versions.{version_number}
-use Rattle.request_reader.proofs.LinesRead.{start_read, skip_line, say_line, wrong_line}
+use Rattle.request_reader.proofs.LinesRead.{start_read, skip_line, say_line, wrong_line, all_read}
 use Rattle.request_reader.proofs.read.read_values.Goals as goal
 
 pub loop-rest-init : goal.loop-rest-init
@@ -17,3 +18,8 @@ pub returns-in-Err-clause-err : goal.returns-in-Err-clause-err
 returns-in-Err-clause-err c =
     let said = c.in-Some.ensures in
     subst (λ why. HasRefusal c.args.text.now why) (sym c.refusal.ensures) (wrong_line (version_number c.args.version) c.args.text.now c.loop-rest.values c.loop-rest.number c.loop-rest.rest.now c.next_line.result.0.now c.next_line.result.1.now said.0 c.in-Err.wrong c.loop-rest.invariant (record { lines = c.next_line.ensures.lines; shorter = c.next_line.ensures.shorter }) (sym c.is_skipped_line.ensures ∙ c.if-is_skipped_line.false) said.1 (λ entries h. c.in-Err.ensures entries said.0 h said.2))
+
+pub returns-clause-ok : goal.returns-clause-ok
+returns-clause-ok c =
+    let none : length c.loop-rest.rest.now ≡ 0 = grind (arith, nat_tests) in
+    all_read (version_number c.args.version) c.args.text.now c.loop-rest.values c.loop-rest.number c.loop-rest.rest.now c.loop-rest.invariant none
