@@ -40,5 +40,4 @@ pub returns-else-is_many : goal.returns-else-is_many
 returns-else-is_many c =
     let read = c.loop-word.invariant in
     let kept : lists c.loop-word.columns.items ≡ read.columns = rw c.if-is_many.false at read.kept_are in
-    let long : length c.loop-word.columns.items ≡ length read.columns = sym (length-map c.loop-word.columns.items (λ v. v.items)) ∙ ap length kept in
-    (read.columns, are_columns c.args.order c.len-rows.result read.columns read.are, words_all read.columns (words_of c.args.rest.now) (words_of c.loop-word.left.now) read.spelled c.in_default.ensures.words, (kept, omega arith))
+    (read.columns, are_columns c.args.order c.len-rows.result read.columns read.are, words_all read.columns (words_of c.args.rest.now) (words_of c.loop-word.left.now) read.spelled c.in_default.ensures.words, kept)
