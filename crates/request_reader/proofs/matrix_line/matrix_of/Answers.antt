@@ -1,9 +1,7 @@
-use Rattle.std.proofs.Common.{◌≡◌, ◌∙◌, ℕ, ◌<◌, ◌≤◌, List, ◌∷◌, length, sym, ap, subst, arith}
-use Rattle.std.specs.Prelude.{decimal}
-use Rattle.small_lists.specs.Lists.{lists}
+use Rattle.std.proofs.Common.{◌≡◌, ℕ, subst}
 use Rattle.formats.specs.Lines.{words_of}
 use Rattle.request_reader.specs.Matrices.{AreColumns, column_words}
-use Rattle.request_reader.proofs.MatrixLines.{columns_of_matrix, matrix_of_columns, same_order}
+use Rattle.request_reader.proofs.MatrixLines.{columns_of_matrix, same_order}
 use Rattle.request_reader.proofs.matrix_line.matrix_of.Goals as goal
 
 pub returns-in_err-columns : goal.returns-in_err-columns
