@@ -1,6 +1,6 @@
 -- The version that the first line of a text says.
-use Rattle.std.proofs.Common.{◌≡◌, ◌∙◌, ℕ, Bool, true, false, not, cond, ◌&&◌, List, [], ◌∷◌, map, refl, sym, ap, arith}
-use Rattle.std.specs.Prelude.{codes, bytes_eq, filter, IsTrue, ◌↔◌}
+use Rattle.std.proofs.Common.{◌≡◌, ◌∙◌, ℕ, Bool, true, false, not, cond, List, [], ◌∷◌, refl, sym, ap}
+use Rattle.std.specs.Prelude.{codes, bytes_eq, IsTrue, ◌↔◌}
 use Rattle.std.proofs.lemmas.Slice.Eq.{bytes_eq-Decides}
 use Rattle.formats.specs.Lines.{lines_of, words_of, is_skipped, statements_of}
 use Rattle.formats.specs.Request.{says_two, version_in, version_of}

@@ -1,8 +1,8 @@
 -- The words of the columns of a matrix, read one after another.
-use Rattle.std.proofs.Common.{◌≡◌, ◌∙◌, ℕ, zero, suc, ◌+◌, ◌<◌, ◌≤◌, Bool, true, false, List, [], ◌∷◌, ◌++◌, map, length, get_or, take, refl, sym, ap, subst, arith, length-append, append_assoc}
+use Rattle.std.proofs.Common.{◌≡◌, ◌∙◌, ℕ, zero, suc, ◌+◌, ◌<◌, ◌≤◌, Bool, true, false, List, [], ◌∷◌, ◌++◌, map, length, get_or, refl, sym, ap, subst, arith, length-append, append_assoc}
 use Rattle.std.specs.Prelude.{decimal}
 use Rattle.std.specs.List.{AllByRecursion}
-use Rattle.std.proofs.lemmas.List.{length-map, map-append, take_more}
+use Rattle.std.proofs.lemmas.List.{length-map, map-append}
 use Rattle.matroid_theory.specs.Field.{IsOrder}
 use Rattle.formats.specs.Statement.{column_word, entry_letter, IsMatrix}
 use Rattle.std.proofs.lemmas.Fmt.{decimal_injective}
@@ -24,12 +24,6 @@ letter_at order column word i d below e lt = subst (λ (w : List ℕ). (code : �
     by (code ∷ codes) zero all l = (code, all.0, refl)
     by (code ∷ codes) (suc k) all l = by codes k all.1 (omega arith)
 
--- one more letter of a word is read
-pub letters_more : (word column items : List ℕ) (i letter code : ℕ) → take i word ≡ column_word column → i < length word → letter ≡ get_or word i letter
-    → letter ≡ entry_letter code → items ≡ column ++ code ∷ [] → take (i + 1) word ≡ column_word items
-letters_more word column items i letter code front lt at is push =
-    take_more word i letter lt ∙ (λ t. front t ++ (sym at ∙ is) t ∷ []) ∙ sym (map-append entry_letter column (code ∷ [])) ∙ ap column_word (sym push)
-
 -- Some columns, at least one, each of this many entries, which are below the order.
 pub record AreHigh (order rows : ℕ) (columns : List (List ℕ)) : Type 0 where
   pub some : 0 < length columns
@@ -49,16 +43,6 @@ pub record AreRead (order rows : ℕ) (is_many : Bool) (kept : List (List ℕ)) 
   pub are : AreHigh order rows columns
   pub spelled : words ≡ column_words columns ++ left
   pub kept_are : AreKept is_many kept columns
-
--- one column
-pub first_read : (order : ℕ) (column : List ℕ) (kept : List (List ℕ)) (words left : List (List ℕ)) (word : List ℕ) → AreCodes order column → words ≡ word ∷ left
-    → word ≡ column_word column → kept ≡ column ∷ [] → AreRead order (length column) false kept words left
-first_read order column kept words left word are e is k = record {
-  columns = column ∷ [];
-  are = record { some = omega arith; low = are.some; high = are.few; long = (refl, tt); entries = (are.below, tt) };
-  spelled = e ∙ ap (λ (w : List ℕ). w ∷ left) is;
-  kept_are = k;
-}
 
 -- one column more
 pub high_more : (order rows : ℕ) (columns : List (List ℕ)) (column : List ℕ) → AreHigh order rows columns → AreCodes order column → length column ≡ rows
@@ -165,9 +149,6 @@ next_column order rows is_many kept words left all after word read e are is =
 -- a matrix is spelled by the word of an order and those of columns
 pub columns_of_matrix : (order : ℕ) (columns : List (List ℕ)) → IsMatrix order columns → AreColumns order columns
 columns_of_matrix order columns is = record { some = is.some; height = is.height; entries = is.entries }
-
-pub matrix_of_columns : (order : ℕ) (columns : List (List ℕ)) → IsOrder order → AreColumns order columns → IsMatrix order columns
-matrix_of_columns order columns is are = record { is_order = is; some = are.some; height = are.height; entries = are.entries }
 
 -- the order that the first word spells is that of the matrix
 pub same_order : (order q : ℕ) (columns words after : List (List ℕ)) (word : List ℕ) → IsOrder order → IsOrder q → words ≡ matrix_words order columns → words ≡ word ∷ after

@@ -25,7 +25,7 @@ column_words columns = map column_word columns
 abbrev pub matrix_words : ℕ → List (List ℕ) → List (List ℕ)
 matrix_words order columns = decimal order ∷ column_words columns
 
--- the columns as they were read: themselves where there are at most ten
+-- the columns as they were read: themselves, or that they are more than ten
 abbrev pub IsRead : Columns → List (List ℕ) → Type 0
-IsRead (Few kept) columns = (lists kept.items ≡ columns) × (length columns ≤ 10)
+IsRead (Few kept) columns = lists kept.items ≡ columns
 IsRead Many columns = 10 < length columns

@@ -1,6 +1,5 @@
 //! Matrices as lines spell them.
 ghost use Rattle.std.specs.Prelude.{◌≡◌, ◌<◌, ◌≤◌, ℕ, List, length, MatchOption};
-ghost use Rattle.std.specs.List.{AllByRecursion};
 ghost use Rattle.matroid_theory.specs.Field.{IsOrder};
 ghost use Rattle.formats.specs.Lines.{words_of};
 ghost use Rattle.formats.specs.Statement.{ByMatrix, IsMatrix, column_word, entry_letter, most_order};

@@ -1,6 +1,5 @@
-use Rattle.std.proofs.Common.{◌≡◌, ℕ, ◌<◌, length, get_or, arith, sym, subst}
-use Rattle.formats.specs.Statement.{entry_letter}
-use Rattle.request_reader.proofs.MatrixLines.{letter_at, letters_more}
+use Rattle.std.proofs.Common.{arith}
+use Rattle.request_reader.proofs.MatrixLines.{letter_at}
 use Rattle.request_reader.proofs.matrix_line.column_of.Goals as goal
 
 pub returns-in_err-code_of : goal.returns-in_err-code_of
