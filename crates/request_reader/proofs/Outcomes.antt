@@ -1,5 +1,5 @@
 -- What entries ask for, and how a text is accepted or refused by its values.
-use Rattle.std.proofs.Common.{◌≡◌, ◌∙◌, ℕ, ◌≤◌, Bool, List, [], ◌∷◌, Option, None, Some, refl, sym, ap, subst}
+use Rattle.std.proofs.Common.{◌≡◌, ◌∙◌, ℕ, ◌≤◌, List, [], ◌∷◌, Option, None, Some, refl, sym, ap, subst}
 use Rattle.std.specs.Prelude.{filter_map, option_to_list, unwrap_or, Result, Ok, Err, IfOk, IfErr}
 use Rattle.std.specs.List.{AllByRecursion, cons_option}
 use Rattle.matroid_theory.specs.declared.Mode.TheVariants.{Linear}

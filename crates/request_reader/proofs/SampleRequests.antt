@@ -1,11 +1,11 @@
 -- The requests of the samples, and their texts.
-use Rattle.std.proofs.Common.{◌≡◌, ◌∙◌, ℕ, zero, suc, ◌+◌, ◌≤◌, ◌<◌, ◌/◌, ◌%◌, ◌==◌, Bool, true, false, List, [], ◌∷◌, ◌++◌, map, length, refl, sym, ap, subst, arith, lit≤, lit<, slice_index}
+use Rattle.std.proofs.Common.{◌≡◌, ◌∙◌, ℕ, zero, suc, ◌+◌, ◌≤◌, ◌<◌, ◌/◌, ◌%◌, ◌==◌, Bool, true, false, List, [], ◌∷◌, ◌++◌, map, length, refl, ap, subst, arith, lit≤, lit<, slice_index}
 use Rattle.std.specs.List.{AllByRecursion}
-use Rattle.matroid_theory.specs.Field.{IsOrder, IsFactors}
+use Rattle.matroid_theory.specs.Field.{IsOrder}
 use Rattle.formats.specs.declared.refusal.PrintMode.TheVariants.{Counts}
 use Rattle.formats.specs.Statement.{Statement, MinorName, Fano, FanoDual, KFour, KFive, VersionIs, RankIs, FieldIs, SizeIs, Forbids, Prints, IsMinorName, elements_of, order_of_minor}
 use Rattle.formats.specs.Request.{Request, IsWithinLimits, StandsFor}
-use Rattle.formats.specs.Listing.{where_set, head_statements, text_of_statements}
+use Rattle.formats.specs.Listing.{where_set, text_of_statements}
 use Rattle.formats.specs.Words.{sample_text}
 use Rattle.formats.proofs.Heads.{counts_stand}
 use Rattle.named_matroids.specs.Names.{IsSmallName}
@@ -87,7 +87,7 @@ all_said a b c d =
     let two = said_more (where_named a Fano) b FanoDual ∙ ap (λ (l : List Statement). l ++ where_set b (Forbids FanoDual)) (first_said a Fano) in
     let three = said_more (where_named a Fano ++ where_named b FanoDual) c KFour ∙ ap (λ (l : List Statement). l ++ where_set c (Forbids KFour)) two in
     let four = said_more ((where_named a Fano ++ where_named b FanoDual) ++ where_named c KFour) d KFive
-        ∙ ap (λ (l : List Statement). l ++ where_set d (Forbids KFive)) three in
+    ∙ ap (λ (l : List Statement). l ++ where_set d (Forbids KFive)) three in
     ap (λ (l : List Statement). l ++ Prints Counts ∷ []) four
 
 -- the sample's text stands for its request

@@ -1,6 +1,6 @@
 -- The first word of a line that says something, and the word of a name.
 use Rattle.std.proofs.Common.{◌≡◌, ◌∙◌, ℕ, ◌≤◌, Option, None, Some, subst, List, [], ◌∷◌, length, slice_index, slice_index_or, refl, sym, ap, arith}
-use Rattle.std.specs.Prelude.{codes, decimal, ◌++◌, MatchOption}
+use Rattle.std.specs.Prelude.{codes, MatchOption}
 use Rattle.formats.specs.Statement.{MinorName, Uniform, Fano, FanoDual, NonFano, KFour, KFive, ByMatrix, IsMatrix, IsMinorName, minor_words, most_order, order_of_minor}
 use Rattle.formats.specs.Statement.{Statement, VersionIs, RankIs, FieldIs, SizeIs, EquivalenceIs, Forbids, ListsConnected, ListsThreeConnected, ListsCosimple, ListsDistinct, ListsWith, Prints, Says}
 use Rattle.request_reader.specs.declared.keyword.Keyword.{Keyword}
@@ -89,12 +89,12 @@ matrix_alone (ByMatrix order columns) words is = (order, columns, refl, cc (is))
 -- so what is read behind that word is what is read with it
 pub matrix_read : (version : ℕ) (o : Option NamedMinor) (all words : List (List ℕ)) → all ≡ codes "matrix" ∷ words
     → MatchOption o
-        ((order : ℕ) (columns : List (List ℕ)) → IsMatrix order columns → order ≤ most_order version → words ≡ matrix_words order columns → ⊥)
-        (λ named. (order : ℕ) × (columns : List (List ℕ)) × IsMatrix order columns × (order ≤ most_order version) × (words ≡ matrix_words order columns)
-            × IsNamed named (ByMatrix order columns))
+    ((order : ℕ) (columns : List (List ℕ)) → IsMatrix order columns → order ≤ most_order version → words ≡ matrix_words order columns → ⊥)
+    (λ named. (order : ℕ) × (columns : List (List ℕ)) × IsMatrix order columns × (order ≤ most_order version) × (words ≡ matrix_words order columns)
+    × IsNamed named (ByMatrix order columns))
     → MatchOption o
-        ((minor : MinorName) → IsMinorName minor → order_of_minor minor ≤ most_order version → all ≡ minor_words minor → ⊥)
-        (λ named. (minor : MinorName) × IsMinorName minor × (order_of_minor minor ≤ most_order version) × (all ≡ minor_words minor) × IsNamed named minor)
+    ((minor : MinorName) → IsMinorName minor → order_of_minor minor ≤ most_order version → all ≡ minor_words minor → ⊥)
+    (λ named. (minor : MinorName) × IsMinorName minor × (order_of_minor minor ≤ most_order version) × (all ≡ minor_words minor) × IsNamed named minor)
 matrix_read version None all words at none = λ minor may of_version is.
     let m = matrix_alone minor words (sym at ∙ is) in
     none m.0 m.1 (subst IsMinorName m.2 may) (subst (λ (n : MinorName). order_of_minor n ≤ most_order version) m.2 of_version) m.3

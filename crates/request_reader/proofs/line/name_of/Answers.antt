@@ -1,4 +1,4 @@
-use Rattle.std.proofs.Common.{◌∙◌, Err, sym, ap}
+use Rattle.std.proofs.Common.{◌∙◌, Err, ap}
 use Rattle.named_matroids.specs.Names.{NamesTooBig}
 use Rattle.formats.specs.Statement.{Uniform}
 use Rattle.request_reader.proofs.line.name_of.Goals as goal

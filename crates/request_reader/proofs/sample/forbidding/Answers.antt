@@ -1,4 +1,4 @@
-use Rattle.std.proofs.Common.{[], ◌∷◌, ◌++◌, sym, subst}
+use Rattle.std.proofs.Common.{sym, subst}
 use Rattle.matroid_theory.specs.Given.{IsGivenBy}
 use Rattle.formats.specs.Minors.{given_as}
 use Rattle.named_matroids.specs.Names.{named_by}

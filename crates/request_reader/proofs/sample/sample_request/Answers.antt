@@ -1,10 +1,10 @@
-use Rattle.std.proofs.Common.{◌≡◌, ◌∙◌, ℕ, List, ◌++◌, ◌%◌, ◌/◌, ◌==◌, ap, sym, subst}
+use Rattle.std.proofs.Common.{◌≡◌, ◌∙◌, List, ◌++◌, ◌%◌, ◌/◌, ◌==◌, ap, sym, subst}
 use Rattle.formats.specs.Statement.{MinorName, Fano, FanoDual, KFour, KFive}
 use Rattle.formats.specs.Request.{StandsFor}
 use Rattle.formats.specs.Words.{sample_text}
 use Rattle.request_reader.specs.Requested.{minors_of, counting_request}
 use Rattle.request_reader.specs.Samples.{where_named}
-use Rattle.request_reader.proofs.SampleRequests.{sample_minors, sample_stands}
+use Rattle.request_reader.proofs.SampleRequests.{sample_stands}
 use Rattle.request_reader.proofs.sample.sample_request.Goals as goal
 
 pub returns : goal.returns
