@@ -7,12 +7,27 @@ ghost use Rattle.matroid_theory.specs.Order.{IsForm};
 ghost use Rattle.canonical_form.specs.Search.{later, AreOfClass};
 
 use crate::columns::{ColumnList, ColumnNumbers};
+use crate::powers::least_from;
 use crate::search::try_bases;
+use matroid_theory::Mode;
 use product_rep::Rep;
 
 /// The form of the class of a representation whose factors agree: of the standard representations that are equivalent to it by
-/// linear moves, the one that is not above any other.
-pub fn least_form(rep: &Rep) -> Rep
+/// moves of the mode, the one that is not above any other.
+pub fn least_form(rep: &Rep, mode: Mode) -> Rep
+    requires { Agrees rep.now }
+    ensures form { IsForm mode result }
+    ensures equivalent { AreEquivalent mode rep.now result }
+{
+    rep.laws();
+    match mode {
+        Mode::Linear => linear_form(rep),
+        Mode::Semilinear => least_from(rep, 0),
+    }
+}
+
+/// The form of the class by linear moves.
+pub fn linear_form(rep: &Rep) -> Rep
     requires { Agrees rep.now }
     ensures form { IsForm linear result }
     ensures equivalent { AreEquivalent linear rep.now result }

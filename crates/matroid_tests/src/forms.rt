@@ -3,13 +3,13 @@ ghost use Rattle.matroid_theory.specs.Rep.{shape};
 
 use bases::agree;
 use canonical_form::least_form;
-use product_rep::{Factors, Move, ProductColumn, Rep, act};
+use product_rep::{Factors, Mode, Move, ProductColumn, Rep, act};
 use std::test::Fail;
 
-/// The form, where the factors agree.
-fn form_of(rep: &Rep) -> Option<Rep> {
+/// The form in the mode, where the factors agree.
+fn form_of(rep: &Rep, mode: Mode) -> Option<Rep> {
     if agree(rep) {
-        Some(least_form(rep))
+        Some(least_form(rep, mode))
     } else {
         None
     }
@@ -34,7 +34,7 @@ fn moved_by(rep: &Rep, scalar: u8, from: usize) -> Option<Rep>
     step.set_scalar(0, 3, scalar);
     step.set_label(from, 3);
     step.set_label(3, from);
-    if step.valid(rep) {
+    if step.valid(rep, Mode::Semilinear) {
         Some(act(rep, &step))
     } else {
         None
@@ -48,7 +48,7 @@ fn forms_of_lines(rt: HostRuntime) -> Result<(), Fail> {
         (unit_and!([4], 2, [1, 1], [1, 3]), 3, &[1, 2][..]),
         (unit_and!([3], 2), 1, &[0, 1][..]),
     ] {
-        let form = form_of(&rep).ok_or("no agreement")?;
+        let form = form_of(&rep, Mode::Linear).ok_or("no agreement")?;
         assert_eq!(rt; form.size(), rep.size());
         assert!(rt; has_column(&form, j, codes), "at {codes:?}");
     }
@@ -65,7 +65,7 @@ fn form_of_a_graph(rt: HostRuntime) -> Result<(), Fail> {
         [1, 1, 0, 0, 1, 1],
         [1, 1, 1, 2, 0, 0]
     );
-    let form = form_of(&rep).ok_or("no agreement")?;
+    let form = form_of(&rep, Mode::Linear).ok_or("no agreement")?;
     assert_eq!(rt; form.size(), 6);
     for (j, codes) in [
         (2, &[0, 0, 0, 0, 1, 1][..]),
@@ -81,7 +81,7 @@ fn form_of_a_graph(rt: HostRuntime) -> Result<(), Fail> {
 #[test]
 fn form_after_a_move(rt: HostRuntime) -> Result<(), Fail> {
     let rep = unit_and!([5], 2, [1, 1], [1, 3]);
-    let form = form_of(&rep).ok_or("no agreement")?;
+    let form = form_of(&rep, Mode::Linear).ok_or("no agreement")?;
     assert!(rt; has_column(&form, 2, &[1, 1]));
     assert!(rt; has_column(&form, 3, &[1, 2]));
     for scalar in 1..5 {
@@ -91,10 +91,28 @@ fn form_after_a_move(rt: HostRuntime) -> Result<(), Fail> {
                 has_column(&image, from, &[(1 + 3 * scalar) % 5, 3]),
                 "{scalar} at {from}"
             );
-            let form = form_of(&image).ok_or("no agreement")?;
+            let form = form_of(&image, Mode::Linear).ok_or("no agreement")?;
             assert!(rt; has_column(&form, 2, &[1, 1]), "{scalar} at {from}");
             assert!(rt; has_column(&form, 3, &[1, 2]), "{scalar} at {from}");
         }
+    }
+    Ok(())
+}
+
+// One factor raised alone makes the other's codes equal to its own.
+#[test]
+fn forms_of_conjugate_lines(rt: HostRuntime) -> Result<(), Fail> {
+    let rep = unit_and!([4, 4], 2, [1, 1, 1, 1], [1, 1, 2, 3]);
+    for (mode, codes) in [
+        (Mode::Linear, [1, 1, 2, 3]),
+        (Mode::Semilinear, [1, 1, 2, 2]),
+    ] {
+        let form = form_of(&rep, mode).ok_or("no agreement")?;
+        assert_eq!(rt; form.size(), 4);
+        assert!(rt; has_column(&form, 0, &[1, 1, 0, 0]), "in mode {mode:?}");
+        assert!(rt; has_column(&form, 1, &[0, 0, 1, 1]), "in mode {mode:?}");
+        assert!(rt; has_column(&form, 2, &[1, 1, 1, 1]), "in mode {mode:?}");
+        assert!(rt; has_column(&form, 3, &codes), "in mode {mode:?}");
     }
     Ok(())
 }

@@ -2,7 +2,7 @@ ghost use Rattle.std.specs.Prelude.{◌<◌};
 
 use base_iso::isomorphism;
 use bases::BaseList;
-use product_rep::{Factors, Move, ProductColumn, Rep, act};
+use product_rep::{Factors, Mode, Move, ProductColumn, Rep, act};
 use std::alloc::Global;
 use std::test::Fail;
 
@@ -86,7 +86,7 @@ fn relabelled(rep: &Rep, a: usize, s: usize) -> Option<Rep>
     step.set_label(2, (a * 2 + s) % 5);
     step.set_label(3, (a * 3 + s) % 5);
     step.set_label(4, (a * 4 + s) % 5);
-    if step.valid(rep) {
+    if step.valid(rep, Mode::Semilinear) {
         Some(act(rep, &step))
     } else {
         None

@@ -5,7 +5,7 @@ use Rattle.std.proofs.lemmas.List.{get_or-set_same, get_or-set_other}
 use Rattle.matroid_theory.specs.declared.Mode.TheVariants.{Semilinear}
 use Rattle.matroid_theory.specs.Field.{degree, raised}
 use Rattle.matroid_theory.specs.Rep.{Rep, Shape, count, order, matrix, shape, KeepsLimits}
-use Rattle.matroid_theory.specs.Move.{Move, MoveTable, IsMove, TakesTo, move_of}
+use Rattle.matroid_theory.specs.Move.{MoveTable, IsMove, TakesTo, move_of}
 use Rattle.matroid_theory.specs.Powers.{IsRaised}
 use Rattle.matroid_theory.proofs.Semilinear.{with_power, power_here, power_elsewhere, power_move}
 use Rattle.product_rep.specs.Tables.{KeepsMove, IsIdentityTable}

@@ -1,4 +1,4 @@
-use Rattle.std.proofs.Common.{◌≡◌, ◌<◌, ℕ, List, map, sym, ◌∙◌, ap, subst, arith, length, slice_index}
+use Rattle.std.proofs.Common.{◌≡◌, ◌<◌, ℕ, map, sym, ◌∙◌, ap, subst, arith, length, slice_index}
 use Rattle.matroid_theory.specs.Field.{raised}
 use Rattle.matroid_theory.specs.Rep.{Shape, column_of}
 use Rattle.product_rep.proofs.MoveLemmas.{column-length, column_codes, raised-length, raised_codes, label_below, code-moved}

@@ -1,4 +1,4 @@
-use Rattle.std.proofs.Common.{◌≡◌, ◌<◌, ◌*◌, ◌+◌, ℕ, ◌≤◌, List, length, replicate, refl, sym, ◌∙◌, ap, subst, slice_index}
+use Rattle.std.proofs.Common.{◌≡◌, ◌<◌, ◌*◌, ◌+◌, ℕ, ◌≤◌, List, length, replicate, sym, ◌∙◌, ap, subst, slice_index}
 use Rattle.std.proofs.lemmas.List.{get_or-replicate, length-replicate}
 use Rattle.matroid_theory.specs.Field.{IsOrder, degree}
 use Rattle.matroid_theory.specs.Matrix.{unit}
