@@ -19,15 +19,6 @@ joined_after first KFour = refl
 joined_after first KFive = refl
 joined_after first (ByMatrix order columns) = refl
 
-pub joined_after_two : (first second : List ℕ) (minor : MinorName) → line_of_words (first ∷ second ∷ join_with_byte 32 (minor_words minor) ∷ []) ≡ line_of_words (first ∷ second ∷ minor_words minor)
-joined_after_two first second (Uniform rank size) = refl
-joined_after_two first second Fano = refl
-joined_after_two first second FanoDual = refl
-joined_after_two first second NonFano = refl
-joined_after_two first second KFour = refl
-joined_after_two first second KFive = refl
-joined_after_two first second (ByMatrix order columns) = refl
-
 -- one word more
 join_push : (x : List ℕ) (xs : List (List ℕ)) (y : List ℕ) → join_with_byte 32 ((x ∷ xs) ++ y ∷ []) ≡ join_with_byte 32 (x ∷ xs) ++ 32 ∷ y
 join_push x [] y = refl
