@@ -1,4 +1,4 @@
-use Rattle.std.proofs.Common.{◌≡◌, ◌∙◌, ℕ, List, [], ◌∷◌, ◌++◌, map, ap, codes, refl}
+use Rattle.std.proofs.Common.{◌≡◌, ◌∙◌, List, [], ◌∷◌, ◌++◌, map, ap, codes, refl}
 use Rattle.std.specs.Prelude.{Option, option_to_list}
 use Rattle.matroid_theory.specs.declared.Mode.{Mode}
 use Rattle.formats.specs.declared.refusal.PrintMode.{PrintMode}
