@@ -53,7 +53,8 @@ value_short [] h l first = lit< tt
 value_short (x ∷ xs) h l first =
     let most : x * 13 ^ length xs ≤ 1 * 13 ^ length xs = mul-le-mul first (le_refl (13 ^ length xs)) in
     let rest : value xs < 13 ^ length xs = value_below xs (rest_digits x xs h) in
-    let room : 13 ^ length xs ≤ 13 ^ 17 = pow-le-pow_right (lit< tt) (omega arith) in
+    let short : length xs ≤ 17 = omega arith in
+    let room : 13 ^ length xs ≤ 13 ^ 17 = pow-le-pow_right (lit< tt) short in
     omega arith
 
 -- a list with a code that isn't 0
@@ -79,9 +80,11 @@ module _ (factors : List ℕ) (fs : IsFactors factors) (rank : ℕ) (low : rank 
   -- the first code is 1 where the first row is the lead, and 0 otherwise
   first_code : (v : List ℕ) → IsNormalised factors rank v → slice_index v 0 ≤ 1
   first_code v n = elim (cases_eq n.lead 0) [
-    | inl z ↦ (let one : slice_index v (n.lead * length factors + 0) ≡ 1 = n.ones 0 fs.some in
-        let at : slice_index v (n.lead * length factors + 0) ≡ slice_index v 0 = ap (λ lead. slice_index v (lead * length factors + 0)) z in omega arith)
-    | inr ne ↦ (let zero : slice_index v (0 * length factors + 0) ≡ 0 = n.zeros 0 0 (omega arith) fs.some in omega arith)
+    | inl z ↦ (let row : n.lead * length factors ≡ 0 * length factors = ap (λ lead. lead * length factors) z in
+        let place : 0 ≡ n.lead * length factors + 0 = omega arith in
+        let one : slice_index v 0 ≡ 1 = ap (slice_index v) place ∙ n.ones 0 fs.some in omega arith)
+    | inr ne ↦ (let place : 0 ≡ 0 * length factors + 0 = omega arith in
+        let zero : slice_index v 0 ≡ 0 = ap (slice_index v) place ∙ n.zeros 0 0 (omega arith) fs.some in omega arith)
   ]
 
   pub value_most : (v : List ℕ) → IsNormalised factors rank v → value v < above_values

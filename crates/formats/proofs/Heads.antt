@@ -6,12 +6,13 @@ use Rattle.std.specs.Prelude.{filter_map, option_to_list, if◌then◌else◌}
 use Rattle.std.proofs.lemmas.Bool.Decides.{nat_tests}
 use Rattle.std.proofs.lemmas.List.Sums.{count_by-le-length, sum_by-append, sum_by-cons}
 use Rattle.std.proofs.lemmas.List.{length-map}
+use Rattle.matroid_theory.specs.Field.{IsFactors}
 use Rattle.matroid_theory.specs.declared.Mode.{Mode}
 use Rattle.matroid_theory.specs.declared.Mode.TheVariants.{Linear, Semilinear}
 use Rattle.formats.specs.declared.refusal.PrintMode.{PrintMode}
 use Rattle.formats.specs.declared.refusal.PrintMode.TheVariants.{Forms, Counts}
 use Rattle.formats.specs.Lines.{lines_of, statements_of}
-use Rattle.formats.specs.Statement.{MinorName, Statement, VersionIs, RankIs, FieldIs, SizeIs, EquivalenceIs, Forbids, ListsConnected, ListsThreeConnected, ListsCosimple, ListsDistinct, ListsWith, Prints, IsStatement, IsOfVersion, spelling, kind_number, forbid_kind, most_of_kind, named_elements}
+use Rattle.formats.specs.Statement.{MinorName, Statement, VersionIs, RankIs, FieldIs, SizeIs, EquivalenceIs, Forbids, ListsConnected, ListsThreeConnected, ListsCosimple, ListsDistinct, ListsWith, Prints, IsStatement, IsOfVersion, IsMinorName, order_of_minor, elements_of, spelling, kind_number, forbid_kind, most_of_kind, named_elements}
 use Rattle.formats.specs.Request.{Request, says_two, version_in, version_of, SayInTurn, AreInOrder, count_of_kind, rank_in, field_in, size_in, forbidden_in, wanted_in, has_kind, prints_counts, asks_semilinear, AskFor, most_bytes, IsWithinLimits, StandsFor}
 use Rattle.formats.specs.Listing.{where_set, is_semilinear, head_statements, text_of_statements}
 use Rattle.formats.proofs.Spelled.{spelled, text_says}
@@ -419,18 +420,82 @@ version_number : (n : ℕ) → (n ≡ 1) ⊎ (n ≡ 2) → n < 10
 version_number n (inl one) = omega arith
 version_number n (inr two) = omega arith
 
+-- a line of its kind without a matroid is small
+plain_small : (e : Statement) → IsStatement e → named_elements e ≡ 0 → IsSmall e
+plain_small e may none = record { may = may; not_big = omega arith }
+
+-- The parts of the head of a request stand for it, where what they say is small and of its version.
+parts_stand : (q : Request) → (q.version ≡ 1) ⊎ (q.version ≡ 2) → length q.forbid ≤ 8 → AllByRecursion IsSmall (head_parts q)
+    → AllByRecursion (IsOfVersion q.version) (head_parts q) → IsWithinLimits q → StandsFor (text_of_statements (head_parts q)) q
+parts_stand q is few small of_version limits =
+    small_stands (head_parts q) q (says_two_at q.version is) small of_version (head_length q few)
+    (λ kind. omega (arith, head_count q kind few, kinds_bound_small kind)) (head_asks q) limits
+
 -- The head of a request's listing, without its first line, stands for the request.
 pub head_stands : (text : List ℕ) (q : Request) → StandsFor text q → StandsFor (text_of_statements (head_statements q)) q
 head_stands text q s =
-    let few = few_forbidden s.entries q s.in_order s.asked in
     let is : (q.version ≡ 1) ⊎ (q.version ≡ 2) = subst (λ (v : ℕ). (v ≡ 1) ⊎ (v ≡ 2)) s.version (version_is text) in
     let one : IsSmall (VersionIs q.version) = record { may = omega (arith, version_number q.version is); not_big = omega arith } in
     let small =
-        head_kept IsSmall s.entries q one (record { may = tt; not_big = omega arith }) (record { may = tt; not_big = omega arith })
-        (record { may = tt; not_big = omega arith }) (record { may = tt; not_big = omega arith }) (record { may = tt; not_big = omega arith })
-        (record { may = tt; not_big = omega arith }) (all_small s.entries s.said.may s.in_order.not_big) s.asked in
+        head_kept IsSmall s.entries q one (plain_small (EquivalenceIs Semilinear) tt refl) (plain_small ListsConnected tt refl)
+        (plain_small ListsThreeConnected tt refl) (plain_small ListsCosimple tt refl) (plain_small ListsDistinct tt refl)
+        (plain_small (Prints q.print) tt refl) (all_small s.entries s.said.may s.in_order.not_big) s.asked in
     let entries_of = subst (λ (v : ℕ). AllByRecursion (IsOfVersion v) s.entries) s.version s.said.of_version in
     let of_version = head_kept (IsOfVersion q.version) s.entries q refl tt tt tt tt tt tt entries_of s.asked in
     subst (λ (es : List Statement). StandsFor (text_of_statements es) q) (parts_are q)
-    (small_stands (head_parts q) q (says_two_at q.version is) small of_version (head_length q few)
-    (λ kind. omega (arith, head_count q kind few, kinds_bound_small kind)) (head_asks q) s.limits)
+    (parts_stand q is (few_forbidden s.entries q s.in_order s.asked) small of_version s.limits)
+
+-- what a request for counts of version 1 says, with minors forbidden and nothing else
+abbrev pub counts_statements : List ℕ → ℕ → ℕ → List MinorName → List Statement
+counts_statements factors rank size forbid = VersionIs 1 ∷ FieldIs factors ∷ RankIs rank ∷ SizeIs size ∷ map Forbids forbid ++ Prints Counts ∷ []
+
+abbrev pub counts_request : List ℕ → ℕ → ℕ → List MinorName → Request
+counts_request factors rank size forbid = record {
+  factors = factors;
+  rank = rank;
+  size = size;
+  forbid = forbid;
+  connected = false;
+  three_connected = false;
+  cosimple = false;
+  distinct = false;
+  has = None;
+  print = Counts;
+  mode = Linear;
+  version = 1;
+}
+
+-- its text stands for it
+pub counts_stand : (factors : List ℕ) (rank size : ℕ) (forbid : List MinorName) → IsFactors factors → AllByRecursion (λ order. order ≤ 9) factors
+    → length forbid ≤ 8 → AllByRecursion (λ minor. IsMinorName minor × (elements_of minor ≤ 10) × (order_of_minor minor ≤ 9)) forbid
+    → IsWithinLimits (counts_request factors rank size forbid)
+    → StandsFor (text_of_statements (counts_statements factors rank size forbid)) (counts_request factors rank size forbid)
+counts_stand factors rank size forbid are small few names limits =
+    parts_stand (counts_request factors rank size forbid) (inl refl) few smalls versions limits
+  where
+    forbids_small : (ms : List MinorName) → AllByRecursion (λ minor. IsMinorName minor × (elements_of minor ≤ 10) × (order_of_minor minor ≤ 9)) ms
+        → AllByRecursion IsSmall (map Forbids ms ++ Prints Counts ∷ [])
+    forbids_small [] all = (plain_small (Prints Counts) tt refl, tt)
+    forbids_small (m ∷ ms) all = (record { may = all.0.0; not_big = all.0.1 }, forbids_small ms all.1)
+
+    forbids_version : (ms : List MinorName) → AllByRecursion (λ minor. IsMinorName minor × (elements_of minor ≤ 10) × (order_of_minor minor ≤ 9)) ms
+        → AllByRecursion (IsOfVersion 1) (map Forbids ms ++ Prints Counts ∷ [])
+    forbids_version [] all = (tt, tt)
+    forbids_version (m ∷ ms) all = (all.0.2, forbids_version ms all.1)
+
+    smalls : AllByRecursion IsSmall (counts_statements factors rank size forbid)
+    smalls =
+        let low = limits.rank in
+        let high = limits.size in (
+          record { may = omega arith; not_big = omega arith },
+          (
+            record { may = are; not_big = omega arith },
+            (
+              record { may = omega (arith, low.1); not_big = omega arith },
+              (record { may = omega (arith, high.1); not_big = omega arith }, forbids_small forbid names),
+            ),
+          ),
+        )
+
+    versions : AllByRecursion (IsOfVersion 1) (counts_statements factors rank size forbid)
+    versions = (refl, (small, (tt, (tt, forbids_version forbid names))))

@@ -5,7 +5,6 @@ use Rattle.std.proofs.lemmas.Option.{slice_get_within, get_or_from_slice_get, sl
 use Rattle.matroid_theory.specs.Rep.{Rep}
 use Rattle.matroid_theory.specs.Matroid.{Agrees}
 use Rattle.matroid_theory.specs.Minor.{Matroid}
-use Rattle.matroid_theory.specs.declared.Mode.TheVariants.{Linear}
 use Rattle.matroid_theory.specs.Level.{Family, IsLevel, Passes}
 use Rattle.matroid_theory.specs.Level as theory
 use Rattle.formats.specs.Request.{Request}
@@ -75,8 +74,8 @@ stands_at forms items i M same l e = ap (λ (fs : List Rep). slice_get fs i) (sy
 -- each form of a level agrees
 pub form_agrees : (q : Request) (forbidden : List Matroid) → AreGivenBy (map given_as q.forbid) forbidden → (n : ℕ) (forms : List Rep) → IsLevelOf q n forms → (i : ℕ) (M : Rep) → slice_get forms i ≡ Some M → Agrees M
 form_agrees q forbidden given n forms level i M at =
-    let family : Family = record { factors = q.factors; rank = q.rank; mode = Linear; forbidden = forbidden } in
-    let rising : IsLevel family n forms = level family (record { factors_are = refl; rank_is = refl; linear = refl; forbids = given }) in
+    let family : Family = record { factors = q.factors; rank = q.rank; mode = q.mode; forbidden = forbidden } in
+    let rising : IsLevel family n forms = level family (record { factors_are = refl; rank_is = refl; mode_is = refl; forbids = given }) in
     let form = (rising.exact M).0 (i, slice_get_within forms i M at, get_or_from_slice_get forms i M M at) in
     let member = form.member in
     let w = member.representation in

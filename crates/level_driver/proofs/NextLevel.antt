@@ -4,7 +4,7 @@ use Rattle.std.specs.List.{Contains, All, AllPairs}
 use Rattle.std.specs.declared.cmp.Ordering.TheVariants.{Less}
 use Rattle.std.proofs.lemmas.List.{take_more, take_all}
 use Rattle.std.proofs.lemmas.List.Elements.{Contains-get_or}
-use Rattle.matroid_theory.specs.declared.Mode.TheVariants.{Linear}
+use Rattle.matroid_theory.specs.declared.Mode.{Mode}
 use Rattle.matroid_theory.specs.Field.{IsFactors}
 use Rattle.matroid_theory.specs.Rep.{Rep, size, KeepsLimits}
 use Rattle.matroid_theory.specs.Move.{AreEquivalent}
@@ -89,7 +89,7 @@ module _ (q : Request) (family : Family) (grows : Grows q family) (n : ℕ) wher
               },
             )
 
-    module _ (tried : ℕ) (found : List (List (List ℕ))) (h : HasGrown family.forbidden parents tried found) (some : 0 < length q.factors) where
+    module _ (tried : ℕ) (found : List (List (List ℕ))) (h : HasGrown family.mode family.forbidden parents tried found) (some : 0 < length q.factors) where
       pub next_tries : IsCount (IsTry family (n + 1)) tried
       next_tries = count_same (IsExtension family.forbidden parents) (IsTry family (n + 1)) tried tries_are h.count
 
@@ -97,7 +97,7 @@ module _ (q : Request) (family : Family) (grows : Grows q family) (n : ℕ) wher
       of_request P cs f = let m = f.member in λ i. rep_of ((m.same_factors ∙ grows.factors_are) i) ((m.ranks ∙ grows.rank_is) i) cs
 
       -- the form of an extension is one of the next level
-      child_form : (P : Rep) (v : List ℕ) (cs : List (List ℕ)) → IsLevelForm family n P → IsCandidate family.forbidden P v → IsChild P v cs → IsLevelForm family (n + 1) (rep_of q.factors q.rank cs)
+      child_form : (P : Rep) (v : List ℕ) (cs : List (List ℕ)) → IsLevelForm family n P → IsCandidate family.forbidden P v → IsChild family.mode P v cs → IsLevelForm family (n + 1) (rep_of q.factors q.rank cs)
       child_form P v cs f candidate child =
           subst (IsLevelForm family (n + 1)) (of_request P cs f)
           (let N : Rep = rep_of P.factors P.rank cs in
@@ -107,7 +107,7 @@ module _ (q : Request) (family : Family) (grows : Grows q family) (n : ℕ) wher
           let e = child.equivalent in
           let t = e.takes in
           record {
-            form = subst (λ mode. IsForm mode N) (sym grows.linear) child.form;
+            form = child.form;
             member = record {
               same_factors = w.same_factors;
               ranks = w.ranks;
@@ -115,10 +115,10 @@ module _ (q : Request) (family : Family) (grows : Grows q family) (n : ℕ) wher
               representation = (let r = w.representation in record {
                 some = subst (λ s. 0 < length s.factors) (sym t.same_shape) r.some;
                 shaped = t.shaped;
-                agrees = (agrees_carried Linear (followed_by P v) N e).0 a.agrees;
+                agrees = (agrees_carried family.mode (followed_by P v) N e).0 a.agrees;
               });
-              simple = (simple_carried Linear (followed_by P v) N e).0 a.simple;
-              avoids = avoids_over Linear (followed_by P v) N e (subst (λ (fs : List ℕ). 0 < length fs) (sym (m.same_factors ∙ grows.factors_are)) some) family.forbidden candidate.avoids;
+              simple = (simple_carried family.mode (followed_by P v) N e).0 a.simple;
+              avoids = avoids_over family.mode (followed_by P v) N e (subst (λ (fs : List ℕ). 0 < length fs) (sym (m.same_factors ∙ grows.factors_are)) some) family.forbidden candidate.avoids;
             };
           })
 
@@ -148,7 +148,7 @@ module _ (q : Request) (family : Family) (grows : Grows q family) (n : ℕ) wher
           try = (tries_are (record M { columns = take n M.columns }, get_or M.columns n [])).1
               (last_try family (n + 1) (record M { columns = take n M.columns }) (get_or M.columns n []) (let r : family.rank ≡ q.rank = grows.rank_is in let d : q.rank ≤ n = room in omega arith) (subst (IsLevelForm family (n + 1)) split f))
 
-          made : (cs : List (List ℕ)) × Contains found cs × IsChild (record M { columns = take n M.columns }) (get_or M.columns n []) cs
+          made : (cs : List (List ℕ)) × Contains found cs × IsChild family.mode (record M { columns = take n M.columns }) (get_or M.columns n []) cs
           made = h.complete (record M { columns = take n M.columns }, get_or M.columns n []) try
 
           is : rep_of q.factors q.rank made.0 ≡ M
@@ -156,8 +156,8 @@ module _ (q : Request) (family : Family) (grows : Grows q family) (n : ℕ) wher
               let child = made.2 in
               let x = level.exact (record M { columns = take n M.columns }) in
               let N : Rep = rep_of M.factors M.rank made.0 in
-              let back : AreEquivalent Linear N M = equivalent-symmetric Linear M N (subst (λ (M' : Rep). AreEquivalent Linear M' N) (sym split) child.equivalent) in
-              sym (of_request (record M { columns = take n M.columns }) made.0 (x.0 try.0)) ∙ one_form Linear N M child.form (subst (λ mode. IsForm mode M) grows.linear f.form) back
+              let back : AreEquivalent family.mode N M = equivalent-symmetric family.mode M N (subst (λ (M' : Rep). AreEquivalent family.mode M' N) (sym split) child.equivalent) in
+              sym (of_request (record M { columns = take n M.columns }) made.0 (x.0 try.0)) ∙ one_form family.mode N M child.form f.form back
 
       pub next_level : q.rank ≤ n → AllPairs (λ M N. rep_cmp M N ≡ Less) (map (rep_of q.factors q.rank) found) → IsLevel family (n + 1) (map (rep_of q.factors q.rank) found)
       next_level room rising = record {
@@ -186,10 +186,10 @@ module _ (q : Request) (family : Family) (grows : Grows q family) (n : ℕ) wher
 
 -- what a request grows that forbids these matroids
 abbrev pub grown_by : Request → List Matroid → Family
-grown_by q Ns = record { factors = q.factors; rank = q.rank; mode = Linear; forbidden = Ns }
+grown_by q Ns = record { factors = q.factors; rank = q.rank; mode = q.mode; forbidden = Ns }
 
 pub grows_it : (q : Request) (Ns : List Matroid) → AreGivenBy (map given_as q.forbid) Ns → Grows q (grown_by q Ns)
-grows_it q Ns given = record { factors_are = refl; rank_is = refl; linear = refl; forbids = given }
+grows_it q Ns given = record { factors_are = refl; rank_is = refl; mode_is = refl; forbids = given }
 
 -- a level of a request that isn't its last
 module _ (q : Request) (Ns : List Matroid) (given : AreGivenBy (map given_as q.forbid) Ns) (fields : IsFactors q.factors) (limits : IsWithinLimits q) (n : ℕ) (parents : List Rep) (h : IsParentLevel q n parents) where
@@ -206,9 +206,11 @@ module _ (q : Request) (Ns : List Matroid) (given : AreGivenBy (map given_as q.f
       let most = limits.size in
       level_parent q (grown_by q Ns) (grows_it q Ns given) n P (let b : n < q.size = h.before in let s : q.size ≤ 16 = most.1 in omega arith) (x.0 c)
 
-  module _ (tried : ℕ) (found : List (List (List ℕ))) (grown : HasGrown Ns parents tried found) where
-    of_family : (family : Family) → Grows q family → HasGrown family.forbidden parents tried found
-    of_family family grows = subst (λ (Ns : List Matroid). HasGrown Ns parents tried found) (forbidden_are q Ns family given grows) grown
+  module _ (tried : ℕ) (found : List (List (List ℕ))) (grown : HasGrown q.mode Ns parents tried found) where
+    of_family : (family : Family) → Grows q family → HasGrown family.mode family.forbidden parents tried found
+    of_family family grows =
+        subst (λ (mode : Mode). HasGrown mode family.forbidden parents tried found) (sym grows.mode_is)
+        (subst (λ (Ns : List Matroid). HasGrown q.mode Ns parents tried found) (forbidden_are q Ns family given grows) grown)
 
     pub each_rep : All (λ cs. KeepsLimits (rep_of q.factors q.rank cs)) found
     each_rep = found_reps q (grown_by q Ns) (grows_it q Ns given) n parents its_level tried found grown fields.some fields limits h.before

@@ -7,7 +7,7 @@ use Rattle.std.specs.declared.cmp.Ordering.{Ordering}
 use Rattle.std.specs.declared.cmp.Ordering.TheVariants.{Less, Equal, Greater}
 use Rattle.std.proofs.lemmas.Cmp.{nat_list_cmp_total, tied_itself}
 use Rattle.std.proofs.lemmas.Map.Lookups.{exact_bytes}
-use Rattle.matroid_theory.specs.declared.Mode.TheVariants.{Linear}
+use Rattle.matroid_theory.specs.declared.Mode.{Mode}
 use Rattle.matroid_theory.specs.Rep.{Rep}
 use Rattle.matroid_theory.specs.Move.{AreEquivalent}
 use Rattle.matroid_theory.specs.Order.{IsForm}
@@ -27,12 +27,12 @@ abbrev pub IsTriedUpTo : List Matroid → ColumnsAfter → List ℕ → Type 0
 IsTriedUpTo Ns columns w = IsUpTo columns w × Avoids Ns (followed_by columns.parent w)
 
 -- the columns up to the last one were tried, and the forms added
-pub record HasTried (Ns : List Matroid) (start : List (List (List ℕ))) (columns : ColumnsAfter) (tried : ℕ) (found : List (List (List ℕ))) : Type 0 where
+pub record HasTried (mode : Mode) (Ns : List Matroid) (start : List (List (List ℕ))) (columns : ColumnsAfter) (tried : ℕ) (found : List (List (List ℕ))) : Type 0 where
   pub count : IsCount (IsTriedUpTo Ns columns) tried
   pub bound : tried + (above_values - value columns.last) ≤ above_values
   pub kept : (cs : List (List ℕ)) → Contains start cs → Contains found cs
-  pub sound : (cs : List (List ℕ)) → Contains found cs → Contains start cs ⊎ ((v : List ℕ) × IsCandidate Ns columns.parent v × IsChild columns.parent v cs)
-  pub complete : (v : List ℕ) → IsTriedUpTo Ns columns v → (cs : List (List ℕ)) × Contains found cs × IsChild columns.parent v cs
+  pub sound : (cs : List (List ℕ)) → Contains found cs → Contains start cs ⊎ ((v : List ℕ) × IsCandidate Ns columns.parent v × IsChild mode columns.parent v cs)
+  pub complete : (v : List ℕ) → IsTriedUpTo Ns columns v → (cs : List (List ℕ)) × Contains found cs × IsChild mode columns.parent v cs
 
 -- the other way round
 turned : (v w : List ℕ) (r : Ordering) → slice_cmp nat_cmp v w ≡ r → slice_cmp nat_cmp w v ≡ ordering_reverse r
@@ -49,9 +49,9 @@ above_empty [] h = absurd (h refl)
 above_empty (x ∷ xs) h = refl
 
 -- at the start none is up to the last one
-pub tried_none : (Ns : List Matroid) (start : List (List (List ℕ))) (P : Rep) → 0 < length P.factors → (columns : ColumnsAfter) → columns ≡ record { parent = P; last = [] } → HasTried Ns start columns 0 start
-tried_none Ns start P some columns is =
-    subst (λ columns. HasTried Ns start columns 0 start) (sym is) record {
+pub tried_none : (mode : Mode) (Ns : List Matroid) (start : List (List (List ℕ))) (P : Rep) → 0 < length P.factors → (columns : ColumnsAfter) → columns ≡ record { parent = P; last = [] } → HasTried mode Ns start columns 0 start
+tried_none mode Ns start P some columns is =
+    subst (λ columns. HasTried mode Ns start columns 0 start) (sym is) record {
       count = count_none (IsTriedUpTo Ns begin) (λ v u. none v u.0);
       bound = omega arith;
       kept = λ cs c. c;
@@ -98,15 +98,15 @@ module _ (columns : ColumnsAfter) (v : List ℕ) (next : IsNextColumn columns v)
   not_yet : (w : List ℕ) → IsUpTo columns w → w ≡ v → ⊥
   not_yet w u e = u.1 (ap (λ x. slice_cmp nat_cmp x columns.last) e ∙ turned columns.last v Less next.after)
 
-  module _ (Ns : List Matroid) (start found : List (List (List ℕ))) (tried : ℕ) (following : ColumnsAfter) (is : following ≡ record { parent = columns.parent; last = v }) (falls : above_values - value following.last < above_values - value columns.last) (h : HasTried Ns start columns tried found) where
+  module _ (mode : Mode) (Ns : List Matroid) (start found : List (List (List ℕ))) (tried : ℕ) (following : ColumnsAfter) (is : following ≡ record { parent = columns.parent; last = v }) (falls : above_values - value following.last < above_values - value columns.last) (h : HasTried mode Ns start columns tried found) where
     fewer : above_values - value v < above_values - value columns.last
     fewer = subst (λ (c : ColumnsAfter). above_values - value c.last < above_values - value columns.last) is falls
 
     -- the next one was tried too
-    pub tried_more : Avoids Ns (followed_by columns.parent v) → (new : List (List (List ℕ))) (cs : List (List ℕ)) → IsChild columns.parent v cs → Adds found new cs → HasTried Ns start following (tried + 1) new
+    pub tried_more : Avoids Ns (followed_by columns.parent v) → (new : List (List (List ℕ))) (cs : List (List ℕ)) → IsChild mode columns.parent v cs → Adds found new cs → HasTried mode Ns start following (tried + 1) new
     unfolding after
     tried_more avoids new cs child adds =
-        subst (λ columns. HasTried Ns start columns (tried + 1) new) (sym is) record {
+        subst (λ columns. HasTried mode Ns start columns (tried + 1) new) (sym is) record {
           count = count_both (IsTriedUpTo Ns columns) (λ w. w ≡ v) (IsTriedUpTo Ns after) tried 1 h.count (count_one v) (λ w u. not_yet w u.0) one_more_tried;
           bound = (let b : tried + (above_values - value columns.last) ≤ above_values = h.bound in let f = fewer in omega arith);
           kept = λ other c. let a = adds other in a.1 (inl (h.kept other c));
@@ -114,12 +114,12 @@ module _ (columns : ColumnsAfter) (v : List ℕ) (next : IsNextColumn columns v)
               let a = adds other in
               elim (a.0 c) [
                 | inl d ↦ h.sound other d
-                | inr e ↦ inr (v, record { admissible = next.admissible; avoids = avoids }, subst (IsChild columns.parent v) (sym e) child)
+                | inr e ↦ inr (v, record { admissible = next.admissible; avoids = avoids }, subst (IsChild mode columns.parent v) (sym e) child)
               ];
           complete = λ w u.
               elim ((one_more_tried w).0 u) [
                 | inl b ↦ (let d = h.complete w b in let a = adds d.0 in (d.0, a.1 (inl d.1), d.2))
-                | inr e ↦ (let a = adds cs in (cs, a.1 (inr refl), subst (λ w. IsChild columns.parent w cs) (sym e) child))
+                | inr e ↦ (let a = adds cs in (cs, a.1 (inr refl), subst (λ w. IsChild mode columns.parent w cs) (sym e) child))
               ];
         }
       where
@@ -130,10 +130,10 @@ module _ (columns : ColumnsAfter) (v : List ℕ) (next : IsNextColumn columns v)
         )
 
     -- the next one makes one of the matroids a minor
-    pub tried_same : ¬ (Avoids Ns (followed_by columns.parent v)) → HasTried Ns start following tried found
+    pub tried_same : ¬ (Avoids Ns (followed_by columns.parent v)) → HasTried mode Ns start following tried found
     unfolding after
     tried_same has =
-        subst (λ columns. HasTried Ns start columns tried found) (sym is) record {
+        subst (λ columns. HasTried mode Ns start columns tried found) (sym is) record {
           count = count_same (IsTriedUpTo Ns columns) (IsTriedUpTo Ns after) tried (λ w. (λ u. ((one_more w).1 (inl u.0), u.1), up_to_last w)) h.count;
           bound = (let b : tried + (above_values - value columns.last) ≤ above_values = h.bound in let f = fewer in omega arith);
           kept = h.kept;
@@ -149,19 +149,19 @@ module _ (columns : ColumnsAfter) (v : List ℕ) (next : IsNextColumn columns v)
             ]
 
 -- where no column comes after the last one, all were tried
-module _ (Ns : List Matroid) (start found : List (List (List ℕ))) (columns : ColumnsAfter) (tried : ℕ) (h : HasTried Ns start columns tried found) (last : IsLastColumn columns) where
+module _ (mode : Mode) (Ns : List Matroid) (start found : List (List (List ℕ))) (columns : ColumnsAfter) (tried : ℕ) (h : HasTried mode Ns start columns tried found) (last : IsLastColumn columns) where
   all_up_to : (w : List ℕ) → IsCandidate Ns columns.parent w → IsTriedUpTo Ns columns w
   all_up_to w a = ((a.admissible, λ g. last w a.admissible (turned w columns.last Greater g)), a.avoids)
 
   pub tried_count : IsCount (IsCandidate Ns columns.parent) tried
   tried_count = count_same (IsTriedUpTo Ns columns) (IsCandidate Ns columns.parent) tried (λ w. (λ u. record { admissible = u.0.0; avoids = u.1 }, all_up_to w)) h.count
 
-  pub tried_all : AddsChildren Ns columns.parent start found
+  pub tried_all : AddsChildren mode Ns columns.parent start found
   tried_all = record { kept = h.kept; sound = h.sound; complete = λ v a. h.complete v (all_up_to v a) }
 
 -- the form of P followed by v, by its columns
-pub is_child : (P N : Rep) (v : List ℕ) → IsForm Linear N → AreEquivalent Linear (followed_by P v) N → IsChild P v N.columns
-is_child P N v form e = record { form = subst (IsForm Linear) same form; equivalent = subst (AreEquivalent Linear (followed_by P v)) same e }
+pub is_child : (mode : Mode) (P N : Rep) (v : List ℕ) → IsForm mode N → AreEquivalent mode (followed_by P v) N → IsChild mode P v N.columns
+is_child mode P N v form e = record { form = subst (IsForm mode) same form; equivalent = subst (AreEquivalent mode (followed_by P v)) same e }
   where
     same : N ≡ rep_of P.factors P.rank N.columns
     same = let s = e.takes.same_shape in λ i. record { factors = ap (λ s. s.factors) s i; rank = ap (λ s. s.rank) s i; columns = N.columns }

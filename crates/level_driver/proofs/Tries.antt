@@ -4,6 +4,7 @@ use Rattle.std.specs.List.{Contains, AllPairs}
 use Rattle.std.specs.declared.cmp.Ordering.TheVariants.{Less}
 use Rattle.std.proofs.lemmas.List.{take_more, take_all, get_or-take, length-take-le}
 use Rattle.std.proofs.lemmas.List.Elements.{Contains-append_left, Contains-push, Contains-push_cases}
+use Rattle.matroid_theory.specs.declared.Mode.{Mode}
 use Rattle.matroid_theory.specs.Rep.{Rep}
 use Rattle.matroid_theory.specs.Order.{rep_cmp}
 use Rattle.matroid_theory.specs.Level.{IsCount}
@@ -17,19 +18,19 @@ abbrev pub IsExtension : List Matroid → List Rep → Rep × List ℕ → Type 
 IsExtension Ns parents try = Contains parents try.0 × IsCandidate Ns try.0 try.1
 
 -- these parents were extended by all columns, and the forms added
-pub record HasGrown (Ns : List Matroid) (parents : List Rep) (tried : ℕ) (found : List (List (List ℕ))) : Type 0 where
+pub record HasGrown (mode : Mode) (Ns : List Matroid) (parents : List Rep) (tried : ℕ) (found : List (List (List ℕ))) : Type 0 where
   pub count : IsCount (IsExtension Ns parents) tried
-  pub sound : (cs : List (List ℕ)) → Contains found cs → (try : Rep × List ℕ) × IsExtension Ns parents try × IsChild try.0 try.1 cs
-  pub complete : (try : Rep × List ℕ) → IsExtension Ns parents try → (cs : List (List ℕ)) × Contains found cs × IsChild try.0 try.1 cs
+  pub sound : (cs : List (List ℕ)) → Contains found cs → (try : Rep × List ℕ) × IsExtension Ns parents try × IsChild mode try.0 try.1 cs
+  pub complete : (try : Rep × List ℕ) → IsExtension Ns parents try → (cs : List (List ℕ)) × Contains found cs × IsChild mode try.0 try.1 cs
 
-pub grown_none : (Ns : List Matroid) (found : List (List (List ℕ))) → found ≡ [] → HasGrown Ns [] 0 found
-grown_none Ns found empty = subst (HasGrown Ns [] 0) (sym empty) record {
+pub grown_none : (mode : Mode) (Ns : List Matroid) (found : List (List (List ℕ))) → found ≡ [] → HasGrown mode Ns [] 0 found
+grown_none mode Ns found empty = subst (HasGrown mode Ns [] 0) (sym empty) record {
   count = count_none (IsExtension Ns []) (λ try e. let l = e.0.1 in absurd (omega arith));
   sound = λ cs c. let l = c.1 in absurd (omega arith);
   complete = λ try e. let l = e.0.1 in absurd (omega arith);
 }
 
-module _ (Ns : List Matroid) (parents : List Rep) (P : Rep) (new_one : ¬ (Contains parents P)) where
+module _ (mode : Mode) (Ns : List Matroid) (parents : List Rep) (P : Rep) (new_one : ¬ (Contains parents P)) where
   more : List Rep
   more = parents ++ P ∷ []
 
@@ -54,7 +55,7 @@ module _ (Ns : List Matroid) (parents : List Rep) (P : Rep) (new_one : ¬ (Conta
           ]
 
   -- one parent more
-  pub grown_more : (tried k : ℕ) (found new : List (List (List ℕ))) → HasGrown Ns parents tried found → IsCount (IsCandidate Ns P) k → AddsChildren Ns P found new → HasGrown Ns (parents ++ P ∷ []) (tried + k) new
+  pub grown_more : (tried k : ℕ) (found new : List (List (List ℕ))) → HasGrown mode Ns parents tried found → IsCount (IsCandidate Ns P) k → AddsChildren mode Ns P found new → HasGrown mode Ns (parents ++ P ∷ []) (tried + k) new
   grown_more tried k found new h count adds = record {
     count = count_both (IsExtension Ns parents) (λ try. (v : List ℕ) × IsCandidate Ns P v × ((P, v) ≡ try)) (IsExtension Ns (parents ++ P ∷ [])) tried k h.count
         (count_images (λ (v : List ℕ). (P, v)) (IsCandidate Ns P) k (λ v w e. ap (λ t. t.1) e) count)
@@ -67,7 +68,7 @@ module _ (Ns : List Matroid) (parents : List Rep) (P : Rep) (new_one : ¬ (Conta
     complete = λ try e.
         elim ((two_kinds try).0 e) [
           | inl d ↦ (let s = h.complete try d in (s.0, adds.kept s.0 s.1, s.2))
-          | inr (v, a, same) ↦ (let s = adds.complete v a in (s.0, s.1, subst (λ (t : Rep × List ℕ). IsChild t.0 t.1 s.0) same s.2))
+          | inr (v, a, same) ↦ (let s = adds.complete v a in (s.0, s.1, subst (λ (t : Rep × List ℕ). IsChild mode t.0 t.1 s.0) same s.2))
         ];
   }
 
@@ -81,12 +82,12 @@ not_before parents rising i P l is (k, m, e) =
     rep_cmp-irreflexive P (subst (λ N. rep_cmp P N ≡ Less) (sym is) (subst (λ M. rep_cmp M (get_or parents i P) ≡ Less) same less))
 
 -- the next parent
-pub grown_step : (Ns : List Matroid) (parents : List Rep) → AllPairs (λ M N. rep_cmp M N ≡ Less) parents → (i : ℕ) (P : Rep) → i < length parents → P ≡ get_or parents i P → (tried k : ℕ) (found new : List (List (List ℕ)))
-    → HasGrown Ns (take i parents) tried found → IsCount (IsCandidate Ns P) k → AddsChildren Ns P found new → HasGrown Ns (take (i + 1) parents) (tried + k) new
-grown_step Ns parents rising i P l is tried k found new h count adds =
-    subst (λ (done : List Rep). HasGrown Ns done (tried + k) new) (ap (λ (M : Rep). take i parents ++ M ∷ []) is ∙ sym (take_more parents i P l))
-    (grown_more Ns (take i parents) P (not_before parents rising i P l is) tried k found new h count adds)
+pub grown_step : (mode : Mode) (Ns : List Matroid) (parents : List Rep) → AllPairs (λ M N. rep_cmp M N ≡ Less) parents → (i : ℕ) (P : Rep) → i < length parents → P ≡ get_or parents i P → (tried k : ℕ) (found new : List (List (List ℕ)))
+    → HasGrown mode Ns (take i parents) tried found → IsCount (IsCandidate Ns P) k → AddsChildren mode Ns P found new → HasGrown mode Ns (take (i + 1) parents) (tried + k) new
+grown_step mode Ns parents rising i P l is tried k found new h count adds =
+    subst (λ (done : List Rep). HasGrown mode Ns done (tried + k) new) (ap (λ (M : Rep). take i parents ++ M ∷ []) is ∙ sym (take_more parents i P l))
+    (grown_more mode Ns (take i parents) P (not_before parents rising i P l is) tried k found new h count adds)
 
 -- all parents
-pub grown_all : (Ns : List Matroid) (parents : List Rep) (i tried : ℕ) (found : List (List (List ℕ))) → length parents ≤ i → HasGrown Ns (take i parents) tried found → HasGrown Ns parents tried found
-grown_all Ns parents i tried found l h = subst (λ (done : List Rep). HasGrown Ns done tried found) (take_all i parents l) h
+pub grown_all : (mode : Mode) (Ns : List Matroid) (parents : List Rep) (i tried : ℕ) (found : List (List (List ℕ))) → length parents ≤ i → HasGrown mode Ns (take i parents) tried found → HasGrown mode Ns parents tried found
+grown_all mode Ns parents i tried found l h = subst (λ (done : List Rep). HasGrown mode Ns done tried found) (take_all i parents l) h

@@ -1,6 +1,5 @@
 // The level after a level.
 ghost use Rattle.std.specs.Prelude.{ℕ, ◌≡◌, ◌+◌, ◌<◌, IsSome, IsNone, IfSome, IfOk, OnOk};
-ghost use Rattle.matroid_theory.specs.declared.Mode.TheVariants.{Linear as linear};
 ghost use Rattle.matroid_theory.specs.Rep.{size, IsProductColumn, IsStandard};
 ghost use Rattle.matroid_theory.specs.Matroid.{Agrees};
 ghost use Rattle.matroid_theory.specs.Move.{AreEquivalent};
@@ -14,7 +13,8 @@ use crate::forbidden::avoids;
 use crate::found::Found;
 use crate::{FormList, Level};
 use extension::Columns;
-use fast_form::least_of_standard;
+use fast_form::least_form_fast;
+use matroid_theory::Mode;
 use named_matroids::MinorItem;
 use product_rep::{ProductColumn, Rep};
 use request_reader::Request;
@@ -34,27 +34,28 @@ pub fn grow_alone(alloc: Global, request: &Request, parents: &FormList) -> Resul
 {
     request.laws();
     let rank = request.rank();
+    let mode = request.mode();
     let forbidden = request.forbid();
     let mut found = Found::new(alloc);
     let mut tried = 0;
     for parent in parents.as_slice() {
-        tried += u128::from(add_children(parent, forbidden, &mut found)?);
+        tried += u128::from(add_children(parent, mode, forbidden, &mut found)?);
     }
     let forms = found.to_list(alloc, &request.factors(), rank)?;
     Ok(Level { forms, tried })
 }
 
-/// Adds the form of each representation that the parent and one more column make and that has no forbidden minor. The result
+/// Adds the form of the mode of each representation that the parent and one more column make and that has no forbidden minor. The result
 /// is the number of the columns.
-fn add_children(parent: &Rep, forbidden: &[MinorItem], found: &mut Found) -> Result<u64, AllocError>
+fn add_children(parent: &Rep, mode: Mode, forbidden: &[MinorItem], found: &mut Found) -> Result<u64, AllocError>
     requires { IsParent parent.now }
     ensures count { IfOk result (λ tried. IsCount (IsCandidate (matroids_of forbidden.now) parent.now) tried) }
-    ensures forms { OnOk result (AddsChildren (matroids_of forbidden.now) parent.now found.old found.new) }
+    ensures forms { OnOk result (AddsChildren mode (matroids_of forbidden.now) parent.now found.old found.new) }
 {
     parent.laws();
     let mut tried = 0;
     for column in Columns::of(parent) {
-        if let Some(child) = child(parent, forbidden, &column) {
+        if let Some(child) = child(parent, mode, forbidden, &column) {
             found.insert(&child)?;
             tried += 1;
         }
@@ -62,21 +63,22 @@ fn add_children(parent: &Rep, forbidden: &[MinorItem], found: &mut Found) -> Res
     Ok(tried)
 }
 
-/// The form of the parent followed by the column, where that has no forbidden minor.
-fn child(parent: &Rep, forbidden: &[MinorItem], column: &ProductColumn) -> Option<Rep>
+/// The form of the mode of the class of the parent followed by the column, where that has no forbidden minor, and else none.
+/// All growth reduces by this function.
+pub fn child(parent: &Rep, mode: Mode, forbidden: &[MinorItem], column: &ProductColumn) -> Option<Rep>
     requires room { size parent.now < 16 }
     requires column { IsProductColumn parent.now.factors parent.now.rank column.now.items }
     requires standard { IsStandard parent.now }
     requires agrees { Agrees (followed_by parent.now column.now.items) }
     ensures none { IsNone result → ¬ (Avoids (matroids_of forbidden.now) (followed_by parent.now column.now.items)) }
     ensures avoids { IsSome result → Avoids (matroids_of forbidden.now) (followed_by parent.now column.now.items) }
-    ensures form { IfSome result (λ child. IsForm linear child) }
-    ensures equivalent { IfSome result (λ child. AreEquivalent linear (followed_by parent.now column.now.items) child) }
+    ensures form { IfSome result (λ child. IsForm mode child) }
+    ensures equivalent { IfSome result (λ child. AreEquivalent mode (followed_by parent.now column.now.items) child) }
 {
     let mut candidate = parent.copy();
     candidate.push_column(column);
     if !avoids(&candidate, forbidden) {
         return None;
     }
-    Some(least_of_standard(&candidate))
+    Some(least_form_fast(&candidate, mode))
 }

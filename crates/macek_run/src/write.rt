@@ -1,5 +1,5 @@
 // Pieces, one after another, and a level with what stands before it.
-ghost use Rattle.std.specs.Prelude.{◌++◌, ◌≡◌, map, length, OnOk, OnErr, IsErrOf};
+ghost use Rattle.std.specs.Prelude.{◌++◌, ◌≡◌, [], map, length, OnOk, OnErr, IsErrOf};
 ghost use Rattle.std.specs.List.{concat};
 ghost use Rattle.std.specs.Io.KnownBytes.{Appends};
 ghost use Rattle.outside.specs.Causes.{HasCause, Rose};
@@ -9,6 +9,7 @@ ghost use Rattle.formats.specs.Listing.{form_text as text_of_form};
 ghost use Rattle.level_driver.specs.Grown.{IsLevelOf, AreTriesOf};
 ghost use Rattle.macek_run.specs.Steps.{TellsLevel};
 
+use formats::PrintMode;
 use level_driver::{Level, listed};
 use lister::{form_text, level_text};
 use outside::{Failed, Sink, put};
@@ -75,6 +76,17 @@ fn write_pieces<K: Sink>(
     write_forms(sink, forms)
 }
 
+/// The forms that are printed of those that are listed.
+fn printed_of<'a>(print: PrintMode, shown: &'a [&'a Rep]) -> &'a [&'a Rep]
+    ensures forms { print ≡ PrintMode.Forms → result.now ≡ shown.now }
+    ensures counts { print ≡ PrintMode.Counts → result.now ≡ [] }
+{
+    match print {
+        PrintMode::Forms => shown,
+        PrintMode::Counts => &[],
+    }
+}
+
 /// Writes the level of a size: first what stands before it, then its line, and the lines of its forms that are listed.
 /// Which these are is decided before, so that want of memory leaves the sink as it was.
 pub fn write_level<K: Sink>(
@@ -95,9 +107,6 @@ pub fn write_level<K: Sink>(
     ensures kept { OnOk result (K.faults sink.new ≡ K.faults sink.old) }
 {
     request.laws();
-    // The proof learns here which matroids are forbidden, and which one is wanted.
-    request.forbid();
-    request.filters();
     let Ok(shown) = listed(alloc, request, &level.forms) else {
         return Err(Stop::NoMemory);
     };
@@ -107,7 +116,8 @@ pub fn write_level<K: Sink>(
         shown.len() as u64,
         level.tried,
     );
-    match write_pieces(sink, front, line.as_slice(), &shown) {
+    let printed = printed_of(request.print(), &shown);
+    match write_pieces(sink, front, line.as_slice(), printed) {
         Ok(()) => Ok(()),
         Err(Failed) => Err(Stop::Failed),
     }

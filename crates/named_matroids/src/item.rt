@@ -107,8 +107,8 @@ pub fn matrix_item(order: u8, columns: &[Column]) -> MinorItem
     item_of(Spelling::Matrix(MatrixText::of(order, columns)))
 }
 
-/// The name with its matroid.
-fn item_of(spelling: Spelling) -> MinorItem
+/// The matroid of a name or a matrix, of at most 10 elements.
+pub fn item_of(spelling: Spelling) -> MinorItem
     requires { IsSmallName (named_by spelling) }
     ensures spelling { result.spelling ≡ spelling }
     ensures given { IsGivenBy (given_as (named_by spelling)) result.matroid }

@@ -12,7 +12,7 @@ mod spelling;
 mod tables;
 mod uniform;
 
-pub use item::{MinorItem, matrix_item, named};
+pub use item::{MinorItem, item_of, matrix_item, named};
 pub use matrix_text::MatrixText;
 pub use minor::Minor;
 pub use number::number_of;

@@ -13,7 +13,6 @@ use Rattle.request_reader.specs.declared.values.Wrong.TheVariants as wrong
 use Rattle.request_reader.specs.Said.{IsWrong, refusal_at}
 use Rattle.request_reader.specs.Values.{Holds}
 
-
 -- so many lines were read, they say entries with these values, and the rest is left
 pub record HasRead (version : ℕ) (text : List ℕ) (values : Values) (number : ℕ) (rest : List ℕ) : Type 0 where
   pub short : length text ≤ 65536

@@ -6,3 +6,4 @@ pub mod Said
 pub mod Spellings
 pub mod Values
 pub mod Matrices
+pub mod Samples

@@ -1,7 +1,9 @@
 -- What the fields of a request stand for, and what they keep.
-use Rattle.std.specs.Prelude.{ℕ, ◌≤◌, List, map, option_to_list}
+use Rattle.std.specs.Prelude.{ℕ, ◌≤◌, List, map, option_to_list, None, false}
 use Rattle.std.specs.List.{AllByRecursion}
+use Rattle.matroid_theory.specs.declared.Mode.TheVariants.{Linear}
 use Rattle.matroid_theory.specs.Field.{IsFactors}
+use Rattle.formats.specs.declared.refusal.PrintMode.TheVariants.{Counts}
 use Rattle.named_matroids.specs.Names.{NamedMatroid, named_by, IsSmallName}
 use Rattle.formats.specs.Statement.{MinorName, most_order, order_of_minor}
 use Rattle.formats.specs.Minors.{given_as}
@@ -35,6 +37,23 @@ asked_request a = record {
   print = a.print;
   mode = a.mode;
   version = version_number a.version;
+}
+
+-- the request for counts in version 1, without filters
+abbrev pub counting_request : List ℕ → ℕ → ℕ → List MinorName → Request
+counting_request factors rank size forbid = record {
+  factors = factors;
+  rank = rank;
+  size = size;
+  forbid = forbid;
+  connected = false;
+  three_connected = false;
+  cosimple = false;
+  distinct = false;
+  has = None;
+  print = Counts;
+  mode = Linear;
+  version = 1;
 }
 
 -- the request that the fields stand for

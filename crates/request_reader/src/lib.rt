@@ -10,10 +10,12 @@ mod line;
 mod matrix_line;
 mod read;
 mod request;
+mod sample;
 mod values;
 mod version;
 
 pub use filters::Filters;
 pub use read::read_request;
 pub use request::Request;
+pub use sample::sample_request;
 pub use version::Version;

@@ -1,10 +1,11 @@
-ghost use Rattle.std.specs.Prelude.{◌≡◌, ◌≤◌, length, map, option_to_list, IfOk, IfErr};
+ghost use Rattle.std.specs.Prelude.{◌≡◌, ◌≤◌, List, Option, length, map, option_to_list, IfOk, IfErr};
+ghost use Rattle.matroid_theory.specs.Minor.{Matroid};
 ghost use Rattle.matroid_theory.specs.Field.{IsFactors};
 ghost use Rattle.formats.specs.Levels.{AreGivenBy};
 ghost use Rattle.formats.specs.Minors.{given_as};
 ghost use Rattle.formats.specs.Request.{IsWithinLimits};
 ghost use Rattle.request_reader.specs.Filters.{wanted_of, wanted_matroid, IsWantedGiven};
-ghost use Rattle.request_reader.specs.Requested.{asked_request, minors_of, AreGiven, AreNames, IsRequestOfVersion};
+ghost use Rattle.request_reader.specs.Requested.{asked_request, counting_request, minors_of, AreGiven, AreNames, IsRequestOfVersion};
 ghost use Rattle.request_reader.specs.Limits.{IsLate};
 ghost use Rattle.request_reader.specs.Versions.{version_number};
 
@@ -62,6 +63,8 @@ impl Request {
         ensures factors { IsFactors self.now.factors }
         ensures of_version { IsRequestOfVersion self.now }
         ensures names { AreNames self.now }
+        ensures forbidden { (minors : List Matroid) × AreGivenBy (map given_as self.now.forbid) minors }
+        ensures wanted { (minor : Option Matroid) × AreGivenBy (map given_as (option_to_list self.now.has)) (option_to_list minor) }
     {
         let _filters = &self.filters;
     }
@@ -99,6 +102,32 @@ impl Request {
         ensures given { AreGivenBy (map given_as (option_to_list self.now.has)) (option_to_list (wanted_matroid result.now)) }
     {
         &self.filters
+    }
+
+    /// The request for the counts of a field's or a product's matroids without these minors, in version 1.
+    pub(crate) fn counting(
+        factors: Factors,
+        rank: u8,
+        size: u8,
+        forbid: ArrayVec<MinorItem, 8>,
+    ) -> Request
+        requires limits { IsWithinLimits (counting_request factors rank size (minors_of forbid.items)) }
+        requires of_version { IsRequestOfVersion (counting_request factors rank size (minors_of forbid.items)) }
+        requires names { AreNames (counting_request factors rank size (minors_of forbid.items)) }
+        requires given { AreGiven forbid.items }
+        ensures { result ≡ counting_request factors rank size (minors_of forbid.items) }
+    {
+        factors.laws();
+        Request {
+            version: Version::One,
+            factors,
+            rank,
+            size,
+            mode: Mode::Linear,
+            forbid,
+            filters: Filters::new(),
+            print: PrintMode::Counts,
+        }
     }
 
     /// What is printed of a level beside its numbers.

@@ -13,7 +13,7 @@ loop-column-init c =
     let start : c.into_iter-column-iterator.result ≡ record { parent = c.args.parent.now; last = [] } = c.into_iter-column-iterator.ensures.into_iter_gives ∙ c.of-column-items.ensures in
     record {
       same = ap (λ (columns : ColumnsAfter). columns.parent) start;
-      so_far = tried_none (matroids_of c.args.forbidden.now) c.args.found.now c.args.parent.now c.laws.ensures.fields.some c.into_iter-column-iterator.result start;
+      so_far = tried_none c.args.mode (matroids_of c.args.forbidden.now) c.args.found.now c.args.parent.now c.laws.ensures.fields.some c.into_iter-column-iterator.result start;
     }
 
 pub loop-column-preserved : goal.loop-column-preserved
@@ -23,7 +23,7 @@ loop-column-preserved c =
     let progress = c.in-Some.ensures.goes.on tt in
     record {
       same = ap (λ (columns : ColumnsAfter). columns.parent) steps.1 ∙ c.loop-column.invariant.same;
-      so_far = tried_same c.loop-column.column-iterator c.in-Some.column.items steps.0 Ns c.args.found.now c.loop-column.found c.loop-column.tried c.next.new.self steps.1 progress.2 c.loop-column.invariant.so_far
+      so_far = tried_same c.loop-column.column-iterator c.in-Some.column.items steps.0 c.args.mode Ns c.args.found.now c.loop-column.found c.loop-column.tried c.next.new.self steps.1 progress.2 c.loop-column.invariant.so_far
           (λ avoids. c.in_default.ensures.none refl (subst (λ (P : Rep). Avoids Ns (followed_by P c.in-Some.column.items)) c.loop-column.invariant.same avoids));
     }
 
@@ -34,11 +34,11 @@ loop-column-preserved-in-Some-child c =
     let progress = c.in-Some.ensures.goes.on tt in
     record {
       same = ap (λ (columns : ColumnsAfter). columns.parent) steps.1 ∙ c.loop-column.invariant.same;
-      so_far = tried_more c.loop-column.column-iterator c.in-Some.column.items steps.0 Ns c.args.found.now c.loop-column.found c.loop-column.tried c.next.new.self steps.1 progress.2 c.loop-column.invariant.so_far
+      so_far = tried_more c.loop-column.column-iterator c.in-Some.column.items steps.0 c.args.mode Ns c.args.found.now c.loop-column.found c.loop-column.tried c.next.new.self steps.1 progress.2 c.loop-column.invariant.so_far
           (subst (λ (P : Rep). Avoids Ns (followed_by P c.in-Some.column.items)) (sym c.loop-column.invariant.same) (c.in-Some-child.ensures.avoids refl))
           c.insert.new.self c.in-Some-child.child.columns
-          (subst (λ (P : Rep). IsChild P c.in-Some.column.items c.in-Some-child.child.columns) (sym c.loop-column.invariant.same)
-          (is_child c.args.parent.now c.in-Some-child.child c.in-Some.column.items c.in-Some-child.ensures.form c.in-Some-child.ensures.equivalent))
+          (subst (λ (P : Rep). IsChild c.args.mode P c.in-Some.column.items c.in-Some-child.child.columns) (sym c.loop-column.invariant.same)
+          (is_child c.args.mode c.args.parent.now c.in-Some-child.child c.in-Some.column.items c.in-Some-child.ensures.form c.in-Some-child.ensures.equivalent))
           c.in_ok-insert.ensures;
     }
 
@@ -46,10 +46,10 @@ pub returns-clause-count : goal.returns-clause-count
 returns-clause-count c =
     let Ns : List Matroid = matroids_of c.args.forbidden.now in
     subst (λ (P : Rep). IsCount (IsCandidate Ns P) c.loop-column.tried) c.loop-column.invariant.same
-    (tried_count Ns c.args.found.now c.loop-column.found c.loop-column.column-iterator c.loop-column.tried c.loop-column.invariant.so_far c.in-None.ensures.steps.0)
+    (tried_count c.args.mode Ns c.args.found.now c.loop-column.found c.loop-column.column-iterator c.loop-column.tried c.loop-column.invariant.so_far c.in-None.ensures.steps.0)
 
 pub returns-clause-forms : goal.returns-clause-forms
 returns-clause-forms c =
     let Ns : List Matroid = matroids_of c.args.forbidden.now in
-    subst (λ (P : Rep). AddsChildren Ns P c.args.found.now c.loop-column.found) c.loop-column.invariant.same
-    (tried_all Ns c.args.found.now c.loop-column.found c.loop-column.column-iterator c.loop-column.tried c.loop-column.invariant.so_far c.in-None.ensures.steps.0)
+    subst (λ (P : Rep). AddsChildren c.args.mode Ns P c.args.found.now c.loop-column.found) c.loop-column.invariant.same
+    (tried_all c.args.mode Ns c.args.found.now c.loop-column.found c.loop-column.column-iterator c.loop-column.tried c.loop-column.invariant.so_far c.in-None.ensures.steps.0)

@@ -5,4 +5,4 @@ use Rattle.level_driver.proofs.growth.add_children.Given as goal
 
 -- the columns up to the last one were tried
 abbrev pub invariant-loop-column : goal.invariant-loop-column
-invariant-loop-column l = record { same : l.column-iterator.parent ≡ l.parent; so_far : HasTried (matroids_of l.forbidden) l.fn.found l.column-iterator l.tried l.found }
+invariant-loop-column l = record { same : l.column-iterator.parent ≡ l.parent; so_far : HasTried l.mode (matroids_of l.forbidden) l.fn.found l.column-iterator l.tried l.found }

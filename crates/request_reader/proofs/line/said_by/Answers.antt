@@ -15,8 +15,7 @@ returns-in_err-keyword_of c = rw c.from_residual-in_err-keyword_of.ensures (λ e
 pub returns-in_ok-minor_of-in-Forbid : goal.returns-in_ok-minor_of-in-Forbid
 returns-in_ok-minor_of-in-Forbid c =
     let named = c.in_ok-minor_of-in-Forbid.ensures in
-    let word : c.in_ok-word.word.now ≡ codes "forbid" = c.in_ok-keyword_of.ensures ∙ ap keyword_word c.in-Forbid.is in
-    (
+    let word : c.in_ok-word.word.now ≡ codes "forbid" = c.in_ok-keyword_of.ensures ∙ ap keyword_word c.in-Forbid.is in (
       Forbids named.0,
       record { may = named.1; of_version = named.2; spelled = c.in_ok-word.ensures.words ∙ (λ i. word i ∷ named.3 i) },
       (named.0, refl, named.4),

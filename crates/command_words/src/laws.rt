@@ -1,0 +1,18 @@
+//! Laws of accepted words. Each function has an empty body, and its clause is the law.
+ghost use Rattle.std.specs.Prelude.{◌≡◌, ◌↔◌, ℕ, List, [], filter_map};
+ghost use Rattle.formats.specs.Words.{Piece, IsCommand, StandsAtMacek, StandsAtAlone};
+ghost use Rattle.command_words.specs.Asking.{workers_in};
+
+/// Accepted words are read in one way.
+pub fn one_reading()
+    ensures at_macek { (words : List (List ℕ)) (pieces others : List Piece) →
+        IsCommand StandsAtMacek words pieces → IsCommand StandsAtMacek words others → pieces ≡ others }
+    ensures at_alone { (words : List (List ℕ)) (pieces others : List Piece) →
+        IsCommand StandsAtAlone words pieces → IsCommand StandsAtAlone words others → pieces ≡ others }
+{}
+
+/// `macek_alone` accepts the words of `macek` that name no workers, and reads them in the same way.
+pub fn alone_names_no_workers()
+    ensures { (words : List (List ℕ)) (pieces : List Piece) → IsCommand StandsAtAlone words pieces
+        ↔ (IsCommand StandsAtMacek words pieces × (filter_map workers_in pieces ≡ [])) }
+{}
