@@ -10,19 +10,19 @@ use Rattle.formats.specs.Listing.{factor_text}
 use Rattle.formats.specs.Lines.{joined}
 use Rattle.formats.proofs.Unique.{order_small}
 
--- codes that a digit spells
-abbrev pub HasDigits : List ℕ → Type 0
-HasDigits codes = AllByRecursion (λ code. code < 10) codes
+-- codes that a letter spells
+abbrev pub HaveLetters : List ℕ → Type 0
+HaveLetters codes = AllByRecursion (λ code. code < 13) codes
 
-each_digit : (g : ℕ → ℕ) (a n : ℕ) → ((i : ℕ) → i < a + n → g i < 10) → HasDigits (map g (range_with_len a n))
-each_digit g a zero h = tt
-each_digit g a (suc n) h = (h a (omega arith), each_digit g (a + 1) n (λ i l. h i (omega arith)))
+each_letter : (g : ℕ → ℕ) (a n : ℕ) → ((i : ℕ) → i < a + n → g i < 13) → HaveLetters (map g (range_with_len a n))
+each_letter g a zero h = tt
+each_letter g a (suc n) h = (h a (omega arith), each_letter g (a + 1) n (λ i l. h i (omega arith)))
 
--- the codes of a representation are spelled by digits
-pub column_digits : (M : Rep) → KeepsLimits M → (f j : ℕ) → f < count M → j < size M → HasDigits (column_of M f j)
-column_digits M is_rep f j l m =
-    each_digit (λ i. matrix M f i j) 0 M.rank (λ i n.
-    let small : order M f < 10 = order_small (order M f) (is_rep.shaped.orders f l) in
+-- the codes of a representation are spelled by letters
+pub column_letters : (M : Rep) → KeepsLimits M → (f j : ℕ) → f < count M → j < size M → HaveLetters (column_of M f j)
+column_letters M is_rep f j l m =
+    each_letter (λ i. matrix M f i j) 0 M.rank (λ i n.
+    let small : order M f < 14 = order_small (order M f) (is_rep.shaped.orders f l) in
     let below : matrix M f i j < order M f = is_rep.shaped.codes f i j l (omega arith) m in
     omega arith)
 

@@ -3,10 +3,12 @@ use Rattle.std.proofs.Common.{◌≡◌, ◌∙◌, ℕ, ◌+◌, ◌<◌, Bool,
 use Rattle.std.specs.Prelude.{IsTrue}
 use Rattle.std.proofs.lemmas.List.{append-nil, map-append, take_more}
 use Rattle.std.proofs.lemmas.List.Concat.{flat_map-append}
+use Rattle.matroid_theory.specs.declared.Mode.{Mode}
+use Rattle.matroid_theory.specs.declared.Mode.TheVariants.{Semilinear}
 use Rattle.named_matroids.specs.Names.{NamedMatroid, named_by}
 use Rattle.formats.specs.Lines.{line_of_words}
-use Rattle.formats.specs.Statement.{MinorName, Statement, Version, FieldIs, RankIs, SizeIs, Forbids, spelling}
-use Rattle.formats.specs.Listing.{where_set, text_of_statements}
+use Rattle.formats.specs.Statement.{MinorName, Statement, VersionIs, FieldIs, RankIs, SizeIs, EquivalenceIs, Forbids, spelling}
+use Rattle.formats.specs.Listing.{where_set, is_semilinear, text_of_statements}
 use Rattle.request_reader.specs.Requested.{minors_of}
 
 -- the line of an entry
@@ -31,8 +33,12 @@ forbid_more items i d l =
     ∙ ap (λ (t : List ℕ). text_of_statements (map Forbids (minors_of (take i items))) ++ t) (one_text (Forbids (named_by item.spelling)))
 
 -- the first entries of a head
-abbrev pub first_entries : List ℕ → ℕ → ℕ → List Statement
-first_entries factors rank size = Version ∷ FieldIs factors ∷ RankIs rank ∷ SizeIs size ∷ []
+abbrev pub first_entries : ℕ → List ℕ → ℕ → ℕ → List Statement
+first_entries version factors rank size = VersionIs version ∷ FieldIs factors ∷ RankIs rank ∷ SizeIs size ∷ []
+
+-- the entry of the equivalence, where it isn't the linear one
+abbrev pub mode_entries : Mode → List Statement
+mode_entries mode = where_set (is_semilinear mode) (EquivalenceIs Semilinear)
 
 -- a title and the text of some entries, with those of more
 pub more_text : (title before after : List ℕ) (es fs : List Statement) → before ≡ title ++ text_of_statements es → after ≡ before ++ text_of_statements fs → after ≡ title ++ text_of_statements (es ++ fs)

@@ -1,5 +1,5 @@
 ghost use Rattle.std.specs.Prelude.{◌≡◌, ◌+◌, ◌*◌, ◌≤◌, ◌<◌, ◌++◌, length, map, codes};
-ghost use Rattle.std.specs.List.{AllByRecursion, range_with_len, join_with_byte};
+ghost use Rattle.std.specs.List.{range_with_len};
 ghost use Rattle.matroid_theory.specs.Rep.{count, size, column_of};
 ghost use Rattle.formats.specs.Statement.{column_word as word_of_codes};
 ghost use Rattle.formats.specs.Levels.{columns_of, columns_of_factor};
@@ -7,21 +7,10 @@ ghost use Rattle.formats.specs.Listing.{factor_text};
 ghost use Rattle.formats.specs.Listing as listing;
 
 use crate::line::{Line, push_bytes};
+use crate::words::{column_word, push_words};
 use arrayvec::ArrayVec;
 use field_tables::Column;
 use product_rep::Rep;
-
-/// The word that spells a column: a digit for each code.
-pub fn column_word(column: &Column) -> Column
-    requires { AllByRecursion (λ code. code < 10) column.now.items }
-    ensures { result.items ≡ word_of_codes column.now.items }
-{
-    let mut word = ArrayVec::new();
-    for code in column.as_slice() {
-        word.push(b'0' + *code);
-    }
-    word
-}
 
 /// The words that spell the columns of one factor.
 fn factor_words(rep: &Rep, factor: usize) -> ArrayVec<Column, 16>
@@ -36,22 +25,6 @@ fn factor_words(rep: &Rep, factor: usize) -> ArrayVec<Column, 16>
         words.push(column_word(&rep.factor_column(factor, j)));
     }
     words
-}
-
-/// Appends words, with one space between two.
-fn push_words(line: &mut Line, words: &[Column])
-    requires { length line.old.items + 7 * length words.now ≤ 384 }
-    ensures bytes { line.new.items ≡ line.old.items ++ join_with_byte 32 (map (λ word. word.items) words.now) }
-    ensures short { length line.new.items ≤ length line.old.items + 7 * length words.now }
-{
-    let mut rest = words;
-    while let [word, next @ ..] = rest {
-        push_bytes(line, word.as_slice());
-        if !next.is_empty() {
-            line.push(b' ');
-        }
-        rest = next;
-    }
 }
 
 /// Appends the columns of one factor as words, after ` | ` where it isn't the first.

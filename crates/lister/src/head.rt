@@ -1,8 +1,9 @@
 ghost use Rattle.std.specs.Prelude.{◌≡◌, ◌+◌, ◌*◌, ◌≤◌, [], ◌∷◌, ◌++◌, false, IsTrue, length, map, option_to_list, codes};
+ghost use Rattle.matroid_theory.specs.declared.Mode.TheVariants.{Semilinear};
 ghost use Rattle.named_matroids.specs.Names.{named_by};
 ghost use Rattle.formats.specs.Lines.{line_of_words};
-ghost use Rattle.formats.specs.Statement.{Version, FieldIs, RankIs, SizeIs, Forbids, ListsWith, spelling};
-ghost use Rattle.formats.specs.Listing.{text_of_statements};
+ghost use Rattle.formats.specs.Statement.{VersionIs, FieldIs, RankIs, SizeIs, EquivalenceIs, Forbids, ListsWith, Prints, spelling};
+ghost use Rattle.formats.specs.Listing.{where_set, is_semilinear, text_of_statements};
 ghost use Rattle.formats.specs.Listing as listing;
 ghost use Rattle.request_reader.specs.Filters.{wanted_of};
 ghost use Rattle.request_reader.specs.Requested.{minors_of};
@@ -10,7 +11,9 @@ ghost use Rattle.request_reader.specs.Requested.{minors_of};
 use crate::line::{Head, push_line};
 use crate::name::name_of;
 use arrayvec::ArrayVec;
+use formats::PrintMode;
 use itoa::Buffer;
+use matroid_theory::Mode;
 use named_matroids::MinorItem;
 use product_rep::Factors;
 use request_reader::{Filters, Request};
@@ -38,6 +41,17 @@ fn push_field_line(head: &mut Head, factors: &Factors)
     }
     let s = third.format(factors.field(2).order()).as_bytes();
     push_line(head, &[field, q, b"x", r, b"x", s]);
+}
+
+/// Appends the line of the equivalence, where it isn't the linear one.
+fn push_mode_line(head: &mut Head, mode: Mode)
+    requires { length head.old.items ≤ 900 }
+    ensures bytes { head.new.items ≡ head.old.items ++ text_of_statements (where_set (is_semilinear mode) (EquivalenceIs Semilinear)) }
+    ensures short { length head.new.items ≤ length head.old.items + 23 }
+{
+    if matches!(mode, Mode::Semilinear) {
+        push_line(head, &[b"equivalence".as_slice(), b"semilinear"]);
+    }
 }
 
 /// Appends the line that forbids a minor.
@@ -86,18 +100,32 @@ fn push_has_line(head: &mut Head, filters: &Filters)
     }
 }
 
-/// The lines of a head before those that forbid minors.
-fn first_lines(factors: &Factors, rank: u8, size: u8) -> Head
-    ensures bytes { result.items ≡ codes "macek listing 1\n" ++ text_of_statements (Version ∷ FieldIs factors.now ∷ RankIs rank ∷ SizeIs size ∷ []) }
+/// Appends the line that says what is printed of a level.
+fn push_print_line(head: &mut Head, print: PrintMode)
+    requires { length head.old.items ≤ 1000 }
+    ensures { head.new.items ≡ head.old.items ++ text_of_statements (Prints print ∷ []) }
+{
+    let word = match print {
+        PrintMode::Forms => b"forms".as_slice(),
+        PrintMode::Counts => b"counts",
+    };
+    push_line(head, &[b"print".as_slice(), word]);
+}
+
+/// The lines of a head before that of the equivalence.
+fn first_lines(version: u8, factors: &Factors, rank: u8, size: u8) -> Head
+    ensures bytes { result.items ≡ codes "macek listing 1\n" ++ text_of_statements (VersionIs version ∷ FieldIs factors.now ∷ RankIs rank ∷ SizeIs size ∷ []) }
     ensures short { length result.items ≤ 100 }
 {
+    let mut version_text = Buffer::new();
     let mut rank_text = Buffer::new();
     let mut size_text = Buffer::new();
+    let version = version_text.format(version).as_bytes();
     let rank = rank_text.format(rank).as_bytes();
     let size = size_text.format(size).as_bytes();
     let mut head = ArrayVec::new();
     push_line(&mut head, &[b"macek".as_slice(), b"listing", b"1"]);
-    push_line(&mut head, &[b"version".as_slice(), b"1"]);
+    push_line(&mut head, &[b"version".as_slice(), version]);
     push_field_line(&mut head, factors);
     push_line(&mut head, &[b"rank".as_slice(), rank]);
     push_line(&mut head, &[b"size".as_slice(), size]);
@@ -108,8 +136,13 @@ fn first_lines(factors: &Factors, rank: u8, size: u8) -> Head
 pub fn head_text(request: &Request) -> Head
     ensures { result.items ≡ listing.head_text request.now }
 {
-    request.laws();
-    let mut head = first_lines(&request.factors(), request.rank(), request.size());
+    let mut head = first_lines(
+        request.version(),
+        &request.factors(),
+        request.rank(),
+        request.size(),
+    );
+    push_mode_line(&mut head, request.mode());
     push_forbid_lines(&mut head, request.forbid());
     let filters = request.filters();
     push_flag_line(&mut head, filters.connected, b"connected");
@@ -117,6 +150,6 @@ pub fn head_text(request: &Request) -> Head
     push_flag_line(&mut head, filters.cosimple, b"cosimple");
     push_flag_line(&mut head, filters.distinct, b"distinct");
     push_has_line(&mut head, filters);
-    push_line(&mut head, &[b"print".as_slice(), b"forms"]);
+    push_print_line(&mut head, request.print());
     head
 }

@@ -18,6 +18,16 @@ pub fn push_bytes(line: &mut Line, bytes: &[u8])
     prove!(done);
 }
 
+/// These bytes.
+pub fn line_from(bytes: &[u8]) -> Line
+    requires { length bytes.now ≤ 384 }
+    ensures { result.items ≡ bytes.now }
+{
+    let mut line = ArrayVec::new();
+    push_bytes(&mut line, bytes);
+    line
+}
+
 /// The line of some words, with one space between two.
 pub fn line_of(words: &[&[u8]]) -> Line
     requires { length (line_of_words (map (λ word. word.now) words.now)) ≤ 384 }

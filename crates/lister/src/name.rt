@@ -1,11 +1,11 @@
+//! Minors as lines name them.
 ghost use Rattle.std.specs.Prelude.{◌≡◌, ◌≤◌, ◌++◌, length, codes, decimal};
 ghost use Rattle.std.specs.List.{join_with_byte};
 ghost use Rattle.formats.specs.Statement.{ByMatrix, IsMatrix, minor_words};
 ghost use Rattle.named_matroids.specs.Names.{named_by, IsSmallName};
 
-use crate::form::column_word;
-use crate::line::{Line, push_bytes};
-use arrayvec::ArrayVec;
+use crate::line::{Line, line_from, push_bytes};
+use crate::words::column_word;
 use itoa::Buffer;
 use named_matroids::{MatrixText, Spelling};
 
@@ -17,23 +17,13 @@ pub fn name_of(spelling: &Spelling) -> Line
 {
     match spelling {
         Spelling::Uniform(rank, size) => uniform_name(*rank, *size),
-        Spelling::Fano => line_with(b"F7"),
-        Spelling::FanoDual => line_with(b"F7*"),
-        Spelling::NonFano => line_with(b"F7-"),
-        Spelling::KFour => line_with(b"K4"),
-        Spelling::KFive => line_with(b"K5"),
+        Spelling::Fano => line_from(b"F7"),
+        Spelling::FanoDual => line_from(b"F7*"),
+        Spelling::NonFano => line_from(b"F7-"),
+        Spelling::KFour => line_from(b"K4"),
+        Spelling::KFive => line_from(b"K5"),
         Spelling::Matrix(text) => matrix_words(text),
     }
-}
-
-/// The line that holds this word alone.
-fn line_with(word: &[u8]) -> Line
-    requires { length word.now ≤ 9 }
-    ensures { result.items ≡ word.now }
-{
-    let mut line = ArrayVec::new();
-    push_bytes(&mut line, word);
-    line
 }
 
 /// The name of a uniform matroid.
@@ -43,8 +33,7 @@ fn uniform_name(rank: u8, size: u8) -> Line
 {
     let mut rank_text = Buffer::new();
     let mut size_text = Buffer::new();
-    let mut name = ArrayVec::new();
-    push_bytes(&mut name, b"U");
+    let mut name = line_from(b"U");
     push_bytes(&mut name, rank_text.format(rank).as_bytes());
     push_bytes(&mut name, b",");
     push_bytes(&mut name, size_text.format(size).as_bytes());
@@ -53,14 +42,12 @@ fn uniform_name(rank: u8, size: u8) -> Line
 
 /// The words of a matrix, with one space between two.
 fn matrix_words(text: &MatrixText) -> Line
-    requires matrix { IsMatrix text.now.order text.now.columns }
-    requires few { length text.now.columns ≤ 10 }
+    requires { IsMatrix text.now.order text.now.columns }
     ensures words { result.items ≡ join_with_byte 32 (minor_words (ByMatrix text.now.order text.now.columns)) }
     ensures short { length result.items ≤ 80 }
 {
     let mut order = Buffer::new();
-    let mut line = ArrayVec::new();
-    push_bytes(&mut line, b"matrix ");
+    let mut line = line_from(b"matrix ");
     push_bytes(&mut line, order.format(text.order()).as_bytes());
     for column in text.columns() {
         line.push(b' ');

@@ -46,6 +46,31 @@ fn head_with_filters(rt: HostRuntime) -> Result<(), Fail> {
 }
 
 #[test]
+fn head_of_the_second_version(rt: HostRuntime) -> Result<(), Fail> {
+    let request = read_request(
+        b"version 2\nequivalence semilinear\nrank 2\nforbid matrix 11 10 01 1a\nprint counts\nfilter has matrix 13 1 c\nfield 11 x 9\nsize 4\n",
+    ).ok()
+        .ok_or("no request")?;
+    assert_eq!(rt;
+        head_text(&request).as_slice(),
+        b"macek listing 1\nversion 2\nfield 11 x 9\nrank 2\nsize 4\nequivalence semilinear\nforbid matrix 11 10 01 1a\nfilter has matrix 13 1 c\nprint counts\n".as_slice()
+    );
+    Ok(())
+}
+
+#[test]
+fn head_without_a_line_of_the_linear_equivalence(rt: HostRuntime) -> Result<(), Fail> {
+    let request = read_request(b"equivalence linear\nrank 2\nfield 3\nsize 4\nprint counts\n")
+        .ok()
+        .ok_or("no request")?;
+    assert_eq!(rt;
+        head_text(&request).as_slice(),
+        b"macek listing 1\nversion 1\nfield 3\nrank 2\nsize 4\nprint counts\n".as_slice()
+    );
+    Ok(())
+}
+
+#[test]
 fn line_of_a_level(rt: HostRuntime) {
     assert_eq!(rt;
         level_text(16, 60, 9, 12_345).as_slice(),
@@ -62,6 +87,16 @@ fn line_of_a_form_over_a_product(rt: HostRuntime) -> Result<(), Fail> {
         form_text(&rep).as_slice(),
         b"10 01 11 | 10 01 12\n".as_slice()
     );
+    Ok(())
+}
+
+#[test]
+fn line_of_a_form_with_letters(rt: HostRuntime) -> Result<(), Fail> {
+    let mut rep = Rep::unit(Factors::of(&[13]).ok_or("no factors")?, 2);
+    rep.push_column(&column(&[1, 9])?);
+    rep.push_column(&column(&[1, 10])?);
+    rep.push_column(&column(&[1, 12])?);
+    assert_eq!(rt; form_text(&rep).as_slice(), b"10 01 19 1a 1c\n".as_slice());
     Ok(())
 }
 

@@ -3,13 +3,13 @@ use Rattle.std.proofs.lemmas.List.{map_push, length-map}
 use Rattle.std.proofs.lemmas.List.FromFn.{length-map-range_with_len, map-range_with_len_more}
 use Rattle.matroid_theory.specs.Rep.{column_of}
 use Rattle.formats.specs.Statement.{column_word}
-use Rattle.lister.proofs.Forms.{HasDigits, column_digits}
+use Rattle.lister.proofs.Forms.{HaveLetters, column_letters}
 use Rattle.lister.proofs.form.factor_words.Goals as goal
 
 pub column_word-requires : goal.column_word-requires
 column_word-requires c =
-    subst HasDigits (sym c.factor_column.ensures)
-    (column_digits c.args.rep.now c.size-size.ensures.is_rep c.args.factor c.loop-j.j c.requires (subst (λ n. c.loop-j.j < n) c.size-size.ensures.value c.loop-j-test.true))
+    subst HaveLetters (sym c.factor_column.ensures)
+    (column_letters c.args.rep.now c.size-size.ensures.is_rep c.args.factor c.loop-j.j c.requires (subst (λ n. c.loop-j.j < n) c.size-size.ensures.value c.loop-j-test.true))
 
 pub push-requires : goal.push-requires
 push-requires c =

@@ -1,4 +1,4 @@
-use Rattle.std.proofs.Common.{◌≡◌, ◌∙◌, ℕ, List, [], ◌∷◌, ◌++◌, ap, sym, codes}
+use Rattle.std.proofs.Common.{◌≡◌, ◌∙◌, ℕ, List, [], ◌∷◌, ◌++◌, ap, codes}
 use Rattle.std.specs.List.{join_with_byte}
 use Rattle.named_matroids.specs.Names.{named_by}
 use Rattle.formats.specs.Lines.{line_of_words}

@@ -3,7 +3,7 @@ use Rattle.std.proofs.lemmas.List.{take_all}
 use Rattle.named_matroids.specs.Names.{NamedMatroid, named_by}
 use Rattle.formats.specs.Statement.{Forbids}
 use Rattle.formats.specs.Listing.{text_of_statements}
-use Rattle.request_reader.specs.Plain.{minors_of}
+use Rattle.request_reader.specs.Requested.{minors_of}
 use Rattle.lister.proofs.Heads.{entry_text, forbid_more}
 use Rattle.lister.proofs.head.push_forbid_lines.Goals as goal
 

@@ -1,7 +1,7 @@
 use Rattle.std.proofs.Common.{◌≡◌, ◌+◌, ◌*◌, ◌≤◌, ◌++◌, length, map, take}
 use Rattle.formats.specs.Statement.{Forbids}
 use Rattle.formats.specs.Listing.{text_of_statements}
-use Rattle.request_reader.specs.Plain.{minors_of}
+use Rattle.request_reader.specs.Requested.{minors_of}
 use Rattle.lister.proofs.head.push_forbid_lines.Given as goal
 
 abbrev pub invariant-loop-item : goal.invariant-loop-item

@@ -1,6 +1,6 @@
 use Rattle.std.proofs.Common.{◌≡◌, ◌+◌, ◌*◌, ◌≤◌, ◌++◌, length, map}
 use Rattle.std.specs.List.{join_with_byte}
-use Rattle.lister.proofs.form.push_words.Given as goal
+use Rattle.lister.proofs.words.push_words.Given as goal
 
 abbrev pub invariant-loop-rest : goal.invariant-loop-rest
 invariant-loop-rest l = record {
