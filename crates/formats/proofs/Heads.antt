@@ -4,7 +4,7 @@ use Rattle.std.specs.Fmt.{digits}
 use Rattle.std.specs.List.{AllByRecursion, list_any, cons_option}
 use Rattle.std.specs.Prelude.{filter_map, option_to_list, if◌then◌else◌}
 use Rattle.std.proofs.lemmas.Bool.Decides.{nat_tests}
-use Rattle.std.proofs.lemmas.List.Sums.{count_by-le-length, sum_by-append, sum_by-cons}
+use Rattle.std.proofs.lemmas.List.Sums.{count_by-le-length, sum_by-append}
 use Rattle.std.proofs.lemmas.List.{length-map}
 use Rattle.matroid_theory.specs.Field.{IsFactors}
 use Rattle.matroid_theory.specs.declared.Mode.{Mode}
@@ -234,14 +234,14 @@ head_forbid : (q : Request) → filter_map forbidden_in (head_parts q) ≡ q.for
 head_forbid q =
     let silent : Statement → Type 0 = λ e. forbidden_in e ≡ None in
     skip_values forbidden_in (where_set (is_semilinear q.mode) (EquivalenceIs Semilinear)) (forbid_part q)
-        (all_where silent (is_semilinear q.mode) (EquivalenceIs Semilinear) refl)
+    (all_where silent (is_semilinear q.mode) (EquivalenceIs Semilinear) refl)
     ∙ made_values forbidden_in Forbids (λ m. refl) q.forbid (connected_part q) (no_values forbidden_in (connected_part q) (all_filters silent q refl refl refl refl (all_has silent q (all_map silent ListsWith (λ m. refl) (option_to_list q.has)) refl)))
 
 head_has : (q : Request) → filter_map wanted_in (head_parts q) ≡ option_to_list q.has
 head_has q =
     let silent : Statement → Type 0 = λ e. wanted_in e ≡ None in
     skip_values wanted_in (where_set (is_semilinear q.mode) (EquivalenceIs Semilinear)) (forbid_part q)
-        (all_where silent (is_semilinear q.mode) (EquivalenceIs Semilinear) refl)
+    (all_where silent (is_semilinear q.mode) (EquivalenceIs Semilinear) refl)
     ∙ skip_values wanted_in (map Forbids q.forbid) (connected_part q) (all_map silent Forbids (λ m. refl) q.forbid)
     ∙ skip_values wanted_in (where_set q.connected ListsConnected) (three_part q) (all_where silent q.connected ListsConnected refl)
     ∙ skip_values wanted_in (where_set q.three_connected ListsThreeConnected) (cosimple_part q) (all_where silent q.three_connected ListsThreeConnected refl)
@@ -257,7 +257,7 @@ skip_forbids : (test : Statement → Bool) (q : Request) → test (EquivalenceIs
     → list_any test (mode_part q) ≡ list_any test (connected_part q)
 skip_forbids test q mode fails =
     skip_test test (where_set (is_semilinear q.mode) (EquivalenceIs Semilinear)) (forbid_part q)
-        (all_where (λ e. test e ≡ false) (is_semilinear q.mode) (EquivalenceIs Semilinear) mode)
+    (all_where (λ e. test e ≡ false) (is_semilinear q.mode) (EquivalenceIs Semilinear) mode)
     ∙ skip_test test (map Forbids q.forbid) (connected_part q) (all_map (λ e. test e ≡ false) Forbids fails q.forbid)
 
 skip_flag : (test : Statement → Bool) (b : Bool) (e : Statement) (ys : List Statement) → test e ≡ false → list_any test (where_set b e ++ ys) ≡ list_any test ys
@@ -313,8 +313,8 @@ forbids_silent q =
 head_mode : (q : Request) → (if list_any asks_semilinear (head_parts q) then Semilinear else Linear) ≡ q.mode
 head_mode q =
     ap (λ (b : Bool). cond b Semilinear Linear)
-        (flag_test asks_semilinear (is_semilinear q.mode) (EquivalenceIs Semilinear) (forbid_part q) refl
-            (none_pass asks_semilinear (forbid_part q) (forbids_silent q)))
+    (flag_test asks_semilinear (is_semilinear q.mode) (EquivalenceIs Semilinear) (forbid_part q) refl
+    (none_pass asks_semilinear (forbid_part q) (forbids_silent q)))
     ∙ mode_kept q.mode
 
 head_print : (q : Request) → (if list_any prints_counts (head_parts q) then Counts else Forms) ≡ q.print
@@ -376,10 +376,28 @@ has_count kind (Some m) = omega arith
 
 head_count : (q : Request) (kind : ℕ) → length q.forbid ≤ 8 → count_of_kind kind (head_parts q) ≤ kinds_bound kind
 head_count q kind few =
-    omega (arith, count_cons kind (VersionIs q.version) (FieldIs q.factors ∷ RankIs q.rank ∷ SizeIs q.size ∷ mode_part q),
-        count_cons kind (FieldIs q.factors) (RankIs q.rank ∷ SizeIs q.size ∷ mode_part q), count_cons kind (RankIs q.rank) (SizeIs q.size ∷ mode_part q),
-        count_cons kind (SizeIs q.size) (mode_part q), count_append kind (where_set (is_semilinear q.mode) (EquivalenceIs Semilinear)) (forbid_part q),
-        where_count kind (is_semilinear q.mode) (EquivalenceIs Semilinear), count_append kind (map Forbids q.forbid) (connected_part q), count_append kind (where_set q.connected ListsConnected) (three_part q), count_append kind (where_set q.three_connected ListsThreeConnected) (cosimple_part q), count_append kind (where_set q.cosimple ListsCosimple) (distinct_part q), count_append kind (where_set q.distinct ListsDistinct) (has_part q), count_append kind (map ListsWith (option_to_list q.has)) (print_part q), count_cons kind (Prints q.print) [], forbids_count kind (4 == kind) refl q.forbid few, where_count kind q.connected ListsConnected, where_count kind q.three_connected ListsThreeConnected, where_count kind q.cosimple ListsCosimple, where_count kind q.distinct ListsDistinct, has_count kind q.has)
+    omega (
+      arith,
+      count_cons kind (VersionIs q.version) (FieldIs q.factors ∷ RankIs q.rank ∷ SizeIs q.size ∷ mode_part q),
+      count_cons kind (FieldIs q.factors) (RankIs q.rank ∷ SizeIs q.size ∷ mode_part q),
+      count_cons kind (RankIs q.rank) (SizeIs q.size ∷ mode_part q),
+      count_cons kind (SizeIs q.size) (mode_part q),
+      count_append kind (where_set (is_semilinear q.mode) (EquivalenceIs Semilinear)) (forbid_part q),
+      where_count kind (is_semilinear q.mode) (EquivalenceIs Semilinear),
+      count_append kind (map Forbids q.forbid) (connected_part q),
+      count_append kind (where_set q.connected ListsConnected) (three_part q),
+      count_append kind (where_set q.three_connected ListsThreeConnected) (cosimple_part q),
+      count_append kind (where_set q.cosimple ListsCosimple) (distinct_part q),
+      count_append kind (where_set q.distinct ListsDistinct) (has_part q),
+      count_append kind (map ListsWith (option_to_list q.has)) (print_part q),
+      count_cons kind (Prints q.print) [],
+      forbids_count kind (4 == kind) refl q.forbid few,
+      where_count kind q.connected ListsConnected,
+      where_count kind q.three_connected ListsThreeConnected,
+      where_count kind q.cosimple ListsCosimple,
+      where_count kind q.distinct ListsDistinct,
+      has_count kind q.has,
+    )
 
 -- how many entries the head has
 where_length : (b : Bool) (e : Statement) → length (where_set b e) ≤ 1
@@ -392,8 +410,24 @@ option_length (Some m) = omega arith
 
 head_length : (q : Request) → length q.forbid ≤ 8 → length (head_parts q) ≤ 64
 head_length q few =
-    omega (arith, length-append (where_set (is_semilinear q.mode) (EquivalenceIs Semilinear)) (forbid_part q),
-        where_length (is_semilinear q.mode) (EquivalenceIs Semilinear), length-map q.forbid Forbids, length-map (option_to_list q.has) ListsWith, option_length q.has, where_length q.connected ListsConnected, where_length q.three_connected ListsThreeConnected, where_length q.cosimple ListsCosimple, where_length q.distinct ListsDistinct, length-append (map Forbids q.forbid) (connected_part q), length-append (where_set q.connected ListsConnected) (three_part q), length-append (where_set q.three_connected ListsThreeConnected) (cosimple_part q), length-append (where_set q.cosimple ListsCosimple) (distinct_part q), length-append (where_set q.distinct ListsDistinct) (has_part q), length-append (map ListsWith (option_to_list q.has)) (print_part q))
+    omega (
+      arith,
+      length-append (where_set (is_semilinear q.mode) (EquivalenceIs Semilinear)) (forbid_part q),
+      where_length (is_semilinear q.mode) (EquivalenceIs Semilinear),
+      length-map q.forbid Forbids,
+      length-map (option_to_list q.has) ListsWith,
+      option_length q.has,
+      where_length q.connected ListsConnected,
+      where_length q.three_connected ListsThreeConnected,
+      where_length q.cosimple ListsCosimple,
+      where_length q.distinct ListsDistinct,
+      length-append (map Forbids q.forbid) (connected_part q),
+      length-append (where_set q.connected ListsConnected) (three_part q),
+      length-append (where_set q.three_connected ListsThreeConnected) (cosimple_part q),
+      length-append (where_set q.cosimple ListsCosimple) (distinct_part q),
+      length-append (where_set q.distinct ListsDistinct) (has_part q),
+      length-append (map ListsWith (option_to_list q.has)) (print_part q),
+    )
 
 -- what holds of the entries of the text holds of those of the head
 head_kept : (P : Statement → Type 0) (entries : List Statement) (q : Request) → P (VersionIs q.version) → P (EquivalenceIs Semilinear)
@@ -437,9 +471,9 @@ head_stands text q s =
     let is : (q.version ≡ 1) ⊎ (q.version ≡ 2) = subst (λ (v : ℕ). (v ≡ 1) ⊎ (v ≡ 2)) s.version (version_is text) in
     let one : IsSmall (VersionIs q.version) = record { may = omega (arith, version_number q.version is); not_big = omega arith } in
     let small =
-        head_kept IsSmall s.entries q one (plain_small (EquivalenceIs Semilinear) tt refl) (plain_small ListsConnected tt refl)
-        (plain_small ListsThreeConnected tt refl) (plain_small ListsCosimple tt refl) (plain_small ListsDistinct tt refl)
-        (plain_small (Prints q.print) tt refl) (all_small s.entries s.said.may s.in_order.not_big) s.asked in
+    head_kept IsSmall s.entries q one (plain_small (EquivalenceIs Semilinear) tt refl) (plain_small ListsConnected tt refl)
+    (plain_small ListsThreeConnected tt refl) (plain_small ListsCosimple tt refl) (plain_small ListsDistinct tt refl)
+    (plain_small (Prints q.print) tt refl) (all_small s.entries s.said.may s.in_order.not_big) s.asked in
     let entries_of = subst (λ (v : ℕ). AllByRecursion (IsOfVersion v) s.entries) s.version s.said.of_version in
     let of_version = head_kept (IsOfVersion q.version) s.entries q refl tt tt tt tt tt tt entries_of s.asked in
     subst (λ (es : List Statement). StandsFor (text_of_statements es) q) (parts_are q)

@@ -1,6 +1,6 @@
 -- A line says at most one entry, and a text stands for at most one request.
 use Rattle.std.proofs.Common.{◌≡◌, ◌∙◌, ℕ, suc, ◌+◌, ◌*◌, ◌<◌, ◌≤◌, List, [], ◌∷◌, ◌++◌, map, length, get_or, Option, None, Some, refl, sym, ap, subst, arith, lit<}
-use Rattle.std.specs.Prelude.{IsTrue, codes, decimal, option_to_list, slice_index}
+use Rattle.std.specs.Prelude.{codes, decimal, option_to_list, slice_index}
 use Rattle.std.specs.List.{AllByRecursion}
 use Rattle.std.proofs.lemmas.Bool.Decides.{nat_tests}
 use Rattle.std.proofs.lemmas.Fmt.{decimal_injective, decimal_is_IsNumeral}

@@ -57,15 +57,23 @@ factor (suc f) l = absurd (omega arith)
 stands : StandsFor small_text small
 unfolding small_text digits
 stands =
-    small_stands (FieldIs (2 ∷ []) ∷ RankIs 3 ∷ SizeIs 3 ∷ []) small refl
-    (
+    small_stands (FieldIs (2 ∷ []) ∷ RankIs 3 ∷ SizeIs 3 ∷ []) small refl (
       record { may = record { some = lit< tt; few = lit≤ tt; fields = factor }; not_big = lit≤ tt },
       (record { may = lit< tt; not_big = lit≤ tt }, (record { may = lit< tt; not_big = lit≤ tt }, tt)),
     )
     ((lit≤ tt, tt), (tt, (tt, tt))) (lit≤ tt) small_often
     (record {
-      rank = refl; field = refl; size = refl; forbid = refl; connected = refl; three_connected = refl; cosimple = refl; distinct = refl; has = refl;
-      print = refl; mode = refl;
+      rank = refl;
+      field = refl;
+      size = refl;
+      forbid = refl;
+      connected = refl;
+      three_connected = refl;
+      cosimple = refl;
+      distinct = refl;
+      has = refl;
+      print = refl;
+      mode = refl;
     })
     (record { rank = (lit≤ tt, lit≤ tt); size = (lit≤ tt, lit≤ tt); columns = lit≤ tt })
 

@@ -1,5 +1,5 @@
 -- Whether the words of a line say something. Each number is below 10^9, and a line of some words names a matrix of fewer columns, so a search decides it.
-use Rattle.std.proofs.Common.{◌≡◌, ℕ, ◌+◌, ◌^◌, ◌<◌, ◌≤◌, refl, ap, subst, arith, Bool, List, [], ◌∷◌, map, length, inl, inr, slice_index}
+use Rattle.std.proofs.Common.{◌≡◌, ℕ, ◌+◌, ◌^◌, ◌<◌, ◌≤◌, refl, ap, subst, arith, List, [], ◌∷◌, map, length, inl, inr, slice_index}
 use Rattle.std.specs.Prelude.{flat_map}
 use Rattle.std.specs.List.{AllByRecursion, range_with_len}
 use Rattle.std.proofs.lemmas.List.{length-map}

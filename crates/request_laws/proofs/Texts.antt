@@ -1,5 +1,5 @@
 -- Each text stands for a request or has a refusal.
-use Rattle.std.proofs.Common.{◌≡◌, ℕ, ◌+◌, ◌≤◌, refl, arith, Bool, List, [], ◌∷◌, length, inl, inr, ◌⊎◌, Option, None, Some}
+use Rattle.std.proofs.Common.{◌≡◌, ℕ, ◌+◌, ◌≤◌, refl, arith, List, [], ◌∷◌, length, inl, inr, ◌⊎◌, Option, None, Some}
 use Rattle.std.specs.Prelude.{filter_map, option_to_list, if◌then◌else◌}
 use Rattle.std.specs.List.{list_any}
 use Rattle.std.proofs.lemmas.Bool.{cases_lt}

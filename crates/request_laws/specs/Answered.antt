@@ -1,9 +1,9 @@
 -- What there is for a text and for a request.
-use Rattle.std.specs.Prelude.{◌≡◌, ℕ, List, Bool, option_to_list}
+use Rattle.std.specs.Prelude.{◌≡◌, ℕ, List, option_to_list}
 use Rattle.std.specs.List.{AllByRecursion}
 use Rattle.matroid_theory.specs.Level.{Family, Filters}
 use Rattle.formats.specs.declared.refusal.Refusal.{Refusal}
-use Rattle.formats.specs.Statement.{Statement, IsMinorName}
+use Rattle.formats.specs.Statement.{IsMinorName}
 use Rattle.formats.specs.Request.{Request, StandsFor}
 use Rattle.formats.specs.Refusal.{HasRefusal}
 use Rattle.formats.specs.Listing.{LevelEntry}
