@@ -1,11 +1,13 @@
-use Rattle.std.proofs.Common.{◌≡◌, ◌<◌, ℕ, [], length, slice_index_or}
-use Rattle.fast_form.specs.Codes.{code, IsNormalisedFrom}
+use Rattle.std.proofs.Common.{◌≡◌, ◌<◌, ℕ, [], true, false, length, slice_index, slice_index_or}
+use Rattle.matroid_theory.specs.Field.{times}
+use Rattle.form_search.specs.Pivot.{exchange}
+use Rattle.fast_form.specs.Codes.{code, cleared_code, IsNormalisedFrom}
 use Rattle.fast_form.specs.States.{AreColumns}
 use Rattle.fast_form.proofs.lists.normalised_columns.Given as goal
 
 abbrev pub invariant-loop-e : goal.invariant-loop-e
 invariant-loop-e l = record {
   size : length l.normalised ≡ 16;
-  codes : AreColumns l.fields l.normalised;
-  rows : (j : ℕ) → j < l.e → IsNormalisedFrom l.fields (code (slice_index_or l.columns j [])) (code (slice_index_or l.normalised j []));
+  codes : AreColumns l.shape.fields l.normalised;
+  rows : (j : ℕ) → j < l.e → IsNormalisedFrom l.shape.fields l.shape.count l.shape.rank (code (slice_index_or l.columns j [])) (code (slice_index_or l.normalised j []));
 }
