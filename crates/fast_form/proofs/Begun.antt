@@ -13,7 +13,7 @@ use Rattle.form_search.proofs.Rows.{next_frame}
 use Rattle.form_search.proofs.Starts.{start_trail, start_ordered, start_coordinates}
 use Rattle.fast_form.specs.Codes.{code, IsNormalisedFrom}
 use Rattle.fast_form.specs.States.{IsShapeOf, entries_of}
-use Rattle.fast_form.proofs.Shapes.{shaped, some, few, low}
+use Rattle.fast_form.proofs.Shapes.{shaped, some, few}
 use Rattle.fast_form.proofs.Moves.{first_nonzero}
 
 module _ (M : Rep) (fields : List ℕ) (factors rank total : ℕ) (h : IsShapeOf M fields factors rank total) (columns : List (List (List ℕ))) (marks : List Bool)

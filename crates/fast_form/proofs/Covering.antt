@@ -137,9 +137,12 @@ module _ (M : Rep) (rep : KeepsLimits M) (k : ℕ) (k_below : k < M.rank) where
         by None s l = l
         by (Some best) s l =
             let n : length best ≡ size M - M.rank = class_length M best s in
-            let (q, v) = l in
-            (q, n, λ m N r f. (let g : 16 ^ ((M.rank - k) * count M) ≤ number M (λ f i. matrix N f i (M.rank + length settled)) =
-            next_beyond M shaped some k (slice_index groups) settled layer rest d h m N r f none (omega arith) in omega arith))
+            let (q, v) = l in (
+              q,
+              n,
+              λ m N r f. (let g : 16 ^ ((M.rank - k) * count M) ≤ number M (λ f i. matrix N f i (M.rank + length settled)) =
+                  next_beyond M shaped some k (slice_index groups) settled layer rest d h m N r f none (omega arith) in omega arith),
+            )
 
     module _ (numbers : List ℕ) (low : ℕ) (least_numbers : AreLeastNumbers M (slice_index groups) layer numbers) (least : IsLeastOf layer numbers low) where
       -- the factors of an element, if it is there

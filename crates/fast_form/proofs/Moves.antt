@@ -1,5 +1,5 @@
 -- The program's steps are those of the search.
-use Rattle.std.proofs.Common.{◌≡◌, ◌≢◌, ◌⊎◌, inl, inr, refl, ℕ, zero, suc, ◌+◌, ◌<◌, ◌≤◌, ◌↔◌, Bool, true, false, List, [], ◌∷◌, ◌++◌, length, length-append, slice_index, slice_index_or, sym, ◌∙◌, ap, subst, arith, cond, not}
+use Rattle.std.proofs.Common.{◌≡◌, ◌≢◌, ◌⊎◌, inl, inr, refl, ℕ, zero, suc, ◌+◌, ◌<◌, ◌≤◌, Bool, true, false, List, [], ◌∷◌, ◌++◌, length, length-append, slice_index, slice_index_or, sym, ◌∙◌, ap, subst, arith, cond, not}
 use Rattle.std.specs.Prelude.{◌&&◌}
 use Rattle.std.specs.Bool.{◌==◌}
 use Rattle.std.specs.List.{slice_set}
@@ -17,9 +17,9 @@ use Rattle.form_search.proofs.Placing.{and_true, both_true, not_same, after, lay
 use Rattle.form_search.proofs.Rows.{IsDivided, chosen_state, with_row, follows_chosen, next_frame}
 use Rattle.form_search.proofs.Starts.{placing_same}
 use Rattle.form_search.proofs.Ties.{IsSupported, ties_by, ones_same}
-use Rattle.fast_form.specs.Codes.{code, AreColumnCodes, cleared_code, IsNormalisedFrom}
+use Rattle.fast_form.specs.Codes.{code, cleared_code}
 use Rattle.fast_form.specs.Groups.{AreGroupFactors, MarksGroups}
-use Rattle.fast_form.specs.States.{IsShapeOf, AreColumns, AreGroups, entries_of, scaled_entries, layer_of, rest_of, HasHead, HasOtherHead}
+use Rattle.fast_form.specs.States.{IsShapeOf, AreColumns, AreGroups, entries_of, scaled_entries, layer_of, rest_of}
 use Rattle.fast_form.specs.Steps.{Chooses, Places, Leads, IsRow, ArePivoted, AreNext}
 use Rattle.fast_form.proofs.GroupSteps.{factors_same}
 use Rattle.fast_form.proofs.Shapes.{shaped, some, few, low, code_below, cleared_same, entry_supported, field_at, all_own, own_at, makes_ones}
@@ -103,12 +103,12 @@ module _ (M : Rep) (fields : List ℕ) (factors rank total : ℕ) (h : IsShapeOf
 
     pivot_at : (e : ℕ) → e < size M → slice_index_or class e false ≡ true → (f i : ℕ) → f < count M → i < M.rank → pivoted M p k (code minus) (E.codes e) f i ≡ layer.codes e f i
     pivot_at e l w f i o m = sym (
-      by_one f i (code (slice_index_or layer_columns e []) f i) o m (code_below M fields factors rank total h (slice_index_or layer_columns e []) (layer_codes e (sixteen l)) f i o m)
-      ∙ pivots e (in_total l) w f i (in_factors o) (in_rank m) ∙ cleared_same M fields factors rank total h p (code minus) (code (slice_index_or columns e [])) f (exchange p k i) o)
+        by_one f i (code (slice_index_or layer_columns e []) f i) o m (code_below M fields factors rank total h (slice_index_or layer_columns e []) (layer_codes e (sixteen l)) f i o m)
+        ∙ pivots e (in_total l) w f i (in_factors o) (in_rank m) ∙ cleared_same M fields factors rank total h p (code minus) (code (slice_index_or columns e [])) f (exchange p k i) o)
 
     rest_at : (e : ℕ) → e < size M → (f i : ℕ) → f < count M → i < M.rank → pivoted M p k (code minus) (E.codes e) f i ≡ rest.codes e f i
     rest_at e l f i o m = sym (by_one f i (pivoted M p k (code minus) (E.codes e) f i) o m
-      (cleared_below p (code minus) (E.codes e) f (exchange p k i) o (code_below M fields factors rank total h (slice_index_or columns e []) (codes e (sixteen l)) f p o p_below)))
+        (cleared_below p (code minus) (E.codes e) f (exchange p k i) o (code_below M fields factors rank total h (slice_index_or columns e []) (codes e (sixteen l)) f p o p_below)))
 
     division : IsDivided M k E b p (code minus) layer rest
     division = record {

@@ -121,7 +121,11 @@ pub fn normalised_column(shape: &Shape, column: &Column) -> Column
     if p == shape.rank {
         return multiplied_column(shape, column, &[1, 1, 1]);
     }
-    multiplied_column(shape, column, &inverse(&shape.fields, shape.count, &column[p]))
+    multiplied_column(
+        shape,
+        column,
+        &inverse(&shape.fields, shape.count, &column[p]),
+    )
 }
 
 /// The column after a pivot, with each row multiplied, normalised.

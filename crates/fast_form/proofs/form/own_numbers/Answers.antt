@@ -1,4 +1,4 @@
-use Rattle.std.proofs.Common.{◌≡◌, ◌<◌, ◌≤◌, ◌+◌, ◌-◌, ◌*◌, ◌/◌, ◌%◌, ◌∷◌, ◌++◌, inl, inr, [], ℕ, List, length, length-append, slice_index, slice_index_or, sym, ◌∙◌, ap, subst, arith}
+use Rattle.std.proofs.Common.{◌≡◌, ◌<◌, ◌+◌, ◌-◌, ◌*◌, ◌/◌, ◌%◌, ◌∷◌, ◌++◌, inl, inr, [], ℕ, List, length, length-append, slice_index, slice_index_or, sym, ◌∙◌, ap, subst, arith}
 use Rattle.std.proofs.lemmas.Bool.{cases_lt}
 use Rattle.std.proofs.Math.Nat.{mod-lt}
 use Rattle.std.proofs.Math.Seq.{ext_get_or, get_or-append_seam}
@@ -30,11 +30,11 @@ module _ (M : Rep) (fields : List ℕ) (factors rank total : ℕ) (h : IsShapeOf
   own_more : (numbers longer : List ℕ) (e n : ℕ) → longer ≡ numbers ++ n ∷ [] → rank + length numbers ≡ e → n ≡ number M (λ f i. matrix M f i e)
       → ((j : ℕ) → j < length numbers → slice_index numbers j ≡ number M (λ f i. matrix M f i (rank + j))) → (j : ℕ) → j < length longer → slice_index longer j ≡ number M (λ f i. matrix M f i (rank + j))
   own_more numbers longer e n is at z w j l = ap (λ (v : List ℕ). slice_index v j) is ∙ (let q : length longer ≡ length numbers + 1 = ap (λ (v : List ℕ). length v) is ∙ length-append numbers (n ∷ []) in
-    elim (cases_lt j (length numbers)) [
-      | inl b ↦ get_or-append numbers (n ∷ []) 0 j b ∙ w j b
-      | inr b ↦ (let y : length numbers ≡ j = omega arith in let x : e ≡ rank + j = omega arith in
-          ap (slice_index (numbers ++ n ∷ [])) (sym y) ∙ get_or-append_seam numbers n [] 0 ∙ z ∙ ap (λ e. number M (λ f i. matrix M f i e)) x)
-    ])
+      elim (cases_lt j (length numbers)) [
+        | inl b ↦ get_or-append numbers (n ∷ []) 0 j b ∙ w j b
+        | inr b ↦ (let y : length numbers ≡ j = omega arith in let x : e ≡ rank + j = omega arith in
+            ap (slice_index (numbers ++ n ∷ [])) (sym y) ∙ get_or-append_seam numbers n [] 0 ∙ z ∙ ap (λ e. number M (λ f i. matrix M f i e)) x)
+      ])
 
   -- all of them
   own_class : (numbers : List ℕ) → rank + length numbers ≡ total → ((j : ℕ) → j < length numbers → slice_index numbers j ≡ number M (λ f i. matrix M f i (rank + j))) → AreOfClass M numbers

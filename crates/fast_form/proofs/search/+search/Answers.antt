@@ -1,11 +1,11 @@
-use Rattle.std.proofs.Common.{◌≡◌, ℕ, suc, ◌+◌, ◌-◌, ◌*◌, ◌^◌, ◌<◌, ◌∷◌, ◌++◌, [], List, Bool, Option, IfSome, length, slice_index, slice_index_or, zero, true, sym, ◌∙◌, ap, subst, arith}
+use Rattle.std.proofs.Common.{◌≡◌, ℕ, suc, ◌+◌, ◌-◌, ◌*◌, ◌^◌, ◌<◌, [], List, Bool, length, slice_index, slice_index_or, zero, sym, ◌∙◌, subst, arith}
 use Rattle.std.specs.Option.{MatchOption}
 use Rattle.std.specs.Prelude.{◌||◌}
 use mathlib.Core.Bool.{true≢false}
 use Rattle.matroid_theory.specs.Field.{times}
 use Rattle.matroid_theory.specs.Rep.{count, order}
 use Rattle.form_search.specs.Search.{Stands, IsPlacing, IsThere}
-use Rattle.fast_form.specs.States.{layer_of, rest_of, entries_of, IsLeastNumber}
+use Rattle.fast_form.specs.States.{layer_of, rest_of, IsLeastNumber}
 use Rattle.fast_form.specs.Codes.{code}
 use Rattle.fast_form.proofs.Covering.{all_tried, all_branched, branched_improves, above_covers, beyond_covers, one_covers, standing_room, tried_same, branched_same, more_tried, not_there, more_branched, other_branched}
 use Rattle.fast_form.proofs.search.+search.Goals as goal
@@ -111,7 +111,7 @@ place_each-loop-e-preserved t c = elim c.if-state-e.branch [
       w.place_one-found.new.best c.if-state-e.best (c.loop-e.better || w.place_one-found.result) (c.loop-e.abreast || w.place_one-found.result) c.if-state-e.better c.if-state-e.abreast
       w.best-is (w.better-is ∙ w.either-better.ensures) (w.abreast-is ∙ w.either-abreast.ensures)
       (more_branched c.args.rep.now c.requires.shape.is_rep c.args.k c.requires.row c.args.state.now.groups (λ e. code (slice_index_or c.args.layer.now e [])) c.args.state.now.scalars c.args.state.now.open
-    (rest_of c.args.rep.now c.args.k c.args.columns.now c.args.row.now.p c.args.row.now.minus c.args.state.now.scalars c.args.row.now.rest) c.args.settled.now
+      (rest_of c.args.rep.now c.args.k c.args.columns.now c.args.row.now.p c.args.row.now.minus c.args.state.now.scalars c.args.row.now.rest) c.args.settled.now
       c.args.numbers.now c.args.low c.requires.numbers c.requires.low
       c.loop-e.e c.followed_by-longer.result c.args.best.now c.loop-e.best w.place_one-found.new.best c.loop-e.better c.loop-e.abreast w.place_one-found.result
       c.loop-e.invariant w.place_one-found.ensures.improves w.place_one-found.ensures.covers)
@@ -120,7 +120,7 @@ place_each-loop-e-preserved t c = elim c.if-state-e.branch [
       (rest_of c.args.rep.now c.args.k c.args.columns.now c.args.row.now.p c.args.row.now.minus c.args.state.now.scalars c.args.row.now.rest) c.args.settled.now (c.loop-e.e + 1) c.followed_by-longer.result c.args.best.now
       c.loop-e.best c.if-state-e.best c.loop-e.better c.loop-e.abreast c.if-state-e.better c.if-state-e.abreast w.best-is w.better-is w.abreast-is
       (other_branched c.args.rep.now c.requires.shape.is_rep c.args.k c.requires.row c.args.state.now.groups (λ e. code (slice_index_or c.args.layer.now e [])) c.args.state.now.scalars c.args.state.now.open
-    (rest_of c.args.rep.now c.args.k c.args.columns.now c.args.row.now.p c.args.row.now.minus c.args.state.now.scalars c.args.row.now.rest) c.args.settled.now
+      (rest_of c.args.rep.now c.args.k c.args.columns.now c.args.row.now.p c.args.row.now.minus c.args.state.now.scalars c.args.row.now.rest) c.args.settled.now
       c.args.numbers.now c.args.low c.requires.numbers c.requires.low
       c.loop-e.e c.followed_by-longer.result c.args.best.now c.loop-e.best c.loop-e.better c.loop-e.abreast c.loop-e.invariant
       (λ o n. elim w.else-state-e.branch [
@@ -132,12 +132,26 @@ place_each-loop-e-preserved t c = elim c.if-state-e.branch [
 pub place_one-place-requires : goal.place_one-place-requires
 place_one-place-requires t c =
     let (d, h) = c.requires.state in
-    let (e, p, g) = c.placed-next.ensures.places d c.args.settled.now c.args.low h c.requires.number in
-    (omega (arith, c.placed-next.ensures.fewer), (c.requires.shape, (c.requires.row, (c.placed-next.ensures.codes, ((
-      e,
-      subst (λ (s : List ℕ). IsPlacing c.args.rep.now c.args.k (slice_index c.placed-next.result.groups) s (layer_of c.args.rep.now c.args.layer.now c.placed-next.result.scalars c.placed-next.result.open)
-          (rest_of c.args.rep.now c.args.k c.args.columns.now c.args.row.now.p c.args.row.now.minus c.placed-next.result.scalars c.args.row.now.rest) e) (sym c.requires.longer) p,
-    ), (c.requires.sound, c.requires.stands))))))
+    let (e, p, g) = c.placed-next.ensures.places d c.args.settled.now c.args.low h c.requires.number in (
+      omega (arith, c.placed-next.ensures.fewer),
+      (
+        c.requires.shape,
+        (
+          c.requires.row,
+          (
+            c.placed-next.ensures.codes,
+            (
+              (
+                e,
+                subst (λ (s : List ℕ). IsPlacing c.args.rep.now c.args.k (slice_index c.placed-next.result.groups) s (layer_of c.args.rep.now c.args.layer.now c.placed-next.result.scalars c.placed-next.result.open)
+                    (rest_of c.args.rep.now c.args.k c.args.columns.now c.args.row.now.p c.args.row.now.minus c.placed-next.result.scalars c.args.row.now.rest) e) (sym c.requires.longer) p,
+              ),
+              (c.requires.sound, c.requires.stands),
+            ),
+          ),
+        ),
+      ),
+    )
 
 pub place_one-returns-clause-covers : goal.place_one-returns-clause-covers
 place_one-returns-clause-covers t c d h m N r f l =

@@ -1,8 +1,6 @@
-use Rattle.std.proofs.Common.{◌≡◌, ◌≤◌, ◌<◌, ◌∷◌, [], ◌∙◌, ℕ, List, slice_index, slice_index_or, ap, subst, sym, arith}
+use Rattle.std.proofs.Common.{◌≡◌, ◌≤◌, ◌<◌, ◌∷◌, [], ◌∙◌, ℕ, List, slice_index, ap, subst, sym, arith}
 use Rattle.std.proofs.lemmas.List.{get_or-replicate}
-use Rattle.matroid_theory.specs.Rep.{Rep}
-use Rattle.fast_form.specs.Codes.{code, AreColumnCodes}
-use Rattle.fast_form.specs.States.{IsShapeOf}
+use Rattle.fast_form.specs.Codes.{code}
 use Rattle.fast_form.proofs.Marks.{marked_most}
 use Rattle.fast_form.proofs.Moves.{chooses}
 use Rattle.fast_form.proofs.steps.chosen.Goals as goal

@@ -1,4 +1,4 @@
-use Rattle.std.proofs.Common.{◌∙◌, ℕ, List, [], slice_index, slice_index_or, ap, arith}
+use Rattle.std.proofs.Common.{◌∙◌, ℕ, List, slice_index, ap, arith}
 use Rattle.matroid_theory.specs.Field.{times}
 use Rattle.fast_form.specs.Codes.{code}
 use Rattle.fast_form.proofs.steps.placed_scalars.Goals as goal
