@@ -13,7 +13,7 @@ use Rattle.form_search.proofs.Rows.{next_frame}
 use Rattle.form_search.proofs.Starts.{start_trail, start_ordered, start_coordinates}
 use Rattle.fast_form.specs.Codes.{code, IsNormalisedFrom}
 use Rattle.fast_form.specs.States.{IsShapeOf, entries_of}
-use Rattle.fast_form.proofs.Shapes.{shaped, some, few, low}
+use Rattle.fast_form.proofs.Shapes.{shaped, some, few}
 use Rattle.fast_form.proofs.Moves.{first_nonzero}
 
 module _ (M : Rep) (fields : List ℕ) (factors rank total : ℕ) (h : IsShapeOf M fields factors rank total) (columns : List (List (List ℕ))) (marks : List Bool)
@@ -47,16 +47,16 @@ module _ (M : Rep) (fields : List ℕ) (factors rank total : ℕ) (h : IsShapeOf
         (0, i, one_factor, o, λ y. n (codes_are e 0 i b one_factor o ∙ y)));
   }
 
-  module _ (groups : ℕ → ℕ) (settled : List ℕ) (after : List (List (List ℕ))) (normalised : (e : ℕ) → e < 16 → IsNormalisedFrom fields (code (slice_index_or columns e [])) (code (slice_index_or after e [])))
+  module _ (groups : ℕ → ℕ) (settled : List ℕ) (after : List (List (List ℕ))) (normalised : (e : ℕ) → e < total → IsNormalisedFrom fields factors rank (code (slice_index_or columns e [])) (code (slice_index_or after e [])))
       (w : IsStarted M groups (zero_test marks) total settled) where
     three : {f : ℕ} → f < count M → f < 3
     three {f} l = let q : count M ≤ 3 = few M fields factors rank total h in omega arith
 
-    six : {i : ℕ} → i < M.rank → i < 6
-    six {i} l = let q : M.rank ≤ 6 = low M fields factors rank total h in omega arith
+    in_factors : {f : ℕ} → f < count M → f < factors
+    in_factors {f} l = subst (λ n. f < n) (sym h.factors_are) l
 
-    sixteen : {e : ℕ} → e < size M → e < 16
-    sixteen {e} l = let r = h.is_rep in let q : size M ≤ 16 = r.size_most in omega arith
+    in_rank : {i : ℕ} → i < M.rank → i < rank
+    in_rank {i} l = subst (λ n. i < n) (sym h.rank_is) l
 
     twice : (v : Bool) → not (not v) ≡ v
     twice true = refl
@@ -66,14 +66,14 @@ module _ (M : Rep) (fields : List ℕ) (factors rank total : ℕ) (h : IsShapeOf
     led e b z =
         let (i, l, n) = nonzero e (in_total b) z in
         let (p, pb, pz, pn) = first_nonzero (code (slice_index_or columns e []) 0) M.rank (i, subst (λ n. i < n) h.rank_is l, n) in
-        let u = normalised e (sixteen b) in
+        let u = normalised e (in_total b) in
         record {
           lead = p;
           lead_before = pb;
-          zeros = λ f j l c. u.multiples f j (three l) (six (omega arith)) ∙ ap (λ o. times o (u.multiple f) (code (slice_index_or columns e []) f j)) (h.fields_are f l)
+          zeros = λ f j l c. u.multiples f j (in_factors l) (in_rank (omega arith)) ∙ ap (λ o. times o (u.multiple f) (code (slice_index_or columns e []) f j)) (h.fields_are f l)
               ∙ ap (times (order M f) (u.multiple f)) (codes_are e f j b l (omega arith) ∙ supported e b 0 f j one_factor l (omega arith) (sym (codes_are e 0 j b one_factor (omega arith)) ∙ pz j c))
               ∙ times_zero (order M f) (field M s f l) (u.multiple f);
-          ones = λ f l. u.leads p (six pb) pz pn f (three l) (λ y. pn (codes_are e 0 p b one_factor pb ∙ supported e b f 0 p l one_factor pb (sym (codes_are e f p b l pb) ∙ y)));
+          ones = λ f l. u.leads p (in_rank pb) pz pn f (in_factors l) (λ y. pn (codes_are e 0 p b one_factor pb ∙ supported e b f 0 p l one_factor pb (sym (codes_are e f p b l pb) ∙ y)));
         }
 
     pub first_frame : IsFrame M M.rank groups settled (entries_of M after marks) w.trail
@@ -84,10 +84,10 @@ module _ (M : Rep) (fields : List ℕ) (factors rank total : ℕ) (h : IsShapeOf
           same_element = refl;
           there = λ e t. record { below = t.below; passes = twice (slice_index_or marks e false) ∙ t.passes };
           back = λ e t. record { below = t.below; passes = sym (twice (slice_index_or marks e false)) ∙ t.passes };
-          multiple = λ e t. (let u = normalised e (sixteen t.below) in (
+          multiple = λ e t. (let u = normalised e (in_total t.below) in (
             u.multiple,
             (λ f l. record { code = subst (λ o. u.multiple f < o) (h.fields_are f l) (u.multiple_code f (three l)); nonzero = u.multiple_nonzero f (three l) }),
-            (λ f i l b. u.multiples f i (three l) (six b) ∙ (λ v. times (h.fields_are f l v) (u.multiple f) (codes_are e f i t.below l b v))),
+            (λ f i l b. u.multiples f i (in_factors l) (in_rank b) ∙ (λ v. times (h.fields_are f l v) (u.multiple f) (codes_are e f i t.below l b v))),
           ));
           led = λ e t. led e t.below t.passes;
         })

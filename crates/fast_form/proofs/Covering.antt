@@ -1,5 +1,5 @@
 -- The steps of the loops: what has been tried is covered.
-use Rattle.std.proofs.Common.{◌≡◌, ◌⊎◌, inl, inr, refl, ℕ, suc, ◌+◌, ◌-◌, ◌<◌, ◌≤◌, Bool, true, false, List, [], ◌∷◌, ◌++◌, length, slice_index, slice_index_or, Option, Some, None, IfSome, sym, ◌∙◌, ap, subst, arith}
+use Rattle.std.proofs.Common.{◌≡◌, ◌⊎◌, inl, inr, refl, ℕ, suc, ◌+◌, ◌-◌, ◌*◌, ◌^◌, ◌<◌, ◌≤◌, Bool, true, false, List, [], ◌∷◌, ◌++◌, length, slice_index, slice_index_or, Option, Some, None, IfSome, sym, ◌∙◌, ap, subst, arith}
 use Rattle.std.specs.Prelude.{◌||◌}
 use Rattle.std.specs.Option.{MatchOption}
 use Rattle.std.proofs.lemmas.Bool.{cases_lt}
@@ -10,9 +10,9 @@ use Rattle.form_search.specs.Least.{number, scaled, MakesOnes}
 use Rattle.form_search.specs.Search.{Entries, IsThere, IsFrame, IsPlacing, IsAtMost, Covers, AreOfClass, Stands, Improves, numbers_of}
 use Rattle.form_search.proofs.Found.{improves_nothing, improves_more, improves_before, stands_after, given_up, class_length}
 use Rattle.form_search.proofs.Full.{settled_numbers, settled_room}
-use Rattle.form_search.proofs.Placing.{next_branch, open_place}
+use Rattle.form_search.proofs.Placing.{next_branch, next_beyond, open_place}
 use Rattle.form_search.proofs.Rows.{next_row_element}
-use Rattle.fast_form.specs.States.{entries_of, AreLeastNumbers, IsLeastNumber, IsLeastOf}
+use Rattle.fast_form.specs.States.{entries_of, scaled_entries, AreLeastNumbers, IsLeastNumber, IsLeastOf}
 use Rattle.fast_form.specs.Steps.{Chooses, Places}
 
 or_false : (a b : Bool) → (a || b) ≡ false → (a ≡ false) × (b ≡ false)
@@ -39,10 +39,10 @@ pub record AreTried (M : Rep) (k : ℕ) (groups : List ℕ) (columns : List (Lis
       → m.label k < b → IsAtMost now (numbers_of M N)
 
 -- the elements below e have been tried as the next
-pub record AreBranched (M : Rep) (k : ℕ) (groups : List ℕ) (columns : List (List (List ℕ))) (open_marks rest_marks : List Bool) (settled : List ℕ) (e : ℕ) (longer : List ℕ) (old now : Option (List ℕ)) (better level : Bool) : Type 0 where
+pub record AreBranched (M : Rep) (k : ℕ) (groups : List ℕ) (layer rest : Entries) (settled : List ℕ) (e : ℕ) (longer : List ℕ) (old now : Option (List ℕ)) (better level : Bool) : Type 0 where
   pub improves : Improves M old now longer better
   pub stands : Stands level now longer
-  pub covers : (d : Trail) → IsPlacing M k (slice_index groups) settled (entries_of M columns open_marks) (entries_of M columns rest_marks) d → (m : Move) (N : Rep) → ReachesForm M m N
+  pub covers : (d : Trail) → IsPlacing M k (slice_index groups) settled layer rest d → (m : Move) (N : Rep) → ReachesForm M m N
       → Follows M d k (length settled) m → m.label (M.rank + length settled) < e → IsAtMost now (numbers_of M N)
 
 pub tried_same : (M : Rep) (k : ℕ) (groups : List ℕ) (columns : List (List (List ℕ))) (there : List Bool) (settled : List ℕ) (b : ℕ) (old now new : Option (List ℕ)) (better level better' level' : Bool)
@@ -51,11 +51,11 @@ tried_same M k groups columns there settled b old now new better level better' l
     subst (λ (o : Option (List ℕ)). AreTried M k groups columns there settled b old o better' level') (sym x)
     (subst (λ (v : Bool). AreTried M k groups columns there settled b old now v level') (sym y) (subst (AreTried M k groups columns there settled b old now better) (sym z) t))
 
-pub branched_same : (M : Rep) (k : ℕ) (groups : List ℕ) (columns : List (List (List ℕ))) (open_marks rest_marks : List Bool) (settled : List ℕ) (e : ℕ) (longer : List ℕ) (old now new : Option (List ℕ)) (better level better' level' : Bool)
-    → new ≡ now → better' ≡ better → level' ≡ level → AreBranched M k groups columns open_marks rest_marks settled e longer old now better level → AreBranched M k groups columns open_marks rest_marks settled e longer old new better' level'
-branched_same M k groups columns open_marks rest_marks settled e longer old now new better level better' level' x y z t =
-    subst (λ (o : Option (List ℕ)). AreBranched M k groups columns open_marks rest_marks settled e longer old o better' level') (sym x)
-    (subst (λ (v : Bool). AreBranched M k groups columns open_marks rest_marks settled e longer old now v level') (sym y) (subst (AreBranched M k groups columns open_marks rest_marks settled e longer old now better) (sym z) t))
+pub branched_same : (M : Rep) (k : ℕ) (groups : List ℕ) (layer rest : Entries) (settled : List ℕ) (e : ℕ) (longer : List ℕ) (old now new : Option (List ℕ)) (better level better' level' : Bool)
+    → new ≡ now → better' ≡ better → level' ≡ level → AreBranched M k groups layer rest settled e longer old now better level → AreBranched M k groups layer rest settled e longer old new better' level'
+branched_same M k groups layer rest settled e longer old now new better level better' level' x y z t =
+    subst (λ (o : Option (List ℕ)). AreBranched M k groups layer rest settled e longer old o better' level') (sym x)
+    (subst (λ (v : Bool). AreBranched M k groups layer rest settled e longer old now v level') (sym y) (subst (AreBranched M k groups layer rest settled e longer old now better) (sym z) t))
 
 module _ (M : Rep) (rep : KeepsLimits M) (k : ℕ) (k_below : k < M.rank) where
   shaped : IsShaped M
@@ -70,11 +70,11 @@ module _ (M : Rep) (rep : KeepsLimits M) (k : ℕ) (k_below : k < M.rank) where
     pub none_tried : (old : Option (List ℕ)) (level : Bool) → IfSome old (AreOfClass M) → Stands level old settled → AreTried M k groups columns there settled 0 old old false level
     none_tried old level s b = record { improves = improves_nothing M old settled s; stands = b; covers = λ d h m N r f l. absurd (omega arith) }
 
-    pub more_tried : (b : ℕ) (old now new : Option (List ℕ)) (better level found : Bool) (after : List (List (List ℕ))) (open_marks rest_marks : List Bool) (more : List ℕ)
-        → AreTried M k groups columns there settled b old now better level → Chooses M k columns there groups b after open_marks rest_marks more → Improves M now new settled found
-        → ((d : Trail) → IsPlacing M k (slice_index more) settled (entries_of M after open_marks) (entries_of M after rest_marks) d → Covers M d k (length settled) new)
+    pub more_tried : (b : ℕ) (old now new : Option (List ℕ)) (better level found : Bool) (layer rest : Entries) (more : List ℕ)
+        → AreTried M k groups columns there settled b old now better level → Chooses M k (entries_of M columns there) groups b layer rest more → Improves M now new settled found
+        → ((d : Trail) → IsPlacing M k (slice_index more) settled layer rest d → Covers M d k (length settled) new)
         → AreTried M k groups columns there settled (b + 1) old new (better || found) (level || found)
-    more_tried b old now new better level found after open_marks rest_marks more t c i w = record {
+    more_tried b old now new better level found layer rest more t c i w = record {
       improves = improves_more M old now new settled better found (better || found) t.improves i (or_false better found) (or_left better found);
       stands = stands_after M now new settled found level (level || found) i t.stands (or_right level found) (or_none level found);
       covers = λ d h m N r f l. elim (cases_lt (m.label k) b) [
@@ -103,12 +103,9 @@ module _ (M : Rep) (rep : KeepsLimits M) (k : ℕ) (k_below : k < M.rank) where
 
   -- ---- the open elements with the least number
 
-  module _ (groups : List ℕ) (columns : List (List (List ℕ))) (open_marks rest_marks : List Bool) (settled numbers : List ℕ) (low : ℕ) where
+  module _ (groups : List ℕ) (layer_codes : ℕ → ℕ → ℕ → ℕ) (scalars : List (List ℕ)) (open_marks : List Bool) (rest : Entries) (settled : List ℕ) where
     abbrev layer : Entries
-    layer = entries_of M columns open_marks
-
-    abbrev rest : Entries
-    rest = entries_of M columns rest_marks
+    layer = scaled_entries M layer_codes scalars open_marks
 
     abbrev State : Trail → Type 0
     State d = IsPlacing M k (slice_index groups) settled layer rest d
@@ -118,7 +115,36 @@ module _ (M : Rep) (rep : KeepsLimits M) (k : ℕ) (k_below : k < M.rank) where
         let p : M.rank + length settled ≤ d.place e = open_place M shaped some k (slice_index groups) settled layer rest d h e t in
         let a = h.trail in let o = a.ordered in let w = o.labels in let b : d.place e < size M = w.inverse_below e t.below in omega arith
 
-    module _ (least_numbers : AreLeastNumbers M (slice_index groups) layer numbers) (least : IsLeastOf layer numbers low) where
+    -- what covers the forms of the state after an element is placed covers those that have it next
+    pub one_covers : (e low : ℕ) (longer : List ℕ) (new : Option (List ℕ)) (layer_after rest_after : Entries) (more : List ℕ) → longer ≡ settled ++ low ∷ []
+        → Places M k groups layer rest e layer_after rest_after more → IsLeastNumber M (slice_index groups) (layer.codes e) low
+        → ((d : Trail) → IsPlacing M k (slice_index more) longer layer_after rest_after d → Covers M d k (length longer) new)
+        → (d : Trail) → State d → (m : Move) (N : Rep) → ReachesForm M m N → Follows M d k (length settled) m → m.label (M.rank + length settled) ≡ e → IsAtMost new (numbers_of M N)
+    one_covers e low longer new layer_after rest_after more z c least w d h m N r f l =
+        let (d', p, g) = c d settled low h least in
+        w d' (subst (λ (s : List ℕ). IsPlacing M k (slice_index more) s layer_after rest_after d') (sym z) p) m N r (subst (λ (s : List ℕ). Follows M d' k (length s) m) (sym z) (g m f l))
+
+    -- where no element is open, and what was found has a next number of a column that is zero before row k, it covers
+    pub beyond_covers : ((e : ℕ) → IsThere layer e → ⊥) → (found : Option (List ℕ)) → IfSome found (AreOfClass M) → Stands true found settled
+        → MatchOption found ⊥ (λ best. (length settled < length best) × (slice_index best (length settled) < 16 ^ ((M.rank - k) * count M)))
+        → (d : Trail) → State d → Covers M d k (length settled) found
+    beyond_covers none found s b l d h =
+        given_up M d k (length settled) found settled refl (settled_room M shaped some k (slice_index groups) settled layer rest d h) b
+        (λ m N r f j q. settled_numbers M shaped some k (slice_index groups) settled layer rest d h m N r f j q) (by found s l)
+      where
+        by : (o : Option (List ℕ)) → IfSome o (AreOfClass M) → MatchOption o ⊥ (λ best. (length settled < length best) × (slice_index best (length settled) < 16 ^ ((M.rank - k) * count M)))
+            → MatchOption o ⊥ (λ best. (length settled < length best) × (length best ≡ size M - M.rank) × ((m : Move) (N : Rep) → ReachesForm M m N → Follows M d k (length settled) m → slice_index best (length settled) < number M (λ f i. matrix N f i (M.rank + length settled))))
+        by None s l = l
+        by (Some best) s l =
+            let n : length best ≡ size M - M.rank = class_length M best s in
+            let (q, v) = l in (
+              q,
+              n,
+              λ m N r f. (let g : 16 ^ ((M.rank - k) * count M) ≤ number M (λ f i. matrix N f i (M.rank + length settled)) =
+                  next_beyond M shaped some k (slice_index groups) settled layer rest d h m N r f none (omega arith) in omega arith),
+            )
+
+    module _ (numbers : List ℕ) (low : ℕ) (least_numbers : AreLeastNumbers M (slice_index groups) layer numbers) (least : IsLeastOf layer numbers low) where
       -- the factors of an element, if it is there
       own_by : (e : ℕ) → IsThere layer e ⊎ (IsThere layer e → ⊥) → ℕ → ℕ → ℕ
       own_by e (inl t) = let w = least_numbers e t in w.own
@@ -169,26 +195,23 @@ module _ (M : Rep) (rep : KeepsLimits M) (k : ℕ) (k_below : k < M.rank) where
           let (e, w) = next_branch M shaped some k (slice_index groups) settled layer rest d h m N r f own_of ones_of low at_least least.at least.there at_low in
           (e, w.is_there, w.is_next, number_at e w.is_there w.least_is, w.number_is)
 
-      pub none_branched : (longer : List ℕ) (old : Option (List ℕ)) (level : Bool) → IfSome old (AreOfClass M) → Stands level old longer → AreBranched M k groups columns open_marks rest_marks settled 0 longer old old false level
+      pub none_branched : (longer : List ℕ) (old : Option (List ℕ)) (level : Bool) → IfSome old (AreOfClass M) → Stands level old longer → AreBranched M k groups layer rest settled 0 longer old old false level
       none_branched longer old level s b = record { improves = improves_nothing M old longer s; stands = b; covers = λ d h m N r f l. absurd (omega arith) }
 
-      pub more_branched : (e : ℕ) (longer : List ℕ) (old now new : Option (List ℕ)) (better level found : Bool) (after : List (List (List ℕ))) (open_after rest_after : List Bool) (more : List ℕ)
-          → longer ≡ settled ++ low ∷ [] → IsThere layer e → slice_index numbers e ≡ low → AreBranched M k groups columns open_marks rest_marks settled e longer old now better level → Places M k columns open_marks rest_marks groups e after open_after rest_after more → Improves M now new longer found
-          → ((d : Trail) → IsPlacing M k (slice_index more) longer (entries_of M after open_after) (entries_of M after rest_after) d → Covers M d k (length longer) new)
-          → AreBranched M k groups columns open_marks rest_marks settled (e + 1) longer old new (better || found) (level || found)
-      more_branched e longer old now new better level found after open_after rest_after more z there at t c i w = record {
+      pub more_branched : (e : ℕ) (longer : List ℕ) (old now new : Option (List ℕ)) (better level found : Bool) → AreBranched M k groups layer rest settled e longer old now better level → Improves M now new longer found
+          → ((d : Trail) → State d → (m : Move) (N : Rep) → ReachesForm M m N → Follows M d k (length settled) m → m.label (M.rank + length settled) ≡ e → IsAtMost new (numbers_of M N))
+          → AreBranched M k groups layer rest settled (e + 1) longer old new (better || found) (level || found)
+      more_branched e longer old now new better level found t i w = record {
         improves = improves_more M old now new longer better found (better || found) t.improves i (or_false better found) (or_left better found);
         stands = stands_after M now new longer found level (level || found) i t.stands (or_right level found) (or_none level found);
         covers = λ d h m N r f l. elim (cases_lt (m.label (M.rank + length settled)) e) [
           | inl q ↦ i.lower (numbers_of M N) (t.covers d h m N r f q)
-          | inr q ↦ (let (d', p, g) = c d settled low h (subst (IsLeastNumber M (slice_index groups) (layer.codes e)) at (least_numbers e there)) in
-              w d' (subst (λ (s : List ℕ). IsPlacing M k (slice_index more) s (entries_of M after open_after) (entries_of M after rest_after) d') (sym z) p) m N r
-              (subst (λ (s : List ℕ). Follows M d' k (length s) m) (sym z) (g m f (omega arith))))
+          | inr q ↦ w d h m N r f (omega arith)
         ];
       }
 
-      pub other_branched : (e : ℕ) (longer : List ℕ) (old now : Option (List ℕ)) (better level : Bool) → AreBranched M k groups columns open_marks rest_marks settled e longer old now better level
-          → ((slice_index_or open_marks e false ≡ true) → slice_index numbers e ≡ low → ⊥) → AreBranched M k groups columns open_marks rest_marks settled (e + 1) longer old now better level
+      pub other_branched : (e : ℕ) (longer : List ℕ) (old now : Option (List ℕ)) (better level : Bool) → AreBranched M k groups layer rest settled e longer old now better level
+          → ((slice_index_or open_marks e false ≡ true) → slice_index numbers e ≡ low → ⊥) → AreBranched M k groups layer rest settled (e + 1) longer old now better level
       other_branched e longer old now better level t n = record {
         improves = t.improves;
         stands = t.stands;
@@ -199,12 +222,12 @@ module _ (M : Rep) (rep : KeepsLimits M) (k : ℕ) (k_below : k < M.rank) where
         ];
       }
 
-      pub all_branched : (e : ℕ) (longer : List ℕ) (old new : Option (List ℕ)) (better level : Bool) → AreBranched M k groups columns open_marks rest_marks settled e longer old new better level → size M ≤ e
+      pub all_branched : (e : ℕ) (longer : List ℕ) (old new : Option (List ℕ)) (better level : Bool) → AreBranched M k groups layer rest settled e longer old new better level → size M ≤ e
           → (d : Trail) → State d → Covers M d k (length settled) new
       all_branched e longer old new better level t l d h m N r f =
           t.covers d h m N r f (let (g, w, v, a, _) = branch d h m N r f in let y : g < size M = w.below in omega arith)
 
-      pub branched_improves : (e : ℕ) (longer : List ℕ) (old new : Option (List ℕ)) (better level : Bool) → longer ≡ settled ++ low ∷ [] → AreBranched M k groups columns open_marks rest_marks settled e longer old new better level → Improves M old new settled better
+      pub branched_improves : (e : ℕ) (longer : List ℕ) (old new : Option (List ℕ)) (better level : Bool) → longer ≡ settled ++ low ∷ [] → AreBranched M k groups layer rest settled e longer old new better level → Improves M old new settled better
       branched_improves e longer old new better level z t = improves_before M old new settled longer low better z t.improves
 
       -- there is room for one more number in what was found, and in what is settled

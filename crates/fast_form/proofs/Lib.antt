@@ -4,4 +4,5 @@ pub mod Decoded
 pub mod GroupSteps
 pub mod Marks
 pub mod Moves
+pub mod Powers
 pub mod Shapes

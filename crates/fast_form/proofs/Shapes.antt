@@ -15,9 +15,10 @@ use Rattle.form_search.specs.Search.{Entries, IsThere, IsEntry, IsPlacing}
 use Rattle.form_search.proofs.Numbers.{weighed_same}
 use Rattle.form_search.proofs.Supports.{same_support}
 use Rattle.form_search.proofs.Ties.{IsSupported}
+use Rattle.fast_form.proofs.GroupSteps.{scaled_same}
 use Rattle.fast_form.specs.Codes.{code, AreColumnCodes, cleared_code}
 use Rattle.fast_form.specs.Groups.{AreGroupFactors}
-use Rattle.fast_form.specs.States.{IsShapeOf, AreGroups, entries_of, IsLeastNumber, IsScaledNumber}
+use Rattle.fast_form.specs.States.{IsShapeOf, AreGroups, layer_of, IsLeastNumber, IsScaledNumber}
 
 module _ (M : Rep) (fields : List ℕ) (factors rank total : ℕ) (h : IsShapeOf M fields factors rank total) where
   pub is_rep : KeepsLimits M
@@ -50,7 +51,7 @@ module _ (M : Rep) (fields : List ℕ) (factors rank total : ℕ) (h : IsShapeOf
   -- ---- factors of groups
 
   module _ (groups : List ℕ) (group_below : AreGroups groups) (c own : ℕ → ℕ → ℕ) (own_code : (f g : ℕ) → f < 3 → g < 6 → own f g < slice_index fields f)
-      (own_factors : AreGroupFactors fields (slice_index groups) rank c own) (supported : IsSupported M c) where
+      (own_factors : AreGroupFactors fields factors (slice_index groups) rank c own) (supported : IsSupported M c) where
     -- 1 for what isn't a group
     abbrev pub all_own : ℕ → ℕ → ℕ
     all_own f g = cond (nat_lt g 6) (own f g) 1
@@ -74,7 +75,7 @@ module _ (M : Rep) (fields : List ℕ) (factors rank total : ℕ) (h : IsShapeOf
       leads = λ f i l b z n. (let r : M.rank ≤ 6 = low in let q : count M ≤ 3 = few in
           ap (λ v. times (order M f) v (c f i)) (own_at f (slice_index groups i) (group_below i (omega arith)))
           ∙ ap (λ o. times o (own f (slice_index groups i)) (c f i)) (sym (h.fields_are f l))
-          ∙ own_factors.leads i (subst (λ n. i < n) (sym h.rank_is) b) (λ j m e. supported f 0 j l some (omega arith) (z j m e)) (λ e. n (supported 0 f i some l b e)) f (omega arith) n);
+          ∙ own_factors.leads i (subst (λ n. i < n) (sym h.rank_is) b) (λ j m e. supported f 0 j l some (omega arith) (z j m e)) (λ e. n (supported 0 f i some l b e)) f (subst (λ n. f < n) (sym h.factors_are) l) n);
     }
 
     -- the scaled code
@@ -92,12 +93,21 @@ module _ (M : Rep) (fields : List ℕ) (factors rank total : ℕ) (h : IsShapeOf
         (λ e l. sym (scaled_code groups g c w.own w.own_code w.own_factors s (e % count M) (e / count M) (mod-lt e some) (row_below e (count M) M.rank some l)));
   }
 
+  -- the order of a factor by the program's field
+  pub field_at : (f : ℕ) → f < count M → (x y : ℕ) → times (slice_index fields f) x y ≡ times (order M f) x y
+  field_at f l x y = ap (λ q. times q x y) (h.fields_are f l)
+
+  one : 1 ≤ factors
+  one = let l = h.limits in l.one
+
   -- those of all open elements
-  pub least_numbers_are : (k : ℕ) (groups : List ℕ) (settled : List ℕ) (columns : List (List (List ℕ))) (open_marks : List Bool) (rest : Entries) (d : Trail) (numbers : List ℕ) → AreGroups groups
-      → IsPlacing M k (slice_index groups) settled (entries_of M columns open_marks) rest d
-      → ((e : ℕ) → e < 16 → slice_index_or open_marks e false ≡ true → IsScaledNumber fields (slice_index groups) factors rank (code (slice_index_or columns e [])) (slice_index numbers e))
-      → (e : ℕ) → IsThere (entries_of M columns open_marks) e → IsLeastNumber M (slice_index groups) (code (slice_index_or columns e [])) (slice_index numbers e)
-  least_numbers_are k groups settled columns open_marks rest d numbers g p w e t =
+  pub least_numbers_are : (k : ℕ) (groups : List ℕ) (settled : List ℕ) (layer : List (List (List ℕ))) (scalars : List (List ℕ)) (open_marks : List Bool) (rest : Entries) (d : Trail) (numbers : List ℕ) → AreGroups groups
+      → IsPlacing M k (slice_index groups) settled (layer_of M layer scalars open_marks) rest d
+      → ((e : ℕ) → e < total → slice_index_or open_marks e false ≡ true → IsScaledNumber fields (slice_index groups) factors rank (λ f i. times (slice_index fields f) (code scalars f i) (code (slice_index_or layer e []) f i)) (slice_index numbers e))
+      → (e : ℕ) → IsThere (layer_of M layer scalars open_marks) e → IsLeastNumber M (slice_index groups) (λ f i. times (order M f) (code scalars f i) (code (slice_index_or layer e []) f i)) (slice_index numbers e)
+  least_numbers_are k groups settled layer scalars open_marks rest d numbers g p w e t =
       let o = let q = p.trail in q.ordered in
-      let r = h.is_rep in let z : size M ≤ 16 = r.size_most in let b : e < size M = t.below in
-      least_number_is groups g (code (slice_index_or columns e [])) (slice_index numbers e) (entry_supported k (length settled) d e (code (slice_index_or columns e [])) o (let a = p.inside in a.each e t)) (w e (omega arith) t.passes)
+      least_number_is groups g (λ f i. times (order M f) (code scalars f i) (code (slice_index_or layer e []) f i)) (slice_index numbers e)
+      (entry_supported k (length settled) d e (λ f i. times (order M f) (code scalars f i) (code (slice_index_or layer e []) f i)) o (let a = p.inside in a.each e t))
+      (scaled_same fields factors rank (slice_index groups) (λ f i. times (slice_index fields f) (code scalars f i) (code (slice_index_or layer e []) f i)) (λ f i. times (order M f) (code scalars f i) (code (slice_index_or layer e []) f i)) (slice_index numbers e) one
+      (λ f i l b. field_at f (subst (λ n. f < n) h.factors_are l) (code scalars f i) (code (slice_index_or layer e []) f i)) (w e (let b : e < size M = t.below in let z : total ≡ size M = h.total_is in omega arith) t.passes))

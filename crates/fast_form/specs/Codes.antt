@@ -18,10 +18,10 @@ AreColumnCodes fields column = (i : ℕ) → i < 6 → AreCodes fields (slice_in
 abbrev pub cleared_code : List ℕ → ℕ → (ℕ → ℕ → ℕ) → (ℕ → ℕ → ℕ) → ℕ → ℕ → ℕ
 cleared_code fields p minus e f i = if i == p then e f p else plus (slice_index fields f) (e f i) (times (slice_index fields f) (e f p) (minus f i))
 
--- v is a multiple of c, whose first row that isn't 0 in the first factor is 1 wherever it isn't 0
-pub record IsNormalisedFrom (fields : List ℕ) (c v : ℕ → ℕ → ℕ) : Type 0 where
+-- v is a multiple of c in the first rows, whose first row that isn't 0 in the first factor is 1 wherever it isn't 0
+pub record IsNormalisedFrom (fields : List ℕ) (factors rows : ℕ) (c v : ℕ → ℕ → ℕ) : Type 0 where
   pub multiple : ℕ → ℕ
   pub multiple_code : (f : ℕ) → f < 3 → multiple f < slice_index fields f
   pub multiple_nonzero : (f : ℕ) → f < 3 → multiple f ≢ 0
-  pub multiples : (f i : ℕ) → f < 3 → i < 6 → v f i ≡ times (slice_index fields f) (multiple f) (c f i)
-  pub leads : (p : ℕ) → p < 6 → ((i : ℕ) → i < p → c 0 i ≡ 0) → c 0 p ≢ 0 → (f : ℕ) → f < 3 → c f p ≢ 0 → v f p ≡ 1
+  pub multiples : (f i : ℕ) → f < factors → i < rows → v f i ≡ times (slice_index fields f) (multiple f) (c f i)
+  pub leads : (p : ℕ) → p < rows → ((i : ℕ) → i < p → c 0 i ≡ 0) → c 0 p ≢ 0 → (f : ℕ) → f < factors → c f p ≢ 0 → v f p ≡ 1

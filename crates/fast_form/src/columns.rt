@@ -3,48 +3,47 @@ ghost use Rattle.std.specs.Prelude.{◌≡◌, ◌≢◌, ◌⊎◌, ◌<◌, �
 ghost use Rattle.matroid_theory.specs.Field.{plus, times};
 ghost use Rattle.form_search.specs.Pivot.{exchange};
 ghost use Rattle.fast_form.specs.Codes.{AreCodes, AreColumnCodes, code, cleared_code, IsNormalisedFrom};
+ghost use Rattle.fast_form.specs.States.{AreLimits};
 
-use crate::codes::{Codes, Fields, inverse, negative, product, sum_with};
+use crate::codes::{Codes, inverse, negative, product, sum_with};
+use crate::states::Shape;
 
 /// A column: the codes of its rows, of which those from the rank on are 0.
 pub type Column = [Codes; 6];
 
 /// The column whose sum with this is 0.
-pub fn negative_column(fields: &Fields, column: &Column) -> Column
-    requires { AreColumnCodes fields.now column.now }
-    ensures codes { AreColumnCodes fields.now result }
-    ensures zeros { (f i : ℕ) → f < 3 → i < 6 → plus (slice_index fields.now f) (code column.now f i) (code result f i) ≡ 0 }
+pub fn negative_column(shape: &Shape, column: &Column) -> Column
+    requires limits { AreLimits shape.now.fields shape.now.count shape.now.rank shape.now.size }
+    requires column { AreColumnCodes shape.now.fields column.now }
+    ensures codes { AreColumnCodes shape.now.fields result }
+    ensures zeros { (f i : ℕ) → f < shape.now.count → i < shape.now.rank → plus (slice_index shape.now.fields f) (code column.now f i) (code result f i) ≡ 0 }
 {
     let mut negatives = *column;
-    for i in 0..6 {
-        negatives[i] = negative(fields, &column[i]);
+    for i in 0..shape.rank {
+        negatives[i] = negative(&shape.fields, shape.count, &column[i]);
     }
     negatives
 }
 
 /// The column cleared by the chosen column, of which `minus` is the negative, at row `p`, and with rows `p` and `k` exchanged.
-pub fn pivoted_column(
-    fields: &Fields,
-    column: &Column,
-    minus: &Column,
-    p: usize,
-    k: usize,
-) -> Column
-    requires column { AreColumnCodes fields.now column.now }
-    requires minus { AreColumnCodes fields.now minus.now }
-    requires p { p < 6 }
-    requires k { k < 6 }
-    ensures codes { AreColumnCodes fields.now result }
-    ensures pivoted { (f i : ℕ) → f < 3 → i < 6 → code result f i ≡ cleared_code fields.now p (code minus.now) (code column.now) f (exchange p k i) }
+pub fn pivoted_column(shape: &Shape, column: &Column, minus: &Column, p: usize, k: usize) -> Column
+    requires limits { AreLimits shape.now.fields shape.now.count shape.now.rank shape.now.size }
+    requires column { AreColumnCodes shape.now.fields column.now }
+    requires minus { AreColumnCodes shape.now.fields minus.now }
+    requires p { p < shape.now.rank }
+    requires k { k < shape.now.rank }
+    ensures codes { AreColumnCodes shape.now.fields result }
+    ensures pivoted { (f i : ℕ) → f < shape.now.count → i < shape.now.rank → code result f i ≡ cleared_code shape.now.fields p (code minus.now) (code column.now) f (exchange p k i) }
 {
     let mut pivoted = *column;
-    for i in 0..6 {
-        pivoted[i] = cleared_row(fields, column, minus, p, exchanged(p, k, i));
+    for i in 0..shape.rank {
+        pivoted[i] = cleared_row(shape, column, minus, p, exchanged(p, k, i));
     }
     pivoted
 }
 
 /// Row `i`, or the other of `p` and `k` if it is one of these.
+#[inline(always)]
 fn exchanged(p: usize, k: usize, i: usize) -> usize
     ensures { result ≡ exchange p k i }
 {
@@ -58,61 +57,98 @@ fn exchanged(p: usize, k: usize, i: usize) -> usize
 }
 
 /// Row `i` of the cleared column.
-fn cleared_row(fields: &Fields, column: &Column, minus: &Column, p: usize, i: usize) -> Codes
-    requires column { AreColumnCodes fields.now column.now }
-    requires minus { AreColumnCodes fields.now minus.now }
+#[inline(always)]
+fn cleared_row(shape: &Shape, column: &Column, minus: &Column, p: usize, i: usize) -> Codes
+    requires limits { AreLimits shape.now.fields shape.now.count shape.now.rank shape.now.size }
+    requires column { AreColumnCodes shape.now.fields column.now }
+    requires minus { AreColumnCodes shape.now.fields minus.now }
     requires p { p < 6 }
     requires i { i < 6 }
-    ensures codes { AreCodes fields.now result }
-    ensures cleared { (f : ℕ) → f < 3 → slice_index result f ≡ cleared_code fields.now p (code minus.now) (code column.now) f i }
+    ensures codes { AreCodes shape.now.fields result }
+    ensures cleared { (f : ℕ) → f < shape.now.count → slice_index result f ≡ cleared_code shape.now.fields p (code minus.now) (code column.now) f i }
 {
     if i == p {
         column[p]
     } else {
-        sum_with(fields, &column[i], &column[p], &minus[i])
+        sum_with(
+            &shape.fields,
+            shape.count,
+            &column[i],
+            &column[p],
+            &minus[i],
+        )
     }
 }
 
 /// The column with each row multiplied.
-pub fn scaled_column(fields: &Fields, column: &Column, by: &Column) -> Column
-    requires column { AreColumnCodes fields.now column.now }
-    requires by { AreColumnCodes fields.now by.now }
-    ensures codes { AreColumnCodes fields.now result }
-    ensures products { (f i : ℕ) → f < 3 → i < 6 → code result f i ≡ times (slice_index fields.now f) (code by.now f i) (code column.now f i) }
+pub fn scaled_column(shape: &Shape, column: &Column, by: &Column) -> Column
+    requires limits { AreLimits shape.now.fields shape.now.count shape.now.rank shape.now.size }
+    requires column { AreColumnCodes shape.now.fields column.now }
+    requires by { AreColumnCodes shape.now.fields by.now }
+    ensures codes { AreColumnCodes shape.now.fields result }
+    ensures products { (f i : ℕ) → f < shape.now.count → i < shape.now.rank → code result f i ≡ times (slice_index shape.now.fields f) (code by.now f i) (code column.now f i) }
 {
     let mut products = *column;
-    for i in 0..6 {
-        products[i] = product(fields, &by[i], &column[i]);
+    for i in 0..shape.rank {
+        products[i] = product(&shape.fields, shape.count, &by[i], &column[i]);
     }
     products
 }
 
 /// The column with all rows multiplied by the same factors.
-pub fn multiplied_column(fields: &Fields, column: &Column, by: &Codes) -> Column
-    requires column { AreColumnCodes fields.now column.now }
-    requires by { AreCodes fields.now by.now }
-    ensures codes { AreColumnCodes fields.now result }
-    ensures products { (f i : ℕ) → f < 3 → i < 6 → code result f i ≡ times (slice_index fields.now f) (slice_index by.now f) (code column.now f i) }
+fn multiplied_column(shape: &Shape, column: &Column, by: &Codes) -> Column
+    requires limits { AreLimits shape.now.fields shape.now.count shape.now.rank shape.now.size }
+    requires column { AreColumnCodes shape.now.fields column.now }
+    requires by { AreCodes shape.now.fields by.now }
+    ensures codes { AreColumnCodes shape.now.fields result }
+    ensures products { (f i : ℕ) → f < shape.now.count → i < shape.now.rank → code result f i ≡ times (slice_index shape.now.fields f) (slice_index by.now f) (code column.now f i) }
 {
     let mut products = *column;
-    for i in 0..6 {
-        products[i] = product(fields, by, &column[i]);
+    for i in 0..shape.rank {
+        products[i] = product(&shape.fields, shape.count, by, &column[i]);
     }
     products
 }
 
 /// A multiple of the column whose first row that isn't 0 is 1.
-pub fn normalised_column(fields: &Fields, column: &Column) -> Column
-    requires fields { (f : ℕ) → f < 3 → 1 < slice_index fields.now f }
-    requires column { AreColumnCodes fields.now column.now }
-    ensures codes { AreColumnCodes fields.now result }
-    ensures normalised { IsNormalisedFrom fields.now (code column.now) (code result) }
+pub fn normalised_column(shape: &Shape, column: &Column) -> Column
+    requires limits { AreLimits shape.now.fields shape.now.count shape.now.rank shape.now.size }
+    requires column { AreColumnCodes shape.now.fields column.now }
+    ensures codes { AreColumnCodes shape.now.fields result }
+    ensures normalised { IsNormalisedFrom shape.now.fields shape.now.count shape.now.rank (code column.now) (code result) }
 {
-    let p = lead(column, 6);
-    if p == 6 {
-        return multiplied_column(fields, column, &[1, 1, 1]);
+    let p = lead(column, shape.rank);
+    if p == shape.rank {
+        return multiplied_column(shape, column, &[1, 1, 1]);
     }
-    multiplied_column(fields, column, &inverse(fields, &column[p]))
+    multiplied_column(
+        shape,
+        column,
+        &inverse(&shape.fields, shape.count, &column[p]),
+    )
+}
+
+/// The column after a pivot, with each row multiplied, normalised.
+pub fn next_column(
+    shape: &Shape,
+    column: &Column,
+    minus: &Column,
+    p: usize,
+    k: usize,
+    by: &Column,
+) -> Column
+    requires limits { AreLimits shape.now.fields shape.now.count shape.now.rank shape.now.size }
+    requires column { AreColumnCodes shape.now.fields column.now }
+    requires minus { AreColumnCodes shape.now.fields minus.now }
+    requires p { p < shape.now.rank }
+    requires k { k < shape.now.rank }
+    requires by { AreColumnCodes shape.now.fields by.now }
+    ensures codes { AreColumnCodes shape.now.fields result }
+    ensures normalised { IsNormalisedFrom shape.now.fields shape.now.count shape.now.rank
+        (λ f i. times (slice_index shape.now.fields f) (code by.now f i) (cleared_code shape.now.fields p (code minus.now) (code column.now) f (exchange p k i))) (code result) }
+{
+    let pivoted = pivoted_column(shape, column, minus, p, k);
+    normalised_column(shape, &scaled_column(shape, &pivoted, by))
 }
 
 /// The first row before `end` whose first code isn't 0; `end` where there is none.
@@ -145,6 +181,7 @@ pub fn agree_before(count: usize, a: &Column, b: &Column, end: usize) -> bool
 }
 
 /// Whether the codes of the factors are the same.
+#[inline(always)]
 fn same_codes(count: usize, a: &Codes, b: &Codes) -> bool
     requires { count ≤ 3 }
     ensures { (result ≡ true) ↔ ((f : ℕ) → f < count → slice_index a.now f ≡ slice_index b.now f) }

@@ -3,29 +3,29 @@ ghost use Rattle.std.specs.Prelude.{◌≡◌, ◌≢◌, ◌<◌, ◌≤◌, �
 ghost use Rattle.matroid_theory.specs.Field.{times};
 ghost use Rattle.fast_form.specs.Codes.{AreCodes, AreColumnCodes, code};
 ghost use Rattle.fast_form.specs.Groups.{AreGroupFactors, MarksGroups};
-ghost use Rattle.fast_form.specs.States.{AreGroups};
+ghost use Rattle.fast_form.specs.States.{AreGroups, AreLimits};
 
-use crate::codes::{Fields, inverse};
+use crate::codes::inverse;
 use crate::columns::{Column, lead};
+use crate::states::Shape;
 
 /// The group of each row: a number below 6.
 pub type Groups = [u8; 6];
 
 /// For each group the factors that make 1 of its first codes in the column that aren't 0; 1 where there are none.
-pub fn group_factors(fields: &Fields, column: &Column, groups: &Groups, rank: usize) -> Column
-    requires rank { rank ≤ 6 }
-    requires fields { (f : ℕ) → f < 3 → 1 < slice_index fields.now f }
-    requires column { AreColumnCodes fields.now column.now }
+pub fn group_factors(shape: &Shape, column: &Column, groups: &Groups) -> Column
+    requires limits { AreLimits shape.now.fields shape.now.count shape.now.rank shape.now.size }
+    requires column { AreColumnCodes shape.now.fields column.now }
     requires groups { AreGroups groups.now }
-    ensures codes { AreColumnCodes fields.now result }
-    ensures factors { AreGroupFactors fields.now (slice_index groups.now) rank (code column.now) (code result) }
+    ensures codes { AreColumnCodes shape.now.fields result }
+    ensures factors { AreGroupFactors shape.now.fields shape.now.count (slice_index groups.now) shape.now.rank (code column.now) (code result) }
 {
     let mut factors = [[1; 3]; 6];
     let mut seen = [false; 6];
-    for i in 0..rank {
+    for i in 0..shape.rank {
         let group = groups[i] as usize;
         if begins(column[i][0], seen[group]) {
-            factors[group] = inverse(fields, &column[i]);
+            factors[group] = inverse(&shape.fields, shape.count, &column[i]);
             seen[group] = true;
         }
     }

@@ -10,10 +10,11 @@ mod form;
 mod groups;
 mod lists;
 mod numbers;
+mod powers;
 mod search;
 mod start;
 mod states;
 mod steps;
 mod weights;
 
-pub use form::least_of_standard;
+pub use form::{least_form_fast, least_of_standard};

@@ -2,15 +2,19 @@
 ghost use Rattle.std.specs.Prelude.{◌≡◌, ◌≢◌, ◌<◌, ◌≤◌, ◌+◌, ◌∷◌, [], ◌++◌, ◌||◌, ℕ, List, IfSome, length, slice_index, slice_index_or, suc};
 ghost use Rattle.std.specs.Option.{MatchOption};
 ghost use Rattle.matroid_theory.specs.Rep.{size};
-ghost use Rattle.form_search.specs.Trail.{Trail};
-ghost use Rattle.form_search.specs.Search.{IsFrame, IsPlacing, IsThere, Stands, AreOfClass, Improves, Covers};
-ghost use Rattle.fast_form.specs.States.{IsShapeOf, AreColumns, AreGroups, entries_of, AreLeastNumbers, IsLeastOf};
+ghost use Rattle.matroid_theory.specs.Rep.{Rep as Matrices};
+ghost use Rattle.matroid_theory.specs.Move.{Move};
+ghost use Rattle.form_search.specs.Trail.{Trail, ReachesForm, Follows};
+ghost use Rattle.form_search.specs.Search.{IsFrame, IsPlacing, IsThere, IsAtMost, Stands, AreOfClass, Improves, Covers, numbers_of};
+ghost use Rattle.fast_form.specs.States.{IsShapeOf, AreColumns, AreGroups, entries_of, layer_of, rest_of, AreLeastNumbers, IsLeastNumber, IsLeastOf};
+ghost use Rattle.fast_form.specs.Steps.{AreStateCodes};
 
-use crate::lists::{Columns, normalised_columns};
+use crate::lists::{Columns, next_columns, pivoted_columns};
 use crate::numbers::Numbers;
-use crate::states::{Frame, Shape, State};
+use crate::states::{Frame, Row, Shape, State};
 use crate::steps::{
-    chosen, chosen_columns, least_numbers, least_of, next_frame, placed, placed_columns, standing,
+    chosen, gives_up, least_numbers, least_of, next_frame, placed, placed_column, placed_scalars,
+    row_of, standing,
 };
 use product_rep::Rep;
 
@@ -41,9 +45,12 @@ pub fn rows(
     let mut better = false;
     for b in 0..shape.size {
         if frame.there[b] {
-            let after = chosen_columns(rep, shape, k, columns, b);
-            let state = chosen(rep, shape, k, columns, frame, b, &after);
-            let found = place(rep, shape, k, &after, &state, settled, best, abreast);
+            let row = row_of(rep, shape, k, columns, frame, b);
+            let layer = pivoted_columns(shape, columns, &row.class, &row.minus, row.p, k);
+            let state = chosen(rep, shape, k, columns, frame, b, &row, &layer);
+            let found = place(
+                rep, shape, k, columns, &row, &layer, &state, settled, best, abreast,
+            );
             abreast = either(abreast, found);
             better = either(better, found);
         }
@@ -58,6 +65,8 @@ pub fn place(
     shape: &Shape,
     k: usize,
     columns: &Columns,
+    row: &Row,
+    layer: &Columns,
     state: &State,
     settled: &Numbers,
     best: &mut Option<Numbers>,
@@ -65,23 +74,24 @@ pub fn place(
 ) -> bool
     requires shape { IsShapeOf rep.now shape.now.fields shape.now.count shape.now.rank shape.now.size }
     requires row { k < rep.now.rank }
-    requires columns { AreColumns shape.now.fields columns.now }
-    requires groups { AreGroups state.now.groups }
-    requires state { (d : Trail) × IsPlacing rep.now k (slice_index state.now.groups) settled.now (entries_of rep.now columns.now state.now.open) (entries_of rep.now columns.now state.now.rest) d }
+    requires codes { AreStateCodes shape.now.fields shape.now.rank columns.now row.now.p row.now.minus layer.now state.now.scalars state.now.groups }
+    requires state { (d : Trail) × IsPlacing rep.now k (slice_index state.now.groups) settled.now (layer_of rep.now layer.now state.now.scalars state.now.open) (rest_of rep.now k columns.now row.now.p row.now.minus state.now.scalars row.now.rest) d }
     requires sound { IfSome best.old (AreOfClass rep.now) }
     requires stands { Stands level best.old settled.now }
     ensures improves { Improves rep.now best.old best.new settled.now result }
     ensures covers { (d : Trail) →
-        IsPlacing rep.now k (slice_index state.now.groups) settled.now (entries_of rep.now columns.now state.now.open) (entries_of rep.now columns.now state.now.rest) d →
+        IsPlacing rep.now k (slice_index state.now.groups) settled.now (layer_of rep.now layer.now state.now.scalars state.now.open) (rest_of rep.now k columns.now row.now.p row.now.minus state.now.scalars row.now.rest) d →
         Covers rep.now d k (length settled.now) best.new }
 {
-    let numbers = least_numbers(rep, shape, k, columns, state);
-    match least_of(rep, shape, columns, state, &numbers) {
-        None => next_row(rep, shape, k, columns, state, settled, best, level),
+    let numbers = least_numbers(rep, shape, k, columns, row, layer, state);
+    match least_of(rep, shape, layer, state, &numbers) {
+        None => next_row(
+            rep, shape, k, columns, row, layer, state, settled, best, level,
+        ),
         Some(low) => match standing(level, best, settled, low) {
             None => false,
             Some(level) => place_each(
-                rep, shape, k, columns, state, &numbers, low, settled, best, level,
+                rep, shape, k, columns, row, layer, state, &numbers, low, settled, best, level,
             ),
         },
     }
@@ -94,6 +104,8 @@ fn place_each(
     shape: &Shape,
     k: usize,
     columns: &Columns,
+    row: &Row,
+    layer: &Columns,
     state: &State,
     numbers: &[u128; 16],
     low: u128,
@@ -103,16 +115,15 @@ fn place_each(
 ) -> bool
     requires shape { IsShapeOf rep.now shape.now.fields shape.now.count shape.now.rank shape.now.size }
     requires row { k < rep.now.rank }
-    requires columns { AreColumns shape.now.fields columns.now }
-    requires groups { AreGroups state.now.groups }
-    requires state { (d : Trail) × IsPlacing rep.now k (slice_index state.now.groups) settled.now (entries_of rep.now columns.now state.now.open) (entries_of rep.now columns.now state.now.rest) d }
-    requires numbers { AreLeastNumbers rep.now (slice_index state.now.groups) (entries_of rep.now columns.now state.now.open) numbers.now }
-    requires low { IsLeastOf (entries_of rep.now columns.now state.now.open) numbers.now low }
+    requires codes { AreStateCodes shape.now.fields shape.now.rank columns.now row.now.p row.now.minus layer.now state.now.scalars state.now.groups }
+    requires state { (d : Trail) × IsPlacing rep.now k (slice_index state.now.groups) settled.now (layer_of rep.now layer.now state.now.scalars state.now.open) (rest_of rep.now k columns.now row.now.p row.now.minus state.now.scalars row.now.rest) d }
+    requires numbers { AreLeastNumbers rep.now (slice_index state.now.groups) (layer_of rep.now layer.now state.now.scalars state.now.open) numbers.now }
+    requires low { IsLeastOf (layer_of rep.now layer.now state.now.scalars state.now.open) numbers.now low }
     requires sound { IfSome best.old (AreOfClass rep.now) }
     requires stands { (longer : List ℕ) → longer ≡ settled.now ++ low ∷ [] → Stands level best.old longer }
     ensures improves { Improves rep.now best.old best.new settled.now result }
     ensures covers { (d : Trail) →
-        IsPlacing rep.now k (slice_index state.now.groups) settled.now (entries_of rep.now columns.now state.now.open) (entries_of rep.now columns.now state.now.rest) d →
+        IsPlacing rep.now k (slice_index state.now.groups) settled.now (layer_of rep.now layer.now state.now.scalars state.now.open) (rest_of rep.now k columns.now row.now.p row.now.minus state.now.scalars row.now.rest) d →
         Covers rep.now d k (length settled.now) best.new }
 {
     let longer = settled.followed_by(low);
@@ -120,14 +131,56 @@ fn place_each(
     let mut better = false;
     for e in 0..shape.size {
         if state.open[e] && numbers[e] == low {
-            let after = placed_columns(rep, shape, columns, &state.groups, e);
-            let next = placed(rep, shape, k, columns, state, e, &after);
-            let found = place(rep, shape, k, &after, &next, &longer, best, abreast);
+            let found = place_one(
+                rep, shape, k, columns, row, layer, state, e, low, settled, &longer, best, abreast,
+            );
             abreast = either(abreast, found);
             better = either(better, found);
         }
     }
     better
+}
+
+/// Places an open element that has the least number, and then the others.
+#[cycle(search)]
+fn place_one(
+    rep: &Rep,
+    shape: &Shape,
+    k: usize,
+    columns: &Columns,
+    row: &Row,
+    layer: &Columns,
+    state: &State,
+    e: usize,
+    low: u128,
+    settled: &Numbers,
+    longer: &Numbers,
+    best: &mut Option<Numbers>,
+    level: bool,
+) -> bool
+    requires shape { IsShapeOf rep.now shape.now.fields shape.now.count shape.now.rank shape.now.size }
+    requires row { k < rep.now.rank }
+    requires codes { AreStateCodes shape.now.fields shape.now.rank columns.now row.now.p row.now.minus layer.now state.now.scalars state.now.groups }
+    requires state { (d : Trail) × IsPlacing rep.now k (slice_index state.now.groups) settled.now (layer_of rep.now layer.now state.now.scalars state.now.open) (rest_of rep.now k columns.now row.now.p row.now.minus state.now.scalars row.now.rest) d }
+    requires element { IsThere (layer_of rep.now layer.now state.now.scalars state.now.open) e }
+    requires number { IsLeastNumber rep.now (slice_index state.now.groups) (λ f i. (layer_of rep.now layer.now state.now.scalars state.now.open).codes e f i) low }
+    requires longer { longer.now ≡ settled.now ++ low ∷ [] }
+    requires sound { IfSome best.old (AreOfClass rep.now) }
+    requires stands { Stands level best.old longer.now }
+    ensures improves { Improves rep.now best.old best.new longer.now result }
+    ensures covers { (d : Trail) →
+        IsPlacing rep.now k (slice_index state.now.groups) settled.now (layer_of rep.now layer.now state.now.scalars state.now.open) (rest_of rep.now k columns.now row.now.p row.now.minus state.now.scalars row.now.rest) d →
+        (m : Move) (N : Matrices) → ReachesForm rep.now m N → Follows rep.now d k (length settled.now) m → m.label (rep.now.rank + length settled.now) ≡ e →
+        IsAtMost best.new (numbers_of rep.now N) }
+{
+    let column = placed_column(shape, layer, state, e);
+    let scalars = placed_scalars(shape, state, &column);
+    let next = placed(
+        rep, shape, k, columns, row, layer, state, e, &column, &scalars,
+    );
+    place(
+        rep, shape, k, columns, row, layer, &next, longer, best, level,
+    )
 }
 
 /// Goes on to the row before row `k`, where no element is open.
@@ -137,6 +190,8 @@ fn next_row(
     shape: &Shape,
     k: usize,
     columns: &Columns,
+    row: &Row,
+    layer: &Columns,
     state: &State,
     settled: &Numbers,
     best: &mut Option<Numbers>,
@@ -144,22 +199,32 @@ fn next_row(
 ) -> bool
     requires shape { IsShapeOf rep.now shape.now.fields shape.now.count shape.now.rank shape.now.size }
     requires row { k < rep.now.rank }
-    requires columns { AreColumns shape.now.fields columns.now }
-    requires groups { AreGroups state.now.groups }
-    requires state { (d : Trail) × IsPlacing rep.now k (slice_index state.now.groups) settled.now (entries_of rep.now columns.now state.now.open) (entries_of rep.now columns.now state.now.rest) d }
-    requires none { (e : ℕ) → IsThere (entries_of rep.now columns.now state.now.open) e → ⊥ }
+    requires codes { AreStateCodes shape.now.fields shape.now.rank columns.now row.now.p row.now.minus layer.now state.now.scalars state.now.groups }
+    requires state { (d : Trail) × IsPlacing rep.now k (slice_index state.now.groups) settled.now (layer_of rep.now layer.now state.now.scalars state.now.open) (rest_of rep.now k columns.now row.now.p row.now.minus state.now.scalars row.now.rest) d }
+    requires none { (e : ℕ) → IsThere (layer_of rep.now layer.now state.now.scalars state.now.open) e → ⊥ }
     requires sound { IfSome best.old (AreOfClass rep.now) }
     requires stands { Stands level best.old settled.now }
     ensures improves { Improves rep.now best.old best.new settled.now result }
     ensures covers { (d : Trail) →
-        IsPlacing rep.now k (slice_index state.now.groups) settled.now (entries_of rep.now columns.now state.now.open) (entries_of rep.now columns.now state.now.rest) d →
+        IsPlacing rep.now k (slice_index state.now.groups) settled.now (layer_of rep.now layer.now state.now.scalars state.now.open) (rest_of rep.now k columns.now row.now.p row.now.minus state.now.scalars row.now.rest) d →
         Covers rep.now d k (length settled.now) best.new }
 {
-    if k == 0 {
-        return keep(rep, shape, columns, state, settled, best, level);
+    if gives_up(shape, k, best, settled, level) {
+        return false;
     }
-    let after = normalised_columns(&shape.fields, columns);
-    let frame = next_frame(rep, shape, k, columns, state, &after);
+    if k == 0 {
+        return keep(rep, shape, columns, row, layer, state, settled, best, level);
+    }
+    let after = next_columns(
+        shape,
+        columns,
+        &row.rest,
+        &row.minus,
+        row.p,
+        k,
+        &state.scalars,
+    );
+    let frame = next_frame(rep, shape, k, columns, row, layer, state, &after);
     rows(rep, shape, k - 1, &after, &frame, settled, best, level)
 }
 
@@ -168,19 +233,21 @@ fn keep(
     rep: &Rep,
     shape: &Shape,
     columns: &Columns,
+    row: &Row,
+    layer: &Columns,
     state: &State,
     settled: &Numbers,
     best: &mut Option<Numbers>,
     level: bool,
 ) -> bool
     requires shape { IsShapeOf rep.now shape.now.fields shape.now.count shape.now.rank shape.now.size }
-    requires state { (d : Trail) × IsPlacing rep.now 0 (slice_index state.now.groups) settled.now (entries_of rep.now columns.now state.now.open) (entries_of rep.now columns.now state.now.rest) d }
-    requires none { (e : ℕ) → IsThere (entries_of rep.now columns.now state.now.open) e → ⊥ }
+    requires state { (d : Trail) × IsPlacing rep.now 0 (slice_index state.now.groups) settled.now (layer_of rep.now layer.now state.now.scalars state.now.open) (rest_of rep.now 0 columns.now row.now.p row.now.minus state.now.scalars row.now.rest) d }
+    requires none { (e : ℕ) → IsThere (layer_of rep.now layer.now state.now.scalars state.now.open) e → ⊥ }
     requires sound { IfSome best.old (AreOfClass rep.now) }
     requires stands { Stands level best.old settled.now }
     ensures improves { Improves rep.now best.old best.new settled.now result }
     ensures covers { (d : Trail) →
-        IsPlacing rep.now 0 (slice_index state.now.groups) settled.now (entries_of rep.now columns.now state.now.open) (entries_of rep.now columns.now state.now.rest) d →
+        IsPlacing rep.now 0 (slice_index state.now.groups) settled.now (layer_of rep.now layer.now state.now.scalars state.now.open) (rest_of rep.now 0 columns.now row.now.p row.now.minus state.now.scalars row.now.rest) d →
         Covers rep.now d 0 (length settled.now) best.new }
 {
     if level {

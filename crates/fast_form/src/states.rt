@@ -1,5 +1,6 @@
 // The states of the search, beside their columns.
 use crate::codes::Fields;
+use crate::columns::Column;
 use crate::groups::Groups;
 use crate::lists::Marks;
 
@@ -19,10 +20,20 @@ pub struct Frame {
     pub groups: Groups,
 }
 
-/// The same where an element is chosen for the next row: the open elements of the flat, and the elements outside.
+/// An element chosen for the next row: the first row `p` where its column isn't 0, the negative of its column, the elements that
+/// it brings into the flat, and those that stay outside.
+#[derive(Drop)]
+pub struct Row {
+    pub p: usize,
+    pub minus: Column,
+    pub class: Marks,
+    pub rest: Marks,
+}
+
+/// What changes while the elements of the flat are placed: those that are open, what each row is multiplied by, and the groups.
 #[derive(Drop)]
 pub struct State {
     pub open: Marks,
-    pub rest: Marks,
+    pub scalars: Column,
     pub groups: Groups,
 }

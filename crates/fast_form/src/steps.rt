@@ -1,35 +1,37 @@
 // The steps of the search: from a frame to a state, from a state to the next, and to the next frame. The columns of each come first.
-ghost use Rattle.std.specs.Prelude.{◌≡◌, ◌≢◌, ◌<◌, ◌≤◌, ◌+◌, ◌∷◌, [], ◌++◌, ℕ, List, IfSome, IfNone, length, slice_index, slice_index_or, true, false};
+ghost use Rattle.std.specs.Prelude.{◌≡◌, ◌≢◌, ◌<◌, ◌≤◌, ◌+◌, ◌-◌, ◌*◌, ◌^◌, ◌∷◌, [], ◌++◌, ℕ, List, IfSome, IfNone, length, slice_index, slice_index_or, true, false};
 ghost use Rattle.std.specs.Option.{MatchOption};
+ghost use Rattle.matroid_theory.specs.Field.{times};
 ghost use Rattle.form_search.specs.Trail.{Trail};
 ghost use Rattle.form_search.specs.Search.{IsPlacing, IsThere, Stands};
-ghost use Rattle.fast_form.specs.Codes.{code, IsNormalisedFrom};
-ghost use Rattle.fast_form.specs.States.{IsShapeOf, AreColumns, AreGroups, entries_of, AreLeastNumbers, IsLeastOf, marked};
-ghost use Rattle.fast_form.specs.Steps.{ArePivoted, AreScaled, Chooses, Places, Leads};
+ghost use Rattle.fast_form.specs.Codes.{AreColumnCodes, code};
+ghost use Rattle.fast_form.specs.States.{IsShapeOf, AreLimits, AreColumns, AreGroups, entries_of, layer_of, rest_of, AreLeastNumbers, IsLeastOf, marked};
+ghost use Rattle.fast_form.specs.Steps.{IsRow, ArePivoted, AreNext, AreStateCodes, AreScaled, Chooses, Places, Leads};
 
-use crate::columns::{lead, negative_column};
-use crate::groups::{Groups, group_factors, row_factors, tied_groups};
-use crate::lists::{
-    Columns, heads, least_marked, marked_numbers, other_heads, pivoted_columns, scaled_columns,
-    without,
-};
+use crate::columns::{Column, lead, negative_column, scaled_column};
+use crate::groups::{group_factors, row_factors, tied_groups};
+use crate::lists::{Columns, heads, least_marked, marked_numbers, other_heads, without};
 use crate::numbers::Numbers;
-use crate::states::{Frame, Shape, State};
+use crate::states::{Frame, Row, Shape, State};
 use product_rep::Rep;
 
-/// The columns after element `b` is chosen for row `k`.
-pub fn chosen_columns(rep: &Rep, shape: &Shape, k: usize, columns: &Columns, b: usize) -> Columns
+/// Element `b` as that of row `k`.
+pub fn row_of(rep: &Rep, shape: &Shape, k: usize, columns: &Columns, frame: &Frame, b: usize) -> Row
     requires shape { IsShapeOf rep.now shape.now.fields shape.now.count shape.now.rank shape.now.size }
     requires row { k < rep.now.rank }
     requires columns { AreColumns shape.now.fields columns.now }
     requires element { b < 16 }
     requires led { (i : ℕ) × (i ≤ k) × (code (slice_index_or columns.now b []) 0 i ≢ 0) }
-    ensures codes { AreColumns shape.now.fields result }
-    ensures pivoted { ArePivoted shape.now.fields k columns.now b result }
+    ensures { IsRow shape.now.fields shape.now.count shape.now.rank shape.now.size k columns.now frame.now.there b result.p result.minus result.class result.rest }
 {
-    let p = lead(&columns[b], k + 1);
-    let minus = negative_column(&shape.fields, &columns[b]);
-    pivoted_columns(&shape.fields, columns, &minus, p, k)
+    let class = heads(shape, columns, &frame.there, &columns[b], k + 1, b);
+    let rest = other_heads(shape, columns, &frame.there, &columns[b], k + 1, b, &class);
+    Row {
+        p: lead(&columns[b], k + 1),
+        minus: negative_column(shape, &columns[b]),
+        class,
+        rest,
+    }
 }
 
 /// The state after element `b` is chosen for row `k`.
@@ -40,43 +42,53 @@ pub fn chosen(
     columns: &Columns,
     frame: &Frame,
     b: usize,
-    after: &Columns,
+    row: &Row,
+    layer: &Columns,
 ) -> State
     requires shape { IsShapeOf rep.now shape.now.fields shape.now.count shape.now.rank shape.now.size }
     requires row { k < rep.now.rank }
     requires columns { AreColumns shape.now.fields columns.now }
     requires groups { AreGroups frame.now.groups }
     requires element { IsThere (entries_of rep.now columns.now frame.now.there) b }
-    requires pivoted { ArePivoted shape.now.fields k columns.now b after.now }
-    ensures groups { AreGroups result.groups }
+    requires chosen { IsRow shape.now.fields shape.now.count shape.now.rank shape.now.size k columns.now frame.now.there b row.now.p row.now.minus row.now.class row.now.rest }
+    requires layer { AreColumns shape.now.fields layer.now }
+    requires pivoted { ArePivoted shape.now.fields shape.now.count shape.now.rank shape.now.size k columns.now row.now.p row.now.minus row.now.class layer.now }
+    ensures codes { AreStateCodes shape.now.fields shape.now.rank columns.now row.now.p row.now.minus layer.now result.scalars result.groups }
     ensures few { marked result.open ≤ 16 }
-    ensures chooses { Chooses rep.now k columns.now frame.now.there frame.now.groups b after.now result.open result.rest result.groups }
+    ensures chooses { Chooses rep.now k (entries_of rep.now columns.now frame.now.there) frame.now.groups b
+        (layer_of rep.now layer.now result.scalars result.open) (rest_of rep.now k columns.now row.now.p row.now.minus result.scalars row.now.rest) result.groups }
 {
     State {
-        open: heads(shape.count, columns, &frame.there, &columns[b], k + 1, b),
-        rest: other_heads(shape.count, columns, &frame.there, &columns[b], k + 1, b),
+        open: row.class,
+        scalars: [[1; 3]; 6],
         groups: frame.groups,
     }
 }
 
-/// The columns after open element `e` is placed.
-pub fn placed_columns(
-    rep: &Rep,
-    shape: &Shape,
-    columns: &Columns,
-    groups: &Groups,
-    e: usize,
-) -> Columns
-    requires shape { IsShapeOf rep.now shape.now.fields shape.now.count shape.now.rank shape.now.size }
-    requires columns { AreColumns shape.now.fields columns.now }
-    requires groups { AreGroups groups.now }
+/// The column of element `e` with its rows multiplied.
+pub fn placed_column(shape: &Shape, layer: &Columns, state: &State, e: usize) -> Column
+    requires limits { AreLimits shape.now.fields shape.now.count shape.now.rank shape.now.size }
+    requires layer { AreColumns shape.now.fields layer.now }
+    requires scalars { AreColumnCodes shape.now.fields state.now.scalars }
     requires element { e < 16 }
-    ensures codes { AreColumns shape.now.fields result }
-    ensures scaled { AreScaled shape.now.fields (slice_index groups.now) shape.now.rank columns.now e result }
+    ensures codes { AreColumnCodes shape.now.fields result }
+    ensures products { (f i : ℕ) → f < shape.now.count → i < shape.now.rank →
+        code result f i ≡ times (slice_index shape.now.fields f) (code state.now.scalars f i) (code (slice_index_or layer.now e []) f i) }
 {
-    let factors = group_factors(&shape.fields, &columns[e], groups, shape.rank);
-    let rows = row_factors(&factors, groups);
-    scaled_columns(&shape.fields, columns, &rows)
+    scaled_column(shape, &layer[e], &state.scalars)
+}
+
+/// The scalars after an open element with this column is placed.
+pub fn placed_scalars(shape: &Shape, state: &State, column: &Column) -> Column
+    requires limits { AreLimits shape.now.fields shape.now.count shape.now.rank shape.now.size }
+    requires column { AreColumnCodes shape.now.fields column.now }
+    requires scalars { AreColumnCodes shape.now.fields state.now.scalars }
+    requires groups { AreGroups state.now.groups }
+    ensures codes { AreColumnCodes shape.now.fields result }
+    ensures scaled { AreScaled shape.now.fields shape.now.count (slice_index state.now.groups) shape.now.rank (code column.now) state.now.scalars result }
+{
+    let factors = group_factors(shape, column, &state.groups);
+    scaled_column(shape, &state.scalars, &row_factors(&factors, &state.groups))
 }
 
 /// The state after open element `e` is placed.
@@ -85,44 +97,54 @@ pub fn placed(
     shape: &Shape,
     k: usize,
     columns: &Columns,
+    row: &Row,
+    layer: &Columns,
     state: &State,
     e: usize,
-    after: &Columns,
+    column: &Column,
+    scalars: &Column,
 ) -> State
     requires shape { IsShapeOf rep.now shape.now.fields shape.now.count shape.now.rank shape.now.size }
     requires row { k < rep.now.rank }
-    requires columns { AreColumns shape.now.fields columns.now }
-    requires groups { AreGroups state.now.groups }
-    requires element { IsThere (entries_of rep.now columns.now state.now.open) e }
-    requires scaled { AreScaled shape.now.fields (slice_index state.now.groups) shape.now.rank columns.now e after.now }
-    ensures groups { AreGroups result.groups }
+    requires codes { AreStateCodes shape.now.fields shape.now.rank columns.now row.now.p row.now.minus layer.now state.now.scalars state.now.groups }
+    requires element { IsThere (layer_of rep.now layer.now state.now.scalars state.now.open) e }
+    requires products { (f i : ℕ) → f < shape.now.count → i < shape.now.rank →
+        code column.now f i ≡ times (slice_index shape.now.fields f) (code state.now.scalars f i) (code (slice_index_or layer.now e []) f i) }
+    requires scalars { AreColumnCodes shape.now.fields scalars.now }
+    requires scaled { AreScaled shape.now.fields shape.now.count (slice_index state.now.groups) shape.now.rank (code column.now) state.now.scalars scalars.now }
+    ensures codes { AreStateCodes shape.now.fields shape.now.rank columns.now row.now.p row.now.minus layer.now result.scalars result.groups }
     ensures fewer { marked result.open < marked state.now.open }
-    ensures places { Places rep.now k columns.now state.now.open state.now.rest state.now.groups e after.now result.open result.rest result.groups }
+    ensures places { Places rep.now k state.now.groups
+        (layer_of rep.now layer.now state.now.scalars state.now.open) (rest_of rep.now k columns.now row.now.p row.now.minus state.now.scalars row.now.rest) e
+        (layer_of rep.now layer.now result.scalars result.open) (rest_of rep.now k columns.now row.now.p row.now.minus result.scalars row.now.rest) result.groups }
 {
     State {
         open: without(&state.open, e),
-        rest: state.rest,
-        groups: tied_groups(&columns[e], &state.groups, shape.rank),
+        scalars: *scalars,
+        groups: tied_groups(column, &state.groups, shape.rank),
     }
 }
 
-/// The frame of the elements outside, with these columns normalised.
+/// The frame of the elements outside, with these columns.
 pub fn next_frame(
     rep: &Rep,
     shape: &Shape,
     k: usize,
     columns: &Columns,
+    row: &Row,
+    layer: &Columns,
     state: &State,
     after: &Columns,
 ) -> Frame
     requires shape { IsShapeOf rep.now shape.now.fields shape.now.count shape.now.rank shape.now.size }
     requires row { k < rep.now.rank }
-    requires normalised { (e : ℕ) → e < 16 → IsNormalisedFrom shape.now.fields (code (slice_index_or columns.now e [])) (code (slice_index_or after.now e [])) }
+    requires next { AreNext shape.now.fields shape.now.count shape.now.rank shape.now.size k columns.now row.now.p row.now.minus state.now.scalars row.now.rest after.now }
     ensures groups { result.groups ≡ state.now.groups }
-    ensures leads { Leads rep.now k columns.now state.now.open state.now.rest state.now.groups after.now result.there }
+    ensures leads { Leads rep.now k state.now.groups (layer_of rep.now layer.now state.now.scalars state.now.open)
+        (rest_of rep.now k columns.now row.now.p row.now.minus state.now.scalars row.now.rest) (entries_of rep.now after.now result.there) }
 {
     Frame {
-        there: state.rest,
+        there: row.rest,
         groups: state.groups,
     }
 }
@@ -133,29 +155,31 @@ pub fn least_numbers(
     shape: &Shape,
     k: usize,
     columns: &Columns,
+    row: &Row,
+    layer: &Columns,
     state: &State,
 ) -> [u128; 16]
     requires shape { IsShapeOf rep.now shape.now.fields shape.now.count shape.now.rank shape.now.size }
-    requires columns { AreColumns shape.now.fields columns.now }
-    requires groups { AreGroups state.now.groups }
+    requires codes { AreStateCodes shape.now.fields shape.now.rank columns.now row.now.p row.now.minus layer.now state.now.scalars state.now.groups }
     ensures { (d : Trail) (settled : List ℕ) →
-        IsPlacing rep.now k (slice_index state.now.groups) settled (entries_of rep.now columns.now state.now.open) (entries_of rep.now columns.now state.now.rest) d →
-        AreLeastNumbers rep.now (slice_index state.now.groups) (entries_of rep.now columns.now state.now.open) result }
+        IsPlacing rep.now k (slice_index state.now.groups) settled (layer_of rep.now layer.now state.now.scalars state.now.open)
+        (rest_of rep.now k columns.now row.now.p row.now.minus state.now.scalars row.now.rest) d →
+        AreLeastNumbers rep.now (slice_index state.now.groups) (layer_of rep.now layer.now state.now.scalars state.now.open) result }
 {
-    marked_numbers(shape, columns, &state.open, &state.groups)
+    marked_numbers(shape, layer, &state.open, &state.scalars, &state.groups)
 }
 
 /// The least of the numbers of open elements; none where none is open.
 pub fn least_of(
     rep: &Rep,
     shape: &Shape,
-    columns: &Columns,
+    layer: &Columns,
     state: &State,
     numbers: &[u128; 16],
 ) -> Option<u128>
     requires shape { IsShapeOf rep.now shape.now.fields shape.now.count shape.now.rank shape.now.size }
-    ensures { MatchOption result ((e : ℕ) → IsThere (entries_of rep.now columns.now state.now.open) e → ⊥)
-        (λ low. IsLeastOf (entries_of rep.now columns.now state.now.open) numbers.now low) }
+    ensures { MatchOption result ((e : ℕ) → IsThere (layer_of rep.now layer.now state.now.scalars state.now.open) e → ⊥)
+        (λ low. IsLeastOf (layer_of rep.now layer.now state.now.scalars state.now.open) numbers.now low) }
 {
     least_marked(&state.open, numbers, shape.size)
 }
@@ -178,4 +202,34 @@ pub fn standing(level: bool, best: &Option<Numbers>, settled: &Numbers, low: u12
             if next < low { None } else { Some(next == low) }
         }
     }
+}
+
+/// Whether what was found has a next number, of a column that is zero in the rows before row `k`, where none is open.
+pub fn gives_up(
+    shape: &Shape,
+    k: usize,
+    best: &Option<Numbers>,
+    settled: &Numbers,
+    level: bool,
+) -> bool
+    requires limits { AreLimits shape.now.fields shape.now.count shape.now.rank shape.now.size }
+    requires row { k < shape.now.rank }
+    ensures was_level { result ≡ true → level ≡ true }
+    ensures within { result ≡ true → MatchOption best.now ⊥ (λ least.
+        (length settled.now < length least) × (slice_index least (length settled.now) < 16 ^ ((shape.now.rank - k) * shape.now.count))) }
+{
+    match best {
+        Some(least) if level && settled.len() < least.len() => {
+            is_within(least.get(settled.len()), (shape.rank - k) * shape.count)
+        }
+        _ => false,
+    }
+}
+
+/// Whether the number has no more digits in base 16 than these.
+fn is_within(number: u128, digits: usize) -> bool
+    requires { digits ≤ 18 }
+    ensures { result ≡ true → number < 16 ^ digits }
+{
+    number >> (4 * digits) == 0
 }

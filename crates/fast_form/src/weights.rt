@@ -22,6 +22,7 @@ pub fn number(column: &Column, count: usize, rank: usize) -> u128
 }
 
 /// The number with the digits of a row added.
+#[inline(always)]
 fn weigh(number: u128, codes: &Codes, count: usize) -> u128
     requires low { 1 ≤ count }
     requires high { count ≤ 3 }

@@ -6,6 +6,6 @@ use Rattle.fast_form.proofs.columns.negative_column.Given as goal
 abbrev pub invariant-loop-i : goal.invariant-loop-i
 invariant-loop-i l = record {
   size : length l.negatives ≡ 6;
-  codes : AreColumnCodes l.fields l.negatives;
-  zeros : (j : ℕ) → j < l.i → (f : ℕ) → f < 3 → plus (slice_index l.fields f) (code l.column f j) (code l.negatives f j) ≡ 0;
+  codes : AreColumnCodes l.shape.fields l.negatives;
+  zeros : (j : ℕ) → j < l.i → (f : ℕ) → f < l.shape.count → plus (slice_index l.shape.fields f) (code l.column f j) (code l.negatives f j) ≡ 0;
 }

@@ -17,14 +17,15 @@ three P a b c f l = elim (cases_lt f 1) [
   | inr q ↦ elim (cases_lt f 2) [ inl r ↦ (let e : 1 ≡ f = omega arith in subst P e b) | inr r ↦ (let e : 2 ≡ f = omega arith in subst P e c) ]
 ]
 
-pub returns-then-p-eq6-clause-normalised : goal.returns-then-p-eq6-clause-normalised
-returns-then-p-eq6-clause-normalised c = record {
+pub returns-then-p-shape-clause-normalised : goal.returns-then-p-shape-clause-normalised
+returns-then-p-shape-clause-normalised c = record {
   multiple = λ _. 1;
-  multiple_code = λ f l. c.requires.fields f l;
+  multiple_code = λ f l. c.requires.limits.scalars f l;
   multiple_nonzero = λ f l e. absurd (omega arith);
   multiples = λ f i l b. c.multiplied_column.ensures.products f i l b
-      ∙ three (λ f. times (slice_index c.args.fields.now f) (slice_index (1 ∷ (1 ∷ (1 ∷ []))) f) (code c.args.column.now f i) ≡ times (slice_index c.args.fields.now f) 1 (code c.args.column.now f i)) refl refl refl f l;
-  leads = λ p b z n. absurd (n (c.lead-p.ensures.zeros p (omega (arith, c.if-p-eq6.true))));
+      ∙ three (λ f. times (slice_index c.args.shape.now.fields f) (slice_index (1 ∷ (1 ∷ (1 ∷ []))) f) (code c.args.column.now f i) ≡ times (slice_index c.args.shape.now.fields f) 1 (code c.args.column.now f i)) refl refl refl
+      f (omega (arith, c.requires.limits.few));
+  leads = λ p b z n. absurd (n (c.lead-p.ensures.zeros p (omega (arith, c.if-p-shape.true))));
 }
 
 pub returns-clause-normalised : goal.returns-clause-normalised
@@ -34,8 +35,8 @@ returns-clause-normalised c = record {
   multiple_nonzero = c.inverse.ensures.nonzero;
   multiples = λ f i l b. c.multiplied_column-2.ensures.products f i l b;
   leads = λ p b z n f l m.
-      (let e : c.lead-p.result ≡ p = same_lead (code c.args.column.now 0) c.lead-p.result p c.lead-p.ensures.zeros (c.lead-p.ensures.nonzero (omega (arith, c.if-p-eq6.false, c.lead-p.ensures.within))) z n in
+      (let e : c.lead-p.result ≡ p = same_lead (code c.args.column.now 0) c.lead-p.result p c.lead-p.ensures.zeros (c.lead-p.ensures.nonzero (omega (arith, c.if-p-shape.false, c.lead-p.ensures.within))) z n in
       c.multiplied_column-2.ensures.products f p l b
-      ∙ ap (λ q. times (slice_index c.args.fields.now f) (slice_index c.inverse.result f) (code c.args.column.now f q)) (sym e)
+      ∙ ap (λ q. times (slice_index c.args.shape.now.fields f) (slice_index c.inverse.result f) (code c.args.column.now f q)) (sym e)
       ∙ c.inverse.ensures.ones f l (λ o. m (ap (code c.args.column.now f) (sym e) ∙ o)));
 }

@@ -1,15 +1,9 @@
-use Rattle.std.proofs.Common.{◌≡◌, ◌<◌, ◌+◌, ◌-◌, ◌*◌, ◌/◌, ◌%◌, ◌^◌, ◌∷◌, [], ◌++◌, ℕ, zero, suc, List, inl, inr, refl, length, length-append, slice_index, sym, ◌∙◌, ap, arith}
+use Rattle.std.proofs.Common.{◌≡◌, ◌<◌, ◌+◌, ◌-◌, ◌*◌, ◌/◌, ◌%◌, ◌^◌, ◌∷◌, [], ◌++◌, ℕ, List, inl, inr, length, length-append, slice_index, sym, ◌∙◌, ap, arith}
 use Rattle.std.proofs.lemmas.Bool.{cases_lt}
-use Rattle.std.proofs.lemmas.Nat.{pow-add}
 use Rattle.std.proofs.Math.Seq.{get_or-append_seam}
 use Rattle.std.proofs.Math.ListN.{get_or-append}
+use Rattle.fast_form.proofs.Powers.{sixteens}
 use Rattle.fast_form.proofs.form.digits_of.Goals as goal
-
-sixteens : (m : ℕ) → 2 ^ (4 * m) ≡ 16 ^ m
-sixteens zero = refl
-sixteens (suc m) =
-    let e : 4 * suc m ≡ 4 * m + 4 = omega arith in
-    ap (λ k. 2 ^ k) e ∙ pow-add 2 (4 * m) 4 ∙ ap (λ k. k * 16) (sixteens m) ∙ sym (pow-add 16 m 1) ∙ ap (λ k. 16 ^ k) (let e : m + 1 ≡ suc m = omega arith in e)
 
 -- one more digit at the end
 one_more : (number width e : ℕ) (items longer : List ℕ) → longer ≡ items ++ (number / 2 ^ (4 * (width - 1 - e)) % 16) ∷ [] → length items ≡ e

@@ -21,7 +21,7 @@ push_column-requires-clause-room c =
     let l : size c.loop-j.form < size c.args.rep.now =
     part_room c.args.rep.now c.args.numbers.now (some _ _ _ _ _ c.requires.shape) c.loop-j.j c.loop-j.form c.loop-j.invariant (omega (arith, c.loop-j-test.true, c.len-j-end.ensures.count)) c.digits_of.result.items
     (c.args.shape.now.rank * c.args.shape.now.count) (width_is _ _ _ _ _ c.requires.shape) c.digits_of.ensures.rows (digits_are c.get.result _ _ c.digits_of.result.items c.get.ensures c.digits_of.ensures.digits) in
-    omega (arith, c.requires.shape.total_is, c.requires.shape.sixteen)
+    omega (arith, c.requires.shape.total_is, c.requires.shape.limits.sixteen)
 
 pub push_column-requires-clause-column : goal.push_column-requires-clause-column
 push_column-requires-clause-column c =

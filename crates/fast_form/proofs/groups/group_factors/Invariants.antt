@@ -7,6 +7,6 @@ abbrev pub invariant-loop-i : goal.invariant-loop-i
 invariant-loop-i l = record {
   size : length l.factors ≡ 6;
   marks : length l.seen ≡ 6;
-  codes : AreColumnCodes l.fields l.factors;
-  so_far : AreFactorsSoFar l.fields (slice_index l.groups) l.i (code l.column) l.seen (code l.factors);
+  codes : AreColumnCodes l.shape.fields l.factors;
+  so_far : AreFactorsSoFar l.shape.fields l.shape.count (slice_index l.groups) l.i (code l.column) l.seen (code l.factors);
 }

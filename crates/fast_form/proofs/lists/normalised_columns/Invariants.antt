@@ -6,6 +6,6 @@ use Rattle.fast_form.proofs.lists.normalised_columns.Given as goal
 abbrev pub invariant-loop-e : goal.invariant-loop-e
 invariant-loop-e l = record {
   size : length l.normalised ≡ 16;
-  codes : AreColumns l.fields l.normalised;
-  rows : (j : ℕ) → j < l.e → IsNormalisedFrom l.fields (code (slice_index_or l.columns j [])) (code (slice_index_or l.normalised j []));
+  codes : AreColumns l.shape.fields l.normalised;
+  rows : (j : ℕ) → j < l.e → IsNormalisedFrom l.shape.fields l.shape.count l.shape.rank (code (slice_index_or l.columns j [])) (code (slice_index_or l.normalised j []));
 }

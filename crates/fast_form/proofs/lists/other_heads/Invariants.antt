@@ -5,5 +5,5 @@ use Rattle.fast_form.proofs.lists.other_heads.Given as goal
 abbrev pub invariant-loop-e : goal.invariant-loop-e
 invariant-loop-e l = record {
   size : length l.marks ≡ 16;
-  each : (j : ℕ) → j < l.e → (slice_index_or l.marks j false ≡ true) ↔ HasOtherHead l.count l.columns l.there l.base l.end l.b j;
+  each : (j : ℕ) → j < l.e → (slice_index_or l.marks j false ≡ true) ↔ HasOtherHead l.shape.count l.columns l.there l.base l.end l.b j;
 }

@@ -1,10 +1,13 @@
-use Rattle.std.proofs.Common.{◌≡◌, ℕ, suc, ◌+◌, ◌<◌, [], List, Bool, slice_index, slice_index_or, zero, sym, ◌∙◌, subst, arith}
-use Rattle.form_search.specs.Search.{Stands, IsPlacing, IsThere}
-use Rattle.fast_form.specs.States.{entries_of, IsLeastNumber}
-use Rattle.fast_form.specs.Codes.{code}
+use Rattle.std.proofs.Common.{◌≡◌, ℕ, suc, ◌+◌, ◌-◌, ◌*◌, ◌^◌, ◌<◌, [], List, Bool, length, slice_index, slice_index_or, zero, sym, ◌∙◌, subst, arith}
+use Rattle.std.specs.Option.{MatchOption}
 use Rattle.std.specs.Prelude.{◌||◌}
 use mathlib.Core.Bool.{true≢false}
-use Rattle.fast_form.proofs.Covering.{all_tried, all_branched, branched_improves, above_covers, standing_room, tried_same, branched_same, more_tried, not_there, more_branched, other_branched}
+use Rattle.matroid_theory.specs.Field.{times}
+use Rattle.matroid_theory.specs.Rep.{count, order}
+use Rattle.form_search.specs.Search.{Stands, IsPlacing, IsThere}
+use Rattle.fast_form.specs.States.{layer_of, rest_of, IsLeastNumber}
+use Rattle.fast_form.specs.Codes.{code}
+use Rattle.fast_form.proofs.Covering.{all_tried, all_branched, branched_improves, above_covers, beyond_covers, one_covers, standing_room, tried_same, branched_same, more_tried, not_there, more_branched, other_branched}
 use Rattle.fast_form.proofs.search.+search.Goals as goal
 use Rattle.fast_form.proofs.search.+search.Goals.{rows-then-frame-b, rows-else-frame-b, place_each-then-state-e+then-numbers-e, place_each-else-state-e, place_each-else-state-e-via-then-state-e+else-numbers-e, place_each-else-state-e-via-else-state-e}
 
@@ -20,53 +23,79 @@ pub rows-place-found-requires : goal.rows-place-found-requires
 rows-place-found-requires t c =
     let (d, h) = c.requires.state in
     let (e, p, g) = c.chosen-state.ensures.chooses d c.args.settled.now h in
-    (omega (arith, c.chosen-state.ensures.few), (c.requires.shape, (c.requires.row, (c.chosen_columns-after.ensures.codes, (c.chosen-state.ensures.groups, ((e, p), (c.loop-b.invariant.improves.sound, c.loop-b.invariant.stands)))))))
+    (omega (arith, c.chosen-state.ensures.few), (c.requires.shape, (c.requires.row, (c.chosen-state.ensures.codes, ((e, p), (c.loop-b.invariant.improves.sound, c.loop-b.invariant.stands))))))
+
+pub rows-row_of-row-requires-clause-led : goal.rows-row_of-row-requires-clause-led
+rows-row_of-row-requires-clause-led t c =
+    let (d, h) = c.requires.state in
+    let u = h.led c.loop-b.b (record { below = omega (arith, c.requires.shape.total_is); passes = c.if-frame-b.true }) in
+    let r = c.requires.shape.is_rep in
+    (u.lead, (let l : u.lead < suc c.args.k = u.lead_before in omega arith), λ z. (let y : zero ≡ 1 = sym z ∙ u.ones 0 r.fields.some in omega arith))
+
+pub rows-loop-b-preserved : goal.rows-loop-b-preserved
+rows-loop-b-preserved t c = elim c.if-frame-b.branch [
+  | rows-then-frame-b w ↦
+      tried_same c.args.rep.now c.args.k c.args.frame.now.groups c.args.columns.now c.args.frame.now.there c.args.settled.now (c.loop-b.b + 1) c.args.best.now
+      w.place-found.new.best c.if-frame-b.best (c.loop-b.better || w.place-found.result) (c.loop-b.abreast || w.place-found.result) c.if-frame-b.better c.if-frame-b.abreast
+      w.best-is (w.better-is ∙ w.either-better.ensures) (w.abreast-is ∙ w.either-abreast.ensures)
+      (more_tried c.args.rep.now c.requires.shape.is_rep c.args.k c.requires.row c.args.frame.now.groups c.args.columns.now c.args.frame.now.there c.args.settled.now
+      c.loop-b.b c.args.best.now c.loop-b.best w.place-found.new.best c.loop-b.better c.loop-b.abreast w.place-found.result
+      (layer_of c.args.rep.now w.pivoted_columns-layer.result w.chosen-state.result.scalars w.chosen-state.result.open)
+      (rest_of c.args.rep.now c.args.k c.args.columns.now w.row_of-row.result.p w.row_of-row.result.minus w.chosen-state.result.scalars w.row_of-row.result.rest) w.chosen-state.result.groups
+      c.loop-b.invariant w.chosen-state.ensures.chooses w.place-found.ensures.improves w.place-found.ensures.covers)
+  | rows-else-frame-b w ↦
+      tried_same c.args.rep.now c.args.k c.args.frame.now.groups c.args.columns.now c.args.frame.now.there c.args.settled.now (c.loop-b.b + 1) c.args.best.now
+      c.loop-b.best c.if-frame-b.best c.loop-b.better c.loop-b.abreast c.if-frame-b.better c.if-frame-b.abreast w.best-is w.better-is w.abreast-is
+      (not_there c.args.rep.now c.requires.shape.is_rep c.args.k c.requires.row c.args.frame.now.groups c.args.columns.now c.args.frame.now.there c.args.settled.now
+      c.loop-b.b c.args.best.now c.loop-b.best c.loop-b.better c.loop-b.abreast c.loop-b.invariant w.if-frame-b.false)
+]
 
 pub place-standing-requires-clause-room : goal.place-standing-requires-clause-room
 place-standing-requires-clause-room t c =
     let (d, h) = c.requires.state in
-    standing_room c.args.rep.now c.requires.shape.is_rep c.args.k c.requires.row c.args.state.now.groups c.args.columns.now c.args.state.now.open c.args.state.now.rest c.args.settled.now
+    standing_room c.args.rep.now c.requires.shape.is_rep c.args.k c.requires.row c.args.state.now.groups (λ e. code (slice_index_or c.args.layer.now e [])) c.args.state.now.scalars c.args.state.now.open
+    (rest_of c.args.rep.now c.args.k c.args.columns.now c.args.row.now.p c.args.row.now.minus c.args.state.now.scalars c.args.row.now.rest) c.args.settled.now
     c.least_numbers-numbers.result c.in-Some.low (c.least_numbers-numbers.ensures d c.args.settled.now h) c.in-Some.ensures c.args.best.now c.requires.sound d h
 
 pub place-returns-in-None-standing-clause-covers : goal.place-returns-in-None-standing-clause-covers
 place-returns-in-None-standing-clause-covers t c d h =
-    above_covers c.args.rep.now c.requires.shape.is_rep c.args.k c.requires.row c.args.state.now.groups c.args.columns.now c.args.state.now.open c.args.state.now.rest c.args.settled.now
+    above_covers c.args.rep.now c.requires.shape.is_rep c.args.k c.requires.row c.args.state.now.groups (λ e. code (slice_index_or c.args.layer.now e [])) c.args.state.now.scalars c.args.state.now.open
+    (rest_of c.args.rep.now c.args.k c.args.columns.now c.args.row.now.p c.args.row.now.minus c.args.state.now.scalars c.args.row.now.rest) c.args.settled.now
     c.least_numbers-numbers.result c.in-Some.low (c.least_numbers-numbers.ensures d c.args.settled.now h) c.in-Some.ensures c.args.best.now c.requires.sound
     (subst (λ (b : Bool). Stands b c.args.best.now c.args.settled.now) c.in-None-standing.ensures.was_level c.requires.stands) c.in-None-standing.ensures.above d h
 
 pub place_each-returns-clause-improves : goal.place_each-returns-clause-improves
 place_each-returns-clause-improves t c =
-    branched_improves c.args.rep.now c.requires.shape.is_rep c.args.k c.requires.row c.args.state.now.groups c.args.columns.now c.args.state.now.open c.args.state.now.rest c.args.settled.now
+    branched_improves c.args.rep.now c.requires.shape.is_rep c.args.k c.requires.row c.args.state.now.groups (λ e. code (slice_index_or c.args.layer.now e [])) c.args.state.now.scalars c.args.state.now.open
+    (rest_of c.args.rep.now c.args.k c.args.columns.now c.args.row.now.p c.args.row.now.minus c.args.state.now.scalars c.args.row.now.rest) c.args.settled.now
     c.args.numbers.now c.args.low c.requires.numbers c.requires.low
     c.loop-e.e c.followed_by-longer.result c.args.best.now c.loop-e.best c.loop-e.better c.loop-e.abreast c.followed_by-longer.ensures c.loop-e.invariant
 
 pub place_each-returns-clause-covers : goal.place_each-returns-clause-covers
 place_each-returns-clause-covers t c d h =
-    all_branched c.args.rep.now c.requires.shape.is_rep c.args.k c.requires.row c.args.state.now.groups c.args.columns.now c.args.state.now.open c.args.state.now.rest c.args.settled.now
+    all_branched c.args.rep.now c.requires.shape.is_rep c.args.k c.requires.row c.args.state.now.groups (λ e. code (slice_index_or c.args.layer.now e [])) c.args.state.now.scalars c.args.state.now.open
+    (rest_of c.args.rep.now c.args.k c.args.columns.now c.args.row.now.p c.args.row.now.minus c.args.state.now.scalars c.args.row.now.rest) c.args.settled.now
     c.args.numbers.now c.args.low c.requires.numbers c.requires.low
     c.loop-e.e c.followed_by-longer.result c.args.best.now c.loop-e.best c.loop-e.better c.loop-e.abreast c.loop-e.invariant (omega (arith, c.requires.shape.total_is)) d h
 
-pub place_each-place-found-requires : goal.place_each-place-found-requires
-place_each-place-found-requires t c =
-    let (d, h) = c.requires.state in
-    let there : IsThere (entries_of c.args.rep.now c.args.columns.now c.args.state.now.open) c.loop-e.e = record { below = omega (arith, c.requires.shape.total_is); passes = c.if-state-e.true } in
-    let (e, p, g) = c.placed-next.ensures.places d c.args.settled.now c.args.low h (subst (IsLeastNumber c.args.rep.now (slice_index c.args.state.now.groups) (code (slice_index_or c.args.columns.now c.loop-e.e []))) c.if-numbers-e.true (c.requires.numbers c.loop-e.e there)) in (
-      omega (arith, c.placed-next.ensures.fewer),
+pub place_each-place_one-found-requires : goal.place_each-place_one-found-requires
+place_each-place_one-found-requires t c =
+    let there : IsThere (layer_of c.args.rep.now c.args.layer.now c.args.state.now.scalars c.args.state.now.open) c.loop-e.e = record { below = omega (arith, c.requires.shape.total_is); passes = c.if-state-e.true } in (
+      omega arith,
       (
         c.requires.shape,
         (
           c.requires.row,
           (
-            c.placed_columns-after.ensures.codes,
+            c.requires.codes,
             (
-              c.placed-next.ensures.groups,
+              c.requires.state,
               (
+                there,
                 (
-                  e,
-                  subst (λ (s : List ℕ). IsPlacing c.args.rep.now c.args.k (slice_index c.placed-next.result.groups) s (entries_of c.args.rep.now c.placed_columns-after.result c.placed-next.result.open)
-                      (entries_of c.args.rep.now c.placed_columns-after.result c.placed-next.result.rest) e) (sym c.followed_by-longer.ensures) p,
+                  subst (IsLeastNumber c.args.rep.now (slice_index c.args.state.now.groups) (λ f i. times (order c.args.rep.now f) (code c.args.state.now.scalars f i) (code (slice_index_or c.args.layer.now c.loop-e.e []) f i))) c.if-numbers-e.true (c.requires.numbers c.loop-e.e there),
+                  (c.followed_by-longer.ensures, (c.loop-e.invariant.improves.sound, c.loop-e.invariant.stands)),
                 ),
-                (c.loop-e.invariant.improves.sound, c.loop-e.invariant.stands),
               ),
             ),
           ),
@@ -77,18 +106,21 @@ place_each-place-found-requires t c =
 pub place_each-loop-e-preserved : goal.place_each-loop-e-preserved
 place_each-loop-e-preserved t c = elim c.if-state-e.branch [
   | place_each-then-state-e+then-numbers-e w ↦
-      branched_same c.args.rep.now c.args.k c.args.state.now.groups c.args.columns.now c.args.state.now.open c.args.state.now.rest c.args.settled.now (c.loop-e.e + 1) c.followed_by-longer.result c.args.best.now
-      w.place-found.new.best c.if-state-e.best (c.loop-e.better || w.place-found.result) (c.loop-e.abreast || w.place-found.result) c.if-state-e.better c.if-state-e.abreast
+      branched_same c.args.rep.now c.args.k c.args.state.now.groups (layer_of c.args.rep.now c.args.layer.now c.args.state.now.scalars c.args.state.now.open)
+      (rest_of c.args.rep.now c.args.k c.args.columns.now c.args.row.now.p c.args.row.now.minus c.args.state.now.scalars c.args.row.now.rest) c.args.settled.now (c.loop-e.e + 1) c.followed_by-longer.result c.args.best.now
+      w.place_one-found.new.best c.if-state-e.best (c.loop-e.better || w.place_one-found.result) (c.loop-e.abreast || w.place_one-found.result) c.if-state-e.better c.if-state-e.abreast
       w.best-is (w.better-is ∙ w.either-better.ensures) (w.abreast-is ∙ w.either-abreast.ensures)
-      (more_branched c.args.rep.now c.requires.shape.is_rep c.args.k c.requires.row c.args.state.now.groups c.args.columns.now c.args.state.now.open c.args.state.now.rest c.args.settled.now
+      (more_branched c.args.rep.now c.requires.shape.is_rep c.args.k c.requires.row c.args.state.now.groups (λ e. code (slice_index_or c.args.layer.now e [])) c.args.state.now.scalars c.args.state.now.open
+      (rest_of c.args.rep.now c.args.k c.args.columns.now c.args.row.now.p c.args.row.now.minus c.args.state.now.scalars c.args.row.now.rest) c.args.settled.now
       c.args.numbers.now c.args.low c.requires.numbers c.requires.low
-      c.loop-e.e c.followed_by-longer.result c.args.best.now c.loop-e.best w.place-found.new.best c.loop-e.better c.loop-e.abreast w.place-found.result
-      w.placed_columns-after.result w.placed-next.result.open w.placed-next.result.rest w.placed-next.result.groups c.followed_by-longer.ensures
-      (record { below = omega (arith, c.requires.shape.total_is); passes = w.if-state-e.true }) w.if-numbers-e.true c.loop-e.invariant w.placed-next.ensures.places w.place-found.ensures.improves w.place-found.ensures.covers)
+      c.loop-e.e c.followed_by-longer.result c.args.best.now c.loop-e.best w.place_one-found.new.best c.loop-e.better c.loop-e.abreast w.place_one-found.result
+      c.loop-e.invariant w.place_one-found.ensures.improves w.place_one-found.ensures.covers)
   | place_each-else-state-e w ↦
-      branched_same c.args.rep.now c.args.k c.args.state.now.groups c.args.columns.now c.args.state.now.open c.args.state.now.rest c.args.settled.now (c.loop-e.e + 1) c.followed_by-longer.result c.args.best.now
+      branched_same c.args.rep.now c.args.k c.args.state.now.groups (layer_of c.args.rep.now c.args.layer.now c.args.state.now.scalars c.args.state.now.open)
+      (rest_of c.args.rep.now c.args.k c.args.columns.now c.args.row.now.p c.args.row.now.minus c.args.state.now.scalars c.args.row.now.rest) c.args.settled.now (c.loop-e.e + 1) c.followed_by-longer.result c.args.best.now
       c.loop-e.best c.if-state-e.best c.loop-e.better c.loop-e.abreast c.if-state-e.better c.if-state-e.abreast w.best-is w.better-is w.abreast-is
-      (other_branched c.args.rep.now c.requires.shape.is_rep c.args.k c.requires.row c.args.state.now.groups c.args.columns.now c.args.state.now.open c.args.state.now.rest c.args.settled.now
+      (other_branched c.args.rep.now c.requires.shape.is_rep c.args.k c.requires.row c.args.state.now.groups (λ e. code (slice_index_or c.args.layer.now e [])) c.args.state.now.scalars c.args.state.now.open
+      (rest_of c.args.rep.now c.args.k c.args.columns.now c.args.row.now.p c.args.row.now.minus c.args.state.now.scalars c.args.row.now.rest) c.args.settled.now
       c.args.numbers.now c.args.low c.requires.numbers c.requires.low
       c.loop-e.e c.followed_by-longer.result c.args.best.now c.loop-e.best c.loop-e.better c.loop-e.abreast c.loop-e.invariant
       (λ o n. elim w.else-state-e.branch [
@@ -97,26 +129,43 @@ place_each-loop-e-preserved t c = elim c.if-state-e.branch [
       ]))
 ]
 
-pub rows-loop-b-preserved : goal.rows-loop-b-preserved
-rows-loop-b-preserved t c = elim c.if-frame-b.branch [
-  | rows-then-frame-b w ↦
-      tried_same c.args.rep.now c.args.k c.args.frame.now.groups c.args.columns.now c.args.frame.now.there c.args.settled.now (c.loop-b.b + 1) c.args.best.now
-      w.place-found.new.best c.if-frame-b.best (c.loop-b.better || w.place-found.result) (c.loop-b.abreast || w.place-found.result) c.if-frame-b.better c.if-frame-b.abreast
-      w.best-is (w.better-is ∙ w.either-better.ensures) (w.abreast-is ∙ w.either-abreast.ensures)
-      (more_tried c.args.rep.now c.requires.shape.is_rep c.args.k c.requires.row c.args.frame.now.groups c.args.columns.now c.args.frame.now.there c.args.settled.now
-      c.loop-b.b c.args.best.now c.loop-b.best w.place-found.new.best c.loop-b.better c.loop-b.abreast w.place-found.result
-      w.chosen_columns-after.result w.chosen-state.result.open w.chosen-state.result.rest w.chosen-state.result.groups
-      c.loop-b.invariant w.chosen-state.ensures.chooses w.place-found.ensures.improves w.place-found.ensures.covers)
-  | rows-else-frame-b w ↦
-      tried_same c.args.rep.now c.args.k c.args.frame.now.groups c.args.columns.now c.args.frame.now.there c.args.settled.now (c.loop-b.b + 1) c.args.best.now
-      c.loop-b.best c.if-frame-b.best c.loop-b.better c.loop-b.abreast c.if-frame-b.better c.if-frame-b.abreast w.best-is w.better-is w.abreast-is
-      (not_there c.args.rep.now c.requires.shape.is_rep c.args.k c.requires.row c.args.frame.now.groups c.args.columns.now c.args.frame.now.there c.args.settled.now
-      c.loop-b.b c.args.best.now c.loop-b.best c.loop-b.better c.loop-b.abreast c.loop-b.invariant w.if-frame-b.false)
-]
-
-pub rows-chosen_columns-after-requires-clause-led : goal.rows-chosen_columns-after-requires-clause-led
-rows-chosen_columns-after-requires-clause-led t c =
+pub place_one-place-requires : goal.place_one-place-requires
+place_one-place-requires t c =
     let (d, h) = c.requires.state in
-    let u = h.led c.loop-b.b (record { below = omega (arith, c.requires.shape.total_is); passes = c.if-frame-b.true }) in
-    let r = c.requires.shape.is_rep in
-    (u.lead, (let l : u.lead < suc c.args.k = u.lead_before in omega arith), λ z. (let y : zero ≡ 1 = sym z ∙ u.ones 0 r.fields.some in omega arith))
+    let (e, p, g) = c.placed-next.ensures.places d c.args.settled.now c.args.low h c.requires.number in (
+      omega (arith, c.placed-next.ensures.fewer),
+      (
+        c.requires.shape,
+        (
+          c.requires.row,
+          (
+            c.placed-next.ensures.codes,
+            (
+              (
+                e,
+                subst (λ (s : List ℕ). IsPlacing c.args.rep.now c.args.k (slice_index c.placed-next.result.groups) s (layer_of c.args.rep.now c.args.layer.now c.placed-next.result.scalars c.placed-next.result.open)
+                    (rest_of c.args.rep.now c.args.k c.args.columns.now c.args.row.now.p c.args.row.now.minus c.placed-next.result.scalars c.args.row.now.rest) e) (sym c.requires.longer) p,
+              ),
+              (c.requires.sound, c.requires.stands),
+            ),
+          ),
+        ),
+      ),
+    )
+
+pub place_one-returns-clause-covers : goal.place_one-returns-clause-covers
+place_one-returns-clause-covers t c d h m N r f l =
+    one_covers c.args.rep.now c.requires.shape.is_rep c.args.k c.requires.row c.args.state.now.groups (λ e. code (slice_index_or c.args.layer.now e [])) c.args.state.now.scalars c.args.state.now.open
+    (rest_of c.args.rep.now c.args.k c.args.columns.now c.args.row.now.p c.args.row.now.minus c.args.state.now.scalars c.args.row.now.rest) c.args.settled.now
+    c.args.e c.args.low c.args.longer.now c.place.new.best (layer_of c.args.rep.now c.args.layer.now c.placed-next.result.scalars c.placed-next.result.open)
+    (rest_of c.args.rep.now c.args.k c.args.columns.now c.args.row.now.p c.args.row.now.minus c.placed-next.result.scalars c.args.row.now.rest) c.placed-next.result.groups c.requires.longer
+    c.placed-next.ensures.places c.requires.number c.place.ensures.covers d h m N r f l
+
+pub next_row-returns-then-gives_up-clause-covers : goal.next_row-returns-then-gives_up-clause-covers
+next_row-returns-then-gives_up-clause-covers t c d h =
+    beyond_covers c.args.rep.now c.requires.shape.is_rep c.args.k c.requires.row c.args.state.now.groups (λ e. code (slice_index_or c.args.layer.now e [])) c.args.state.now.scalars c.args.state.now.open
+    (rest_of c.args.rep.now c.args.k c.args.columns.now c.args.row.now.p c.args.row.now.minus c.args.state.now.scalars c.args.row.now.rest) c.args.settled.now c.requires.none c.args.best.now c.requires.sound
+    (subst (λ (b : Bool). Stands b c.args.best.now c.args.settled.now) (c.gives_up.ensures.was_level c.if-gives_up.true) c.requires.stands)
+    (subst (λ r. MatchOption c.args.best.now ⊥ (λ least. (length c.args.settled.now < length least) × (slice_index least (length c.args.settled.now) < 16 ^ ((r - c.args.k) * count c.args.rep.now)))) c.requires.shape.rank_is
+    (subst (λ f. MatchOption c.args.best.now ⊥ (λ least. (length c.args.settled.now < length least) × (slice_index least (length c.args.settled.now) < 16 ^ ((c.args.shape.now.rank - c.args.k) * f)))) c.requires.shape.factors_are
+    (c.gives_up.ensures.within c.if-gives_up.true))) d h

@@ -22,6 +22,6 @@ zero_code e i f l m n =
 pub loop-e-init : goal.loop-e-init
 loop-e-init c = record {
   size = refl;
-  codes = λ e l i m f n. subst (λ v. v < slice_index c.args.shape.now.fields f) (sym (zero_code e i f l m n)) (let q : 1 < slice_index c.args.shape.now.fields f = c.requires.scalars f n in omega arith);
+  codes = λ e l i m f n. subst (λ v. v < slice_index c.args.shape.now.fields f) (sym (zero_code e i f l m n)) (let q : 1 < slice_index c.args.shape.now.fields f = c.requires.limits.scalars f n in omega arith);
   rows = λ j l. absurd (omega arith);
 }

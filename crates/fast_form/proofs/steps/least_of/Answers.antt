@@ -2,13 +2,13 @@ use Rattle.std.proofs.Common.{◌≡◌, ◌<◌, ℕ, Bool, List, Option, Some,
 use Rattle.std.specs.Option.{MatchOption}
 use Rattle.matroid_theory.specs.Rep.{Rep, size}
 use Rattle.form_search.specs.Search.{IsThere}
-use Rattle.fast_form.specs.States.{entries_of, IsLeastOf, IsLeastMarked}
+use Rattle.fast_form.specs.States.{layer_of, IsLeastOf, IsLeastMarked}
 use Rattle.fast_form.proofs.steps.least_of.Goals as goal
 
-as_entries : (M : Rep) (columns : List (List (List ℕ))) (marks : List Bool) (numbers : List ℕ) (total : ℕ) (found : Option ℕ) → total ≡ size M → IsLeastMarked marks numbers total found
-    → MatchOption found ((e : ℕ) → IsThere (entries_of M columns marks) e → ⊥) (λ low. IsLeastOf (entries_of M columns marks) numbers low)
-as_entries M columns marks numbers total None z h = λ e t. h e (let b : e < size M = t.below in omega arith) t.passes
-as_entries M columns marks numbers total (Some low) z h = record {
+as_entries : (M : Rep) (layer : List (List (List ℕ))) (scalars : List (List ℕ)) (marks : List Bool) (numbers : List ℕ) (total : ℕ) (found : Option ℕ) → total ≡ size M → IsLeastMarked marks numbers total found
+    → MatchOption found ((e : ℕ) → IsThere (layer_of M layer scalars marks) e → ⊥) (λ low. IsLeastOf (layer_of M layer scalars marks) numbers low)
+as_entries M layer scalars marks numbers total None z h = λ e t. h e (let b : e < size M = t.below in omega arith) t.passes
+as_entries M layer scalars marks numbers total (Some low) z h = record {
   least = λ e t. h.0 e (let b : e < size M = t.below in omega arith) t.passes;
   at = (h.1).0;
   there = record { below = (let b : (h.1).0 < total = (h.1).1 in omega arith); passes = (h.1).2 };
@@ -16,4 +16,4 @@ as_entries M columns marks numbers total (Some low) z h = record {
 }
 
 pub returns : goal.returns
-returns c = as_entries c.args.rep.now c.args.columns.now c.args.state.now.open c.args.numbers.now c.args.shape.now.size c.least_marked.result c.requires.shape.total_is c.least_marked.ensures
+returns c = as_entries c.args.rep.now c.args.layer.now c.args.state.now.scalars c.args.state.now.open c.args.numbers.now c.args.shape.now.size c.least_marked.result c.requires.shape.total_is c.least_marked.ensures
