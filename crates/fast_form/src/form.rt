@@ -11,8 +11,8 @@ ghost use Rattle.fast_form.specs.Codes.{code};
 ghost use Rattle.fast_form.specs.States.{IsShapeOf, AreColumns, own_groups};
 
 use crate::lists::{Columns, Marks, normalised_columns};
+use crate::modes::least_from;
 use crate::numbers::Numbers;
-use crate::powers::least_from;
 use crate::search::rows;
 use crate::start::{columns_of, nonzero_marks, shape_of};
 use crate::states::{Frame, Shape};

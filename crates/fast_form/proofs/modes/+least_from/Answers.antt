@@ -7,8 +7,8 @@ use Rattle.matroid_theory.specs.Field.{degree}
 use Rattle.matroid_theory.specs.Rep.{Shape, count, order}
 use Rattle.matroid_theory.proofs.Compared.{below_not_above, not_below_reversed}
 use Rattle.matroid_theory.proofs.Semilinear.{IsLeastBelow, raised_agrees, raised_standard, least_linear, least_first, least_kept, least_replaced}
-use Rattle.fast_form.proofs.powers.+least_from.Goals as goal
-use Rattle.fast_form.proofs.powers.+least_from.Goals.{then-eq, else-eq}
+use Rattle.fast_form.proofs.modes.+least_from.Goals as goal
+use Rattle.fast_form.proofs.modes.+least_from.Goals.{then-eq, else-eq}
 
 -- the test that one is below the other
 is_less : (r : Ordering) → (ordering_index r == 0) ≡ true → r ≡ Less

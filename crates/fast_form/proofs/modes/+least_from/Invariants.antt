@@ -1,7 +1,7 @@
 use Rattle.std.proofs.Common.{◌-◌}
 use Rattle.matroid_theory.specs.Rep.{count}
 use Rattle.matroid_theory.proofs.Semilinear.{IsLeastBelow}
-use Rattle.fast_form.proofs.powers.+least_from.Given as goal
+use Rattle.fast_form.proofs.modes.+least_from.Given as goal
 
 abbrev pub decreases-least_from : goal.decreases-least_from
 decreases-least_from l = count l.rep.now - l.factor
