@@ -2,6 +2,7 @@ use Rattle.std.proofs.Common.{◌≡◌, ℕ, ◌+◌, ◌<◌, ◌≤◌, List,
 use Rattle.std.specs.List.{All, AllPairs, Contains}
 use Rattle.std.specs.declared.cmp.Ordering.TheVariants.{Less}
 use Rattle.std.proofs.lemmas.List.Elements.{Contains-get_or}
+use Rattle.matroid_theory.specs.declared.Mode.{Mode}
 use Rattle.matroid_theory.specs.Rep.{Rep, KeepsLimits}
 use Rattle.matroid_theory.specs.Order.{rep_cmp}
 use Rattle.matroid_theory.specs.Minor.{Matroid}
@@ -46,7 +47,8 @@ to_list-requires c =
     subst (λ (factors : List ℕ). All (λ cs. KeepsLimits (rep_of factors c.rank-rank.result cs)) c.loop-parent.found) (sym c.factors.ensures)
     (subst (λ (rank : ℕ). All (λ cs. KeepsLimits (rep_of q.factors rank cs)) c.loop-parent.found) (sym c.rank-rank.ensures)
     (each_rep q Ns c.forbid-forbidden.ensures.given c.laws.ensures.factors c.laws.ensures.limits c.requires.0 parents c.requires.1 c.loop-parent.tried c.loop-parent.found
-    (grown_all c.mode-mode.result Ns parents c.loop-parent.parent-index c.loop-parent.tried c.loop-parent.found done c.loop-parent.invariant.so_far)))
+    (subst (λ (mode : Mode). HasGrown mode Ns parents c.loop-parent.tried c.loop-parent.found) c.mode-mode.ensures
+    (grown_all c.mode-mode.result Ns parents c.loop-parent.parent-index c.loop-parent.tried c.loop-parent.found done c.loop-parent.invariant.so_far))))
 
 pub returns-clause-forms : goal.returns-clause-forms
 returns-clause-forms c n h =
@@ -58,7 +60,8 @@ returns-clause-forms c n h =
     let is : c.in_ok-forms.forms ≡ forms = c.in_ok-forms.ensures.forms ∙ (λ i. map (rep_of (c.factors.ensures i) (c.rank-rank.ensures i)) c.loop-parent.found) in
     subst (λ (forms : List Rep). IsLevelOf q (n + 1) forms) (sym is)
     (level_grown q Ns c.forbid-forbidden.ensures.given c.laws.ensures.factors c.laws.ensures.limits n parents h c.loop-parent.tried c.loop-parent.found
-    (grown_all c.mode-mode.result Ns parents c.loop-parent.parent-index c.loop-parent.tried c.loop-parent.found done c.loop-parent.invariant.so_far)
+    (subst (λ (mode : Mode). HasGrown mode Ns parents c.loop-parent.tried c.loop-parent.found) c.mode-mode.ensures
+    (grown_all c.mode-mode.result Ns parents c.loop-parent.parent-index c.loop-parent.tried c.loop-parent.found done c.loop-parent.invariant.so_far))
     (subst (λ (forms : List Rep). AllPairs (λ M N. rep_cmp M N ≡ Less) forms) is c.in_ok-forms.ensures.rising))
 
 pub returns-clause-tried : goal.returns-clause-tried
@@ -68,4 +71,5 @@ returns-clause-tried c n h =
     let parents : List Rep = c.args.parents.now in
     let done : length parents ≤ c.loop-parent.parent-index = subst (λ (xs : List Rep). length xs ≤ c.loop-parent.parent-index) c.as_slice-parent-items.ensures c.loop-parent-test.false in
     tries_grown q Ns c.forbid-forbidden.ensures.given c.laws.ensures.factors c.laws.ensures.limits n parents h c.loop-parent.tried c.loop-parent.found
-    (grown_all c.mode-mode.result Ns parents c.loop-parent.parent-index c.loop-parent.tried c.loop-parent.found done c.loop-parent.invariant.so_far)
+    (subst (λ (mode : Mode). HasGrown mode Ns parents c.loop-parent.tried c.loop-parent.found) c.mode-mode.ensures
+    (grown_all c.mode-mode.result Ns parents c.loop-parent.parent-index c.loop-parent.tried c.loop-parent.found done c.loop-parent.invariant.so_far))
