@@ -29,3 +29,8 @@ known_text words workers sample is left text = known_by words workers sample is 
 pub known_text_alone : (words : List (List ℕ)) (workers sample : Option ℕ) → IsAsked StandsAtAlone words workers sample
     → (left : Option (List ℕ)) (text : List ℕ) → AsksForKnownText StandsAtAlone words left text → IsKnownTextOf (option_to_list sample) left text
 known_text_alone words workers sample is left text = known_by words workers sample is left text (one_reading_alone words)
+
+-- all pieces of the words name the sample that was read
+pub one_sample_named : (words : List (List ℕ)) (workers sample : Option ℕ) → IsAsked StandsAtAlone words workers sample → (pieces : List Piece)
+    → IsCommand StandsAtAlone words pieces → filter_map sample_in pieces ≡ option_to_list sample
+one_sample_named words workers sample is pieces command = ap (filter_map sample_in) (one_reading_alone words pieces is.pieces command is.command) ∙ is.sample_is

@@ -77,10 +77,10 @@ module _ (q : Request) (forbidden : List Matroid) (given : AreGivenBy (map given
   entry_bytes : (n : ℕ) (forms : List Rep) (shown printed : List (Bor Rep)) (tried : ℕ) → (q.print ≡ Forms → printed ≡ shown)
       → (q.print ≡ Counts → printed ≡ [])
       → level_text n (length forms) (length shown) tried ++ concat (map (λ form. form_text (columns_of form.now)) printed)
-          ≡ concat (level_pieces q.print (entry_of n forms (map (λ form. form.now) shown) tried))
+      ≡ concat (level_pieces q.print (entry_of n forms (map (λ form. form.now) shown) tried))
   entry_bytes n forms shown printed tried all none =
       let count : length shown ≡ length (map columns_of (map (λ form. form.now) shown)) =
-          omega (arith, length-map shown (λ form. form.now), length-map (map (λ form. form.now) shown) columns_of) in
+      omega (arith, length-map shown (λ form. form.now), length-map (map (λ form. form.now) shown) columns_of) in
       λ i. level_text n (length forms) (count i) tried ++ concat (printed_lines q.print shown printed all none i)
 
   -- what was written tells of the level
@@ -91,9 +91,9 @@ module _ (q : Request) (forbidden : List Matroid) (given : AreGivenBy (map given
       → Part (front ++ (line ++ concat (map (λ form. form_text (columns_of form.now)) printed))) → TellsLevel q n front Part
   tells Part n front line forms shown given printed classes count tried level tries listed line_is classes_are count_is same all none part =
       let bytes : line ++ concat (map (λ form. form_text (columns_of form.now)) printed)
-          ≡ level_text n (length forms) (length shown) tried ++ concat (map (λ form. form_text (columns_of form.now)) printed) =
-          ap (λ (l : List ℕ). l ++ concat (map (λ form. form_text (columns_of form.now)) printed))
-          (line_is ∙ (λ i. level_text n (classes_are i) (count_is i) tried)) in
+      ≡ level_text n (length forms) (length shown) tried ++ concat (map (λ form. form_text (columns_of form.now)) printed) =
+      ap (λ (l : List ℕ). l ++ concat (map (λ form. form_text (columns_of form.now)) printed))
+      (line_is ∙ (λ i. level_text n (classes_are i) (count_is i) tried)) in
       record {
         entry = entry_of n forms (map (λ form. form.now) shown) tried;
         is_entry = is_entry n forms (map (λ form. form.now) shown) tried level tries listed;
