@@ -3,6 +3,7 @@ use Rattle.std.proofs.Common.{◌≡◌, ◌⊎◌, inl, inr, refl, ℕ, suc, �
 use Rattle.std.specs.Prelude.{◌||◌}
 use Rattle.std.specs.Option.{MatchOption}
 use Rattle.std.proofs.lemmas.Bool.{cases_lt}
+use mathlib.Core.Bool.{true≢false}
 use Rattle.matroid_theory.specs.Rep.{Rep, count, size, matrix, IsShaped, KeepsLimits}
 use Rattle.matroid_theory.specs.Move.{Move}
 use Rattle.form_search.specs.Trail.{ReachesForm, Trail, Follows}
@@ -30,6 +31,15 @@ or_right false b e = e
 or_none : (a b : Bool) → b ≡ false → (a || b) ≡ a
 or_none true b e = refl
 or_none false b e = e
+
+-- where the search goes on
+pub unstopped : (first found stop : Bool) → ((first ≡ true) × (found ≡ true) → stop ≡ true) → stop ≡ false → first ≡ true → found ≡ false
+unstopped first true stop h e f = absurd (true≢false (sym (h (f, refl)) ∙ e))
+unstopped first false stop h e f = refl
+
+-- what stays where it ends
+pub stopped : (M : Rep) (old now new : Option (List ℕ)) (settled : List ℕ) (better found : Bool) → found ≡ true → Improves M old now settled better → Improves M now new settled found → Improves M old new settled true
+stopped M old now new settled better found e i j = improves_more M old now new settled better found true i j (λ z. absurd (true≢false z)) (λ _ z. absurd (true≢false (sym e ∙ z)))
 
 -- the elements below b have been tried in row k
 pub record AreTried (M : Rep) (k : ℕ) (groups : List ℕ) (columns : List (List (List ℕ))) (there : List Bool) (settled : List ℕ) (b : ℕ) (old now : Option (List ℕ)) (better level : Bool) : Type 0 where

@@ -46,7 +46,7 @@ module _ (M : Rep) (numbers : List ℕ) (class : AreOfClass M numbers) where
         long = column_length M L l_shaped l_same (M.rank + j) p_below
 
 -- columns of r * c codes are equal where their codes are
-same_codes : (r c : ℕ) (v w : List ℕ) → length v ≡ r * c → length w ≡ r * c → 0 < c → ((f i : ℕ) → f < c → i < r → slice_index v (i * c + f) ≡ slice_index w (i * c + f)) → v ≡ w
+pub same_codes : (r c : ℕ) (v w : List ℕ) → length v ≡ r * c → length w ≡ r * c → 0 < c → ((f i : ℕ) → f < c → i < r → slice_index v (i * c + f) ≡ slice_index w (i * c + f)) → v ≡ w
 same_codes r c v w a b p h = ext_get_or 0 v w (a ∙ sym b) code
   where
     code : (k : ℕ) → k < length v → slice_index v k ≡ slice_index w k

@@ -5,6 +5,7 @@ use Rattle.std.proofs.lemmas.Bool.{cases_lt, lt-ltb, le-ltb}
 use Rattle.std.proofs.Math.Nat.{mod-lt}
 use Rattle.matroid_theory.specs.Field.{plus, times}
 use Rattle.matroid_theory.specs.Rep.{Rep, count, size, order, IsShaped, KeepsLimits}
+use Rattle.matroid_theory.specs.Matroid.{IsRepresentation}
 use Rattle.matroid_theory.proofs.First.{row_below}
 use Rattle.matroid_theory.proofs.FieldLaws.{field_laws}
 use Rattle.form_search.specs.Trail.{Trail, IsOrdered}
@@ -26,6 +27,9 @@ module _ (M : Rep) (fields : List ℕ) (factors rank total : ℕ) (h : IsShapeOf
 
   pub shaped : IsShaped M
   shaped = let r = h.is_rep in r.shaped
+
+  pub is_whole : IsRepresentation M
+  is_whole = let r = h.is_rep in record { some = (let f = r.fields in f.some); shaped = r.shaped; agrees = h.agrees }
 
   pub some : 0 < count M
   some = let r = h.is_rep in let f = r.fields in f.some

@@ -8,6 +8,7 @@ mod codes;
 mod columns;
 mod form;
 mod groups;
+mod linear;
 mod lists;
 mod numbers;
 mod search;
@@ -17,3 +18,4 @@ mod steps;
 mod weights;
 
 pub use form::least_of_standard;
+pub use linear::{is_form_fast, least_linear};

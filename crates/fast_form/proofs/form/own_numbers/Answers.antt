@@ -3,18 +3,16 @@ use Rattle.std.proofs.lemmas.Bool.{cases_lt}
 use Rattle.std.proofs.Math.Nat.{mod-lt}
 use Rattle.std.proofs.Math.Seq.{ext_get_or, get_or-append_seam}
 use Rattle.std.proofs.Math.ListN.{get_or-append}
-use Rattle.matroid_theory.specs.declared.Mode.TheVariants.{Linear}
 use Rattle.matroid_theory.specs.Rep.{Rep, count, size, matrix}
 use Rattle.matroid_theory.proofs.First.{row_below}
-use Rattle.matroid_theory.proofs.Equivalence.{equivalent-reflexive}
 use Rattle.form_search.specs.Least.{number}
 use Rattle.form_search.specs.Numbers.{weighed}
-use Rattle.form_search.specs.Search.{AreOfClass, numbers_of}
+use Rattle.form_search.specs.Search.{numbers_of}
 use Rattle.form_search.proofs.Numbers.{weighed_same}
 use Rattle.form_search.proofs.Found.{numbers_length, numbers_at}
 use Rattle.fast_form.specs.Codes.{code}
 use Rattle.fast_form.specs.States.{IsShapeOf}
-use Rattle.fast_form.proofs.Shapes.{shaped, some}
+use Rattle.fast_form.proofs.Shapes.{some}
 use Rattle.fast_form.proofs.form.own_numbers.Goals as goal
 
 module _ (M : Rep) (fields : List ℕ) (factors rank total : ℕ) (h : IsShapeOf M fields factors rank total) where
@@ -37,14 +35,9 @@ module _ (M : Rep) (fields : List ℕ) (factors rank total : ℕ) (h : IsShapeOf
       ])
 
   -- all of them
-  own_class : (numbers : List ℕ) → rank + length numbers ≡ total → ((j : ℕ) → j < length numbers → slice_index numbers j ≡ number M (λ f i. matrix M f i (rank + j))) → AreOfClass M numbers
-  own_class numbers at w = record {
-    member = M;
-    standard = h.standard;
-    equivalent = equivalent-reflexive Linear M (shaped M fields factors rank total h);
-    numbers_are = ext_get_or 0 (numbers_of M M) numbers (numbers_length M M ∙ long) (λ j l. let b : j < size M - M.rank = subst (λ n. j < n) (numbers_length M M) l in
-        numbers_at M M j b ∙ ap (λ r. number M (λ f i. matrix M f i (r + j))) (sym h.rank_is) ∙ sym (w j (subst (λ n. j < n) long b)));
-  }
+  own_list : (numbers : List ℕ) → rank + length numbers ≡ total → ((j : ℕ) → j < length numbers → slice_index numbers j ≡ number M (λ f i. matrix M f i (rank + j))) → numbers ≡ numbers_of M M
+  own_list numbers at w = sym (ext_get_or 0 (numbers_of M M) numbers (numbers_length M M ∙ long) (λ j l. let b : j < size M - M.rank = subst (λ n. j < n) (numbers_length M M) l in
+      numbers_at M M j b ∙ ap (λ r. number M (λ f i. matrix M f i (r + j))) (sym h.rank_is) ∙ sym (w j (subst (λ n. j < n) long b))))
     where
       long : size M - M.rank ≡ length numbers
       long = let a : rank ≡ M.rank = h.rank_is in let b : total ≡ size M = h.total_is in omega arith
@@ -58,5 +51,5 @@ loop-e-preserved c = record {
       c.loop-e.invariant.numbers;
 }
 
-pub returns-clause-class : goal.returns-clause-class
-returns-clause-class c = own_class _ _ _ _ _ c.requires.shape c.loop-e.numbers (omega (arith, c.loop-e.invariant.size, c.loop-e-test.false)) c.loop-e.invariant.numbers
+pub returns : goal.returns
+returns c = own_list _ _ _ _ _ c.requires.shape c.loop-e.numbers (omega (arith, c.loop-e.invariant.size, c.loop-e-test.false)) c.loop-e.invariant.numbers

@@ -7,15 +7,15 @@ use Rattle.matroid_theory.specs.Rep.{count, order}
 use Rattle.form_search.specs.Search.{Stands, IsPlacing, IsThere}
 use Rattle.fast_form.specs.States.{layer_of, rest_of, IsLeastNumber}
 use Rattle.fast_form.specs.Codes.{code}
-use Rattle.fast_form.proofs.Covering.{all_tried, all_branched, branched_improves, above_covers, beyond_covers, one_covers, standing_room, tried_same, branched_same, more_tried, not_there, more_branched, other_branched}
+use Rattle.fast_form.proofs.Covering.{all_tried, all_branched, branched_improves, above_covers, beyond_covers, one_covers, standing_room, tried_same, branched_same, stopped, unstopped, more_tried, not_there, more_branched, other_branched}
 use Rattle.fast_form.proofs.search.+search.Goals as goal
-use Rattle.fast_form.proofs.search.+search.Goals.{rows-then-frame-b, rows-else-frame-b, place_each-then-state-e+then-numbers-e, place_each-else-state-e, place_each-else-state-e-via-then-state-e+else-numbers-e, place_each-else-state-e-via-else-state-e}
+use Rattle.fast_form.proofs.search.+search.Goals.{rows-then-frame-b+else-stops, rows-else-frame-b, place_each-then-state-e+then-numbers-e+else-stops, place_each-else-state-e, place_each-else-state-e-via-then-state-e+else-numbers-e, place_each-else-state-e-via-else-state-e}
 
 pub rows-returns-clause-improves : goal.rows-returns-clause-improves
 rows-returns-clause-improves t c = c.loop-b.invariant.improves
 
 pub rows-returns-clause-covers : goal.rows-returns-clause-covers
-rows-returns-clause-covers t c d h =
+rows-returns-clause-covers t c q d h =
     all_tried c.args.rep.now c.requires.shape.is_rep c.args.k c.requires.row c.args.frame.now.groups c.args.columns.now c.args.frame.now.there c.args.settled.now
     c.loop-b.b c.args.best.now c.loop-b.best c.loop-b.better c.loop-b.abreast c.loop-b.invariant (omega (arith, c.requires.shape.total_is)) d h
 
@@ -34,7 +34,7 @@ rows-row_of-row-requires-clause-led t c =
 
 pub rows-loop-b-preserved : goal.rows-loop-b-preserved
 rows-loop-b-preserved t c = elim c.if-frame-b.branch [
-  | rows-then-frame-b w ↦
+  | rows-then-frame-b+else-stops w ↦
       tried_same c.args.rep.now c.args.k c.args.frame.now.groups c.args.columns.now c.args.frame.now.there c.args.settled.now (c.loop-b.b + 1) c.args.best.now
       w.place-found.new.best c.if-frame-b.best (c.loop-b.better || w.place-found.result) (c.loop-b.abreast || w.place-found.result) c.if-frame-b.better c.if-frame-b.abreast
       w.best-is (w.better-is ∙ w.either-better.ensures) (w.abreast-is ∙ w.either-abreast.ensures)
@@ -42,7 +42,7 @@ rows-loop-b-preserved t c = elim c.if-frame-b.branch [
       c.loop-b.b c.args.best.now c.loop-b.best w.place-found.new.best c.loop-b.better c.loop-b.abreast w.place-found.result
       (layer_of c.args.rep.now w.pivoted_columns-layer.result w.chosen-state.result.scalars w.chosen-state.result.open)
       (rest_of c.args.rep.now c.args.k c.args.columns.now w.row_of-row.result.p w.row_of-row.result.minus w.chosen-state.result.scalars w.row_of-row.result.rest) w.chosen-state.result.groups
-      c.loop-b.invariant w.chosen-state.ensures.chooses w.place-found.ensures.improves w.place-found.ensures.covers)
+      c.loop-b.invariant w.chosen-state.ensures.chooses w.place-found.ensures.improves (w.place-found.ensures.covers (unstopped _ _ _ w.stops.ensures.1 w.if-stops.false)))
   | rows-else-frame-b w ↦
       tried_same c.args.rep.now c.args.k c.args.frame.now.groups c.args.columns.now c.args.frame.now.there c.args.settled.now (c.loop-b.b + 1) c.args.best.now
       c.loop-b.best c.if-frame-b.best c.loop-b.better c.loop-b.abreast c.if-frame-b.better c.if-frame-b.abreast w.best-is w.better-is w.abreast-is
@@ -58,7 +58,7 @@ place-standing-requires-clause-room t c =
     c.least_numbers-numbers.result c.in-Some.low (c.least_numbers-numbers.ensures d c.args.settled.now h) c.in-Some.ensures c.args.best.now c.requires.sound d h
 
 pub place-returns-in-None-standing-clause-covers : goal.place-returns-in-None-standing-clause-covers
-place-returns-in-None-standing-clause-covers t c d h =
+place-returns-in-None-standing-clause-covers t c q d h =
     above_covers c.args.rep.now c.requires.shape.is_rep c.args.k c.requires.row c.args.state.now.groups (λ e. code (slice_index_or c.args.layer.now e [])) c.args.state.now.scalars c.args.state.now.open
     (rest_of c.args.rep.now c.args.k c.args.columns.now c.args.row.now.p c.args.row.now.minus c.args.state.now.scalars c.args.row.now.rest) c.args.settled.now
     c.least_numbers-numbers.result c.in-Some.low (c.least_numbers-numbers.ensures d c.args.settled.now h) c.in-Some.ensures c.args.best.now c.requires.sound
@@ -72,7 +72,7 @@ place_each-returns-clause-improves t c =
     c.loop-e.e c.followed_by-longer.result c.args.best.now c.loop-e.best c.loop-e.better c.loop-e.abreast c.followed_by-longer.ensures c.loop-e.invariant
 
 pub place_each-returns-clause-covers : goal.place_each-returns-clause-covers
-place_each-returns-clause-covers t c d h =
+place_each-returns-clause-covers t c q d h =
     all_branched c.args.rep.now c.requires.shape.is_rep c.args.k c.requires.row c.args.state.now.groups (λ e. code (slice_index_or c.args.layer.now e [])) c.args.state.now.scalars c.args.state.now.open
     (rest_of c.args.rep.now c.args.k c.args.columns.now c.args.row.now.p c.args.row.now.minus c.args.state.now.scalars c.args.row.now.rest) c.args.settled.now
     c.args.numbers.now c.args.low c.requires.numbers c.requires.low
@@ -105,7 +105,7 @@ place_each-place_one-found-requires t c =
 
 pub place_each-loop-e-preserved : goal.place_each-loop-e-preserved
 place_each-loop-e-preserved t c = elim c.if-state-e.branch [
-  | place_each-then-state-e+then-numbers-e w ↦
+  | place_each-then-state-e+then-numbers-e+else-stops w ↦
       branched_same c.args.rep.now c.args.k c.args.state.now.groups (layer_of c.args.rep.now c.args.layer.now c.args.state.now.scalars c.args.state.now.open)
       (rest_of c.args.rep.now c.args.k c.args.columns.now c.args.row.now.p c.args.row.now.minus c.args.state.now.scalars c.args.row.now.rest) c.args.settled.now (c.loop-e.e + 1) c.followed_by-longer.result c.args.best.now
       w.place_one-found.new.best c.if-state-e.best (c.loop-e.better || w.place_one-found.result) (c.loop-e.abreast || w.place_one-found.result) c.if-state-e.better c.if-state-e.abreast
@@ -114,7 +114,7 @@ place_each-loop-e-preserved t c = elim c.if-state-e.branch [
       (rest_of c.args.rep.now c.args.k c.args.columns.now c.args.row.now.p c.args.row.now.minus c.args.state.now.scalars c.args.row.now.rest) c.args.settled.now
       c.args.numbers.now c.args.low c.requires.numbers c.requires.low
       c.loop-e.e c.followed_by-longer.result c.args.best.now c.loop-e.best w.place_one-found.new.best c.loop-e.better c.loop-e.abreast w.place_one-found.result
-      c.loop-e.invariant w.place_one-found.ensures.improves w.place_one-found.ensures.covers)
+      c.loop-e.invariant w.place_one-found.ensures.improves (w.place_one-found.ensures.covers (unstopped _ _ _ w.stops.ensures.1 w.if-stops.false)))
   | place_each-else-state-e w ↦
       branched_same c.args.rep.now c.args.k c.args.state.now.groups (layer_of c.args.rep.now c.args.layer.now c.args.state.now.scalars c.args.state.now.open)
       (rest_of c.args.rep.now c.args.k c.args.columns.now c.args.row.now.p c.args.row.now.minus c.args.state.now.scalars c.args.row.now.rest) c.args.settled.now (c.loop-e.e + 1) c.followed_by-longer.result c.args.best.now
@@ -154,15 +154,15 @@ place_one-place-requires t c =
     )
 
 pub place_one-returns-clause-covers : goal.place_one-returns-clause-covers
-place_one-returns-clause-covers t c d h m N r f l =
+place_one-returns-clause-covers t c q d h m N r f l =
     one_covers c.args.rep.now c.requires.shape.is_rep c.args.k c.requires.row c.args.state.now.groups (λ e. code (slice_index_or c.args.layer.now e [])) c.args.state.now.scalars c.args.state.now.open
     (rest_of c.args.rep.now c.args.k c.args.columns.now c.args.row.now.p c.args.row.now.minus c.args.state.now.scalars c.args.row.now.rest) c.args.settled.now
     c.args.e c.args.low c.args.longer.now c.place.new.best (layer_of c.args.rep.now c.args.layer.now c.placed-next.result.scalars c.placed-next.result.open)
     (rest_of c.args.rep.now c.args.k c.args.columns.now c.args.row.now.p c.args.row.now.minus c.placed-next.result.scalars c.args.row.now.rest) c.placed-next.result.groups c.requires.longer
-    c.placed-next.ensures.places c.requires.number c.place.ensures.covers d h m N r f l
+    c.placed-next.ensures.places c.requires.number (c.place.ensures.covers q) d h m N r f l
 
 pub next_row-returns-then-gives_up-clause-covers : goal.next_row-returns-then-gives_up-clause-covers
-next_row-returns-then-gives_up-clause-covers t c d h =
+next_row-returns-then-gives_up-clause-covers t c q d h =
     beyond_covers c.args.rep.now c.requires.shape.is_rep c.args.k c.requires.row c.args.state.now.groups (λ e. code (slice_index_or c.args.layer.now e [])) c.args.state.now.scalars c.args.state.now.open
     (rest_of c.args.rep.now c.args.k c.args.columns.now c.args.row.now.p c.args.row.now.minus c.args.state.now.scalars c.args.row.now.rest) c.args.settled.now c.requires.none c.args.best.now c.requires.sound
     (subst (λ (b : Bool). Stands b c.args.best.now c.args.settled.now) (c.gives_up.ensures.was_level c.if-gives_up.true) c.requires.stands)

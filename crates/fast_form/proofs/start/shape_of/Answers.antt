@@ -17,8 +17,8 @@ more_than_one q o = let F = field_laws q o in F.two
 few_codes : (q : ℕ) → IsOrder q → q < 16
 few_codes q o = omega (arith, order_most q o)
 
-pub returns : goal.returns
-returns c = record {
+pub returns-clause-shape : goal.returns-clause-shape
+returns-clause-shape c = record {
   fields_are = λ f l. by_three (λ f. f < count c.args.rep.now → slice_index (c.field_at.result ∷ (c.field_at-2.result ∷ (c.field_at-3.result ∷ []))) f ≡ order c.args.rep.now f)
       (λ m. c.field_at.ensures.field (subst (λ (w : List ℕ). 0 < length w) (sym c.factors-factors.ensures) m) ∙ ap (λ (w : List ℕ). slice_index w 0) c.factors-factors.ensures)
       (λ m. c.field_at-2.ensures.field (subst (λ (w : List ℕ). 1 < length w) (sym c.factors-factors.ensures) m) ∙ ap (λ (w : List ℕ). slice_index w 1) c.factors-factors.ensures)
