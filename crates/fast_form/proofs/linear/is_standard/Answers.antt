@@ -1,10 +1,8 @@
-use Rattle.std.proofs.Common.{◌≡◌, ◌<◌, ◌+◌, inl, inr, ℕ, List, [], false, true, length, slice_index_or, sym, ◌∙◌, ap, subst, arith}
-use Rattle.std.specs.List.{slice_get}
-use Rattle.std.specs.Prelude.{Some}
+use Rattle.std.proofs.Common.{◌≡◌, inl, inr, [], slice_index_or, sym, ◌∙◌, ap, subst, arith}
 use Rattle.std.proofs.lemmas.Bool.{cases_lt}
 use Rattle.std.proofs.lemmas.Option.{get_or_from_slice_get}
 use mathlib.Core.Bool.{true≢false}
-use Rattle.matroid_theory.specs.Rep.{Rep, Shape, shape, size, IsStandard}
+use Rattle.matroid_theory.specs.Rep.{Rep, Shape, shape, size}
 use Rattle.fast_form.proofs.Standards.{unit_column}
 use Rattle.fast_form.proofs.linear.is_standard.Goals as goal
 
