@@ -17,7 +17,8 @@ use Rattle.form_search.proofs.Finish.{numbers_decide}
 pub own_class : (M : Rep) → IsShaped M → IsStandard M → (numbers : List ℕ) → numbers ≡ numbers_of M M → AreOfClass M numbers
 own_class M shaped standard numbers e = record { member = M; standard = standard; equivalent = equivalent-reflexive Linear M shaped; numbers_are = sym e }
 
-pub own_classes : (M : Rep) → IsShaped M → IsStandard M → (found : Option (List ℕ)) → IfSome found (λ least. least ≡ numbers_of M M) → IfSome found (AreOfClass M)
+pub own_classes : (M : Rep) → IsShaped M → IsStandard M → (found : Option (List ℕ)) → IfSome found (λ least. least ≡ numbers_of M M) → IfSome found
+    (AreOfClass M)
 own_classes M shaped standard None w = w
 own_classes M shaped standard (Some least) w = own_class M shaped standard least w
 
@@ -27,12 +28,15 @@ neither Equal s e a b = refl
 neither Greater s e a b = absurd (a refl)
 
 -- where the class has less numbers, it is no form
-pub not_form : (M : Rep) → IsShaped M → IsStandard M → (numbers : List ℕ) → AreOfClass M numbers → slice_cmp nat_cmp numbers (numbers_of M M) ≡ Less → IsForm Linear M → ⊥
+pub not_form : (M : Rep) → IsShaped M → IsStandard M → (numbers : List ℕ) → AreOfClass M numbers → slice_cmp nat_cmp numbers (numbers_of M M) ≡ Less → IsForm
+    Linear M → ⊥
 not_form M shaped standard numbers class less form =
     let L = class.member in let x = class.equivalent in
-    let below : slice_cmp nat_cmp (numbers_of M L) (numbers_of M M) ≡ Less = ap (λ (w : List ℕ). slice_cmp nat_cmp w (numbers_of M M)) class.numbers_are ∙ less in
+    let below : slice_cmp nat_cmp (numbers_of M L) (numbers_of M M) ≡ Less = ap (λ (w : List ℕ). slice_cmp nat_cmp w (numbers_of M M)) class.numbers_are ∙
+        less in
     let not_above : slice_cmp nat_cmp (numbers_of M L) (numbers_of M M) ≢ Greater = (λ g. (let z : Less ≡ Greater = sym below ∙ g in cc)) in
     let same : M ≡ L = rep_cmp-equal M L (sym x.takes.same_shape)
     (neither (rep_cmp M L) (rep_cmp L M) (rep_cmp-reversed M L) (form.least L class.standard x)
     (numbers_decide M L M x.takes.shaped shaped class.standard standard x.takes.same_shape refl not_above)) in
-    let z : Less ≡ Equal = sym below ∙ ap (λ (N : Rep). slice_cmp nat_cmp (numbers_of M N) (numbers_of M M)) (sym same) ∙ tied_itself nat_list_cmp_total (numbers_of M M) in cc
+    let z : Less ≡ Equal = sym below ∙ ap (λ (N : Rep). slice_cmp nat_cmp (numbers_of M N) (numbers_of M M)) (sym same) ∙ tied_itself nat_list_cmp_total
+        (numbers_of M M) in cc

@@ -3,7 +3,8 @@ use Rattle.std.proofs.Common.{◌≡◌, ℕ, ◌*◌, ◌+◌, ◌<◌, ◌≤�
 use Rattle.matroid_theory.specs.Rep.{Rep, Shape, shape, count, size, IsShaped, IsStandard}
 use Rattle.fast_form.proofs.Decoded.{same_codes}
 
-module _ (M U : Rep) (shaped : IsShaped M) (unit_shaped : IsShaped U) (t : IsStandard U) (e : shape U ≡ record { factors = M.factors; rank = M.rank; size = M.rank }) (some : 0 < count M) where
+module _ (M U : Rep) (shaped : IsShaped M) (unit_shaped : IsShaped U) (t : IsStandard U)
+    (e : shape U ≡ record { factors = M.factors; rank = M.rank; size = M.rank }) (some : 0 < count M) where
   factor_of : {f : ℕ} → f < count M → f < length U.factors
   factor_of {f} l = subst (λ (S : Shape). f < length S.factors) (sym e) l
 
@@ -23,4 +24,5 @@ module _ (M U : Rep) (shaped : IsShaped M) (unit_shaped : IsShaped U) (t : IsSta
   unit_column w j b = same_codes M.rank (count M) (slice_index_or M.columns j []) (slice_index_or U.columns j [])
       (shaped.lengths j (let r : M.rank ≤ size M = w.room in omega arith))
       (unit_shaped.lengths j (let n : size U ≡ M.rank = ap (λ (S : Shape). S.size) e in omega arith) ∙ ap (λ (S : Shape). S.rank * length S.factors) e) some
-      (λ f i l a. w.units f i j l a b ∙ sym (ap (λ (S : Shape). slice_index (slice_index_or U.columns j []) (i * length S.factors + f)) (sym e) ∙ t.units f i j (factor_of l) (row_of a) (row_of b)))
+      (λ f i l a. w.units f i j l a b ∙ sym (ap (λ (S : Shape). slice_index (slice_index_or U.columns j []) (i * length S.factors + f)) (sym e) ∙ t.units f i
+          j (factor_of l) (row_of a) (row_of b)))

@@ -16,7 +16,9 @@ own_reverse Greater e = cc
 
 pub returns : goal.returns
 returns c = (
-  λ e. subst (IsForm Linear) (sym (rep_cmp-equal c.args.rep.now c.args.form.now (sym c.requires.equivalent.takes.same_shape) (sym c.compare.ensures ∙ c.is_equal.ensures.0 e))) c.requires.form,
-  λ f. c.is_equal.ensures.1 (c.compare.ensures ∙ ap (rep_cmp c.args.rep.now) (sym (one_form Linear c.args.rep.now c.args.form.now f c.requires.form c.requires.equivalent))
+  λ e. subst (IsForm Linear) (sym (rep_cmp-equal c.args.rep.now c.args.form.now (sym c.requires.equivalent.takes.same_shape)
+      (sym c.compare.ensures ∙ c.is_equal.ensures.0 e))) c.requires.form,
+  λ f. c.is_equal.ensures.1 (c.compare.ensures ∙ ap (rep_cmp c.args.rep.now) (sym
+      (one_form Linear c.args.rep.now c.args.form.now f c.requires.form c.requires.equivalent))
       ∙ own_reverse (rep_cmp c.args.rep.now c.args.rep.now) (rep_cmp-reversed c.args.rep.now c.args.rep.now)),
 )
