@@ -27,7 +27,8 @@ module _ (M : Rep) (fields : List ℕ) (factors rank total : ℕ) (h : IsShapeOf
   one_factor = some M fields factors rank total h
 
   supported : (e : ℕ) → e < size M → (f g i : ℕ) → f < count M → g < count M → i < M.rank → matrix M f i e ≡ 0 → matrix M g i e ≡ 0
-  supported e b f g i l m o = same_support M s h.agrees start_trail (start_ordered M s h.standard) e b (λ f i. matrix M f i e) (start_coordinates M s h.standard e b) f g i l m o
+  supported e b f g i l m o = same_support M s h.agrees start_trail (start_ordered M s h.standard) e b (λ f i. matrix M f i e)
+      (start_coordinates M s h.standard e b) f g i l m o
 
   in_total : {e : ℕ} → e < size M → e < total
   in_total {e} l = subst (λ n. e < n) (sym h.total_is) l
@@ -42,12 +43,15 @@ module _ (M : Rep) (fields : List ℕ) (factors rank total : ℕ) (h : IsShapeOf
 
   pub zero_test_is : IsZeroTest M (zero_test marks)
   zero_test_is = record {
-    zeros = λ e b z f i l o. supported e b 0 f i one_factor l o (sym (codes_are e 0 i b one_factor o) ∙ zeros e (in_total b) (not_true (slice_index_or marks e false) z) i (subst (λ n. i < n) (sym h.rank_is) o));
-    some = λ e b z. (let (i, l, n) = nonzero e (in_total b) (not_false (slice_index_or marks e false) z) in let o : i < M.rank = subst (λ n. i < n) h.rank_is l in
+    zeros = λ e b z f i l o. supported e b 0 f i one_factor l o (sym (codes_are e 0 i b one_factor o) ∙ zeros e (in_total b)
+        (not_true (slice_index_or marks e false) z) i (subst (λ n. i < n) (sym h.rank_is) o));
+    some = λ e b z. (let (i, l, n) = nonzero e (in_total b) (not_false (slice_index_or marks e false) z) in let o : i < M.rank = subst (λ n. i < n) h.rank_is
+        l in
         (0, i, one_factor, o, λ y. n (codes_are e 0 i b one_factor o ∙ y)));
   }
 
-  module _ (groups : ℕ → ℕ) (settled : List ℕ) (after : List (List (List ℕ))) (normalised : (e : ℕ) → e < total → IsNormalisedFrom fields factors rank (code (slice_index_or columns e [])) (code (slice_index_or after e [])))
+  module _ (groups : ℕ → ℕ) (settled : List ℕ) (after : List (List (List ℕ))) (normalised : (e : ℕ) → e < total → IsNormalisedFrom fields factors rank
+      (code (slice_index_or columns e [])) (code (slice_index_or after e [])))
       (w : IsStarted M groups (zero_test marks) total settled) where
     three : {f : ℕ} → f < count M → f < 3
     three {f} l = let q : count M ≤ 3 = few M fields factors rank total h in omega arith
@@ -70,14 +74,18 @@ module _ (M : Rep) (fields : List ℕ) (factors rank total : ℕ) (h : IsShapeOf
         record {
           lead = p;
           lead_before = pb;
-          zeros = λ f j l c. u.multiples f j (in_factors l) (in_rank (omega arith)) ∙ ap (λ o. times o (u.multiple f) (code (slice_index_or columns e []) f j)) (h.fields_are f l)
-              ∙ ap (times (order M f) (u.multiple f)) (codes_are e f j b l (omega arith) ∙ supported e b 0 f j one_factor l (omega arith) (sym (codes_are e 0 j b one_factor (omega arith)) ∙ pz j c))
+          zeros = λ f j l c. u.multiples f j (in_factors l) (in_rank (omega arith)) ∙ ap
+              (λ o. times o (u.multiple f) (code (slice_index_or columns e []) f j)) (h.fields_are f l)
+              ∙ ap (times (order M f) (u.multiple f)) (codes_are e f j b l (omega arith) ∙ supported e b 0 f j one_factor l (omega arith)
+                  (sym (codes_are e 0 j b one_factor (omega arith)) ∙ pz j c))
               ∙ times_zero (order M f) (field M s f l) (u.multiple f);
-          ones = λ f l. u.leads p (in_rank pb) pz pn f (in_factors l) (λ y. pn (codes_are e 0 p b one_factor pb ∙ supported e b f 0 p l one_factor pb (sym (codes_are e f p b l pb) ∙ y)));
+          ones = λ f l. u.leads p (in_rank pb) pz pn f (in_factors l) (λ y. pn (codes_are e 0 p b one_factor pb ∙ supported e b f 0 p l one_factor pb
+              (sym (codes_are e f p b l pb) ∙ y)));
         }
 
     pub first_frame : IsFrame M M.rank groups settled (entries_of M after marks) w.trail
-    first_frame = next_frame M s M.rank groups settled (zero_layer M (zero_test marks) total) (others_of M (zero_test marks)) (entries_of M after marks) w.trail w.state
+    first_frame = next_frame M s M.rank groups settled (zero_layer M (zero_test marks) total) (others_of M (zero_test marks)) (entries_of M after marks)
+        w.trail w.state
         (λ e t. (let e' : size M ≤ total = (let z : total ≡ size M = h.total_is in omega arith) in none_left e e' t))
         (record {
           same_total = refl;

@@ -35,18 +35,21 @@ module _ (M : Rep) (numbers : List ℕ) (class : AreOfClass M numbers) where
         ∙ value-weighed (column L (M.rank + j)) ∙ ap (weighed (slice_index (column L (M.rank + j)))) (column_length M L l_shaped l_same (M.rank + j) p_below)
 
     -- the digits of the number are the codes of the column
-    pub decoded : (items : List ℕ) (width : ℕ) → width ≡ M.rank * count M → length items ≡ width → ((e : ℕ) → e < width → slice_index items e ≡ slice_index numbers j / 16 ^ (width - 1 - e) % 16) → items ≡ column L (M.rank + j)
+    pub decoded : (items : List ℕ) (width : ℕ) → width ≡ M.rank * count M → length items ≡ width →
+        ((e : ℕ) → e < width → slice_index items e ≡ slice_index numbers j / 16 ^ (width - 1 - e) % 16) → items ≡ column L (M.rank + j)
     decoded items width z n h =
         ext_get_or 0 items (column L (M.rank + j)) (n ∙ z ∙ sym long)
         (λ e l. h e (omega arith) ∙ ap (λ v. v / 16 ^ (width - 1 - e) % 16) number_weighed
         ∙ ap (λ w. weighed (slice_index (column L (M.rank + j))) w / 16 ^ (width - 1 - e) % 16) (sym z)
-        ∙ digit_of (slice_index (column L (M.rank + j))) width e (width - 1 - e) (λ k b. column_digits M L l_shaped l_same (M.rank + j) p_below k (subst (λ n. k < n) (sym long) (subst (λ n. k < n) z b))) (omega arith) (omega arith))
+        ∙ digit_of (slice_index (column L (M.rank + j))) width e (width - 1 - e) (λ k b. column_digits M L l_shaped l_same (M.rank + j) p_below k
+            (subst (λ n. k < n) (sym long) (subst (λ n. k < n) z b))) (omega arith) (omega arith))
       where
         long : length (column L (M.rank + j)) ≡ M.rank * count M
         long = column_length M L l_shaped l_same (M.rank + j) p_below
 
 -- columns of r * c codes are equal where their codes are
-same_codes : (r c : ℕ) (v w : List ℕ) → length v ≡ r * c → length w ≡ r * c → 0 < c → ((f i : ℕ) → f < c → i < r → slice_index v (i * c + f) ≡ slice_index w (i * c + f)) → v ≡ w
+pub same_codes : (r c : ℕ) (v w : List ℕ) → length v ≡ r * c → length w ≡ r * c → 0 < c →
+    ((f i : ℕ) → f < c → i < r → slice_index v (i * c + f) ≡ slice_index w (i * c + f)) → v ≡ w
 same_codes r c v w a b p h = ext_get_or 0 v w (a ∙ sym b) code
   where
     code : (k : ℕ) → k < length v → slice_index v k ≡ slice_index w k
@@ -65,7 +68,8 @@ pub record IsPart (M : Rep) (numbers : List ℕ) (j : ℕ) (P : Rep) : Type 0 wh
 
 module _ (M : Rep) (numbers : List ℕ) (some : 0 < count M) where
   -- the unit columns
-  pub unit_part : (U : Rep) → AreOfClass M numbers → IsShaped U → IsStandard U → shape U ≡ record { factors = M.factors; rank = M.rank; size = M.rank } → IsPart M numbers 0 U
+  pub unit_part : (U : Rep) → AreOfClass M numbers → IsShaped U → IsStandard U → shape U ≡ record { factors = M.factors; rank = M.rank; size = M.rank } →
+      IsPart M numbers 0 U
   unit_part U class s t e = record {
     class = class;
     factors_are = ap (λ (S : Shape). S.factors) e;
@@ -77,11 +81,14 @@ module _ (M : Rep) (numbers : List ℕ) (some : 0 < count M) where
         let a : L'.rank ≡ M.rank = ap (λ (S : Shape). S.rank) x in let b : size L' ≡ size M = ap (λ (S : Shape). S.size) x in omega arith) in
         let iu : i < size U = (let a : size U ≡ M.rank = ap (λ (S : Shape). S.size) e in omega arith) in
         same_codes M.rank (count M) (slice_index_or U.columns i []) (column L' i)
-        (s.lengths i iu ∙ ap (λ (S : Shape). S.rank * length S.factors) e) (column_length M L' (l_shaped M numbers class) (l_same M numbers class) i (omega arith)) some
+        (s.lengths i iu ∙ ap (λ (S : Shape). S.rank * length S.factors) e) (column_length M L' (l_shaped M numbers class) (l_same M numbers class) i
+            (omega arith)) some
         (λ f j m n.
         ap (λ (S : Shape). slice_index (slice_index_or U.columns i []) (j * length S.factors + f)) (sym e)
-        ∙ t.units f j i (subst (λ (S : Shape). f < length S.factors) (sym e) m) (subst (λ (S : Shape). j < S.rank) (sym e) n) (subst (λ (S : Shape). i < S.rank) (sym e) i')
-        ∙ sym ((let r = class.standard in r.units f j i (subst (λ (S : Shape). f < length S.factors) (sym (l_same M numbers class)) m) (subst (λ (S : Shape). j < S.rank) (sym (l_same M numbers class)) n)
+        ∙ t.units f j i (subst (λ (S : Shape). f < length S.factors) (sym e) m) (subst (λ (S : Shape). j < S.rank) (sym e) n)
+            (subst (λ (S : Shape). i < S.rank) (sym e) i')
+        ∙ sym ((let r = class.standard in r.units f j i (subst (λ (S : Shape). f < length S.factors) (sym (l_same M numbers class)) m)
+            (subst (λ (S : Shape). j < S.rank) (sym (l_same M numbers class)) n)
         (subst (λ (S : Shape). i < S.rank) (sym (l_same M numbers class)) i')))
         ∙ ap (λ (S : Shape). slice_index (column L' i) (j * length S.factors + f)) (l_same M numbers class)));
   }
@@ -89,20 +96,23 @@ module _ (M : Rep) (numbers : List ℕ) (some : 0 < count M) where
       L' : Rep
       L' = class.member
 
-  module _ (j : ℕ) (P : Rep) (w : IsPart M numbers j P) (b : j < length numbers) (items : List ℕ) (width : ℕ) (z : width ≡ M.rank * count M) (n : length items ≡ width)
+  module _ (j : ℕ) (P : Rep) (w : IsPart M numbers j P) (b : j < length numbers) (items : List ℕ) (width : ℕ) (z : width ≡ M.rank * count M)
+      (n : length items ≡ width)
       (digits : (e : ℕ) → e < width → slice_index items e ≡ slice_index numbers j / 16 ^ (width - 1 - e) % 16) where
     is_column : items ≡ column (let c = w.class in c.member) (M.rank + j)
     is_column = decoded M numbers w.class j b items width z n digits
 
     -- the column fits
     pub part_column : IsProductColumn P.factors P.rank items
-    part_column = subst (λ (fs : List ℕ). IsProductColumn fs P.rank items) (sym w.factors_are) (subst (λ (r : ℕ). IsProductColumn M.factors r items) (sym w.rank_is) (record {
+    part_column = subst (λ (fs : List ℕ). IsProductColumn fs P.rank items) (sym w.factors_are)
+        (subst (λ (r : ℕ). IsProductColumn M.factors r items) (sym w.rank_is) (record {
       rows = n ∙ z;
       codes = λ i f l m.
           subst (λ (xs : List ℕ). slice_index xs (i * count M + f) < slice_index M.factors f) (sym is_column)
           (subst (λ (S : Shape). slice_index (column L' (M.rank + j)) (i * length S.factors + f) < slice_index S.factors f) (l_same M numbers w.class)
           (let s = l_shaped M numbers w.class in s.codes f i (M.rank + j) (subst (λ (S : Shape). f < length S.factors) (sym (l_same M numbers w.class)) m)
-          (subst (λ (S : Shape). i < S.rank) (sym (l_same M numbers w.class)) l) (subst (λ (S : Shape). M.rank + j < S.size) (sym (l_same M numbers w.class)) (p_below M numbers w.class j b))));
+          (subst (λ (S : Shape). i < S.rank) (sym (l_same M numbers w.class)) l) (subst (λ (S : Shape). M.rank + j < S.size) (sym (l_same M numbers w.class))
+              (p_below M numbers w.class j b))));
     }))
       where
         L' : Rep
@@ -117,11 +127,13 @@ module _ (M : Rep) (numbers : List ℕ) (some : 0 < count M) where
       class = w.class;
       factors_are = w.factors_are;
       rank_is = w.rank_is;
-      size_is = (let a : size P ≡ M.rank + j = w.size_is in let q : length (P.columns ++ items ∷ []) ≡ length P.columns + 1 = length-append P.columns (items ∷ []) in omega arith);
+      size_is = (let a : size P ≡ M.rank + j = w.size_is in let q : length (P.columns ++ items ∷ []) ≡ length P.columns + 1 = length-append P.columns
+          (items ∷ []) in omega arith);
       same = λ i l. elim (cases_lt i (size P)) [
         | inl m ↦ get_or-append P.columns (items ∷ []) [] i m ∙ w.same i (let a : size P ≡ M.rank + j = w.size_is in omega arith)
         | inr m ↦ (let a : size P ≡ M.rank + j = w.size_is in let e : size P ≡ i = omega arith in let e' : M.rank + j ≡ i = omega arith in
-            ap (λ k. slice_index_or (P.columns ++ items ∷ []) k []) (sym e) ∙ get_or-append_seam P.columns items [] [] ∙ is_column ∙ ap (column (let c = w.class in c.member)) e')
+            ap (λ k. slice_index_or (P.columns ++ items ∷ []) k []) (sym e) ∙ get_or-append_seam P.columns items [] [] ∙ is_column ∙ ap
+                (column (let c = w.class in c.member)) e')
       ];
     }
 

@@ -4,5 +4,7 @@ pub mod Decoded
 pub mod GroupSteps
 pub mod Marks
 pub mod Moves
+pub mod Owned
 pub mod Powers
 pub mod Shapes
+pub mod Standards

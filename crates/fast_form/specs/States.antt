@@ -41,11 +41,13 @@ AreGroups groups = (i : ℕ) → i < 6 → slice_index groups i < 6
 
 -- the elements of a representation that are marked, with their columns
 abbrev pub entries_of : Rep → List (List (List ℕ)) → List Bool → Entries
-entries_of M columns marks = record { total = size M; there = λ e. slice_index_or marks e false; element = λ e. e; codes = λ e. code (slice_index_or columns e []) }
+entries_of M columns marks = record { total = size M; there = λ e. slice_index_or marks e false; element = λ e. e; codes = λ e. code
+    (slice_index_or columns e []) }
 
 -- the elements that are marked, with their columns' rows multiplied by the scalars
 abbrev pub scaled_entries : Rep → (ℕ → ℕ → ℕ → ℕ) → List (List ℕ) → List Bool → Entries
-scaled_entries M codes scalars marks = record { total = size M; there = λ e. slice_index_or marks e false; element = λ e. e; codes = λ e f i. times (order M f) (code scalars f i) (codes e f i) }
+scaled_entries M codes scalars marks = record { total = size M; there = λ e. slice_index_or marks e false; element = λ e. e; codes = λ e f i. times
+    (order M f) (code scalars f i) (codes e f i) }
 
 -- the open ones of a layer
 abbrev pub layer_of : Rep → List (List (List ℕ)) → List (List ℕ) → List Bool → Entries
@@ -80,24 +82,28 @@ marked (false ∷ marks) = marked marks
 
 -- element e is another than b, is there, and its column has the rows of the base before row end
 abbrev pub HasHead : ℕ → List (List (List ℕ)) → List Bool → List (List ℕ) → ℕ → ℕ → ℕ → Type 0
-HasHead factors columns there base end b e = (slice_index_or there e false ≡ true) × (e ≢ b) × ((f i : ℕ) → f < factors → i < end → code (slice_index_or columns e []) f i ≡ code base f i)
+HasHead factors columns there base end b e = (slice_index_or there e false ≡ true) × (e ≢ b) ×
+    ((f i : ℕ) → f < factors → i < end → code (slice_index_or columns e []) f i ≡ code base f i)
 
 -- or hasn't
 abbrev pub HasOtherHead : ℕ → List (List (List ℕ)) → List Bool → List (List ℕ) → ℕ → ℕ → ℕ → Type 0
-HasOtherHead factors columns there base end b e = (slice_index_or there e false ≡ true) × (e ≢ b) × (((f i : ℕ) → f < factors → i < end → code (slice_index_or columns e []) f i ≡ code base f i) → ⊥)
+HasOtherHead factors columns there base end b e = (slice_index_or there e false ≡ true) × (e ≢ b) ×
+    (((f i : ℕ) → f < factors → i < end → code (slice_index_or columns e []) f i ≡ code base f i) → ⊥)
 
 -- the number of a column with its groups scaled, as the program makes it
 pub record IsScaledNumber (fields : List ℕ) (groups : ℕ → ℕ) (factors rank : ℕ) (c : ℕ → ℕ → ℕ) (n : ℕ) : Type 0 where
   pub own : ℕ → ℕ → ℕ
   pub own_code : (f g : ℕ) → f < 3 → g < 6 → own f g < slice_index fields f
   pub own_factors : AreGroupFactors fields factors groups rank c own
-  pub number_is : n ≡ weighed (λ e. times (slice_index fields (e % factors)) (own (e % factors) (groups (e / factors))) (c (e % factors) (e / factors))) (rank * factors)
+  pub number_is : n ≡ weighed (λ e. times (slice_index fields (e % factors)) (own (e % factors) (groups (e / factors))) (c (e % factors) (e / factors)))
+      (rank * factors)
 
 -- the least of the numbers that are marked below total
 abbrev pub IsLeastMarked : List Bool → List ℕ → ℕ → Option ℕ → Type 0
 IsLeastMarked marks numbers total found =
     MatchOption found ((e : ℕ) → e < total → slice_index_or marks e false ≡ true → ⊥)
-    (λ low. ((e : ℕ) → e < total → slice_index_or marks e false ≡ true → low ≤ slice_index numbers e) × ((e : ℕ) × (e < total) × (slice_index_or marks e false ≡ true) × (slice_index numbers e ≡ low)))
+    (λ low. ((e : ℕ) → e < total → slice_index_or marks e false ≡ true → low ≤ slice_index numbers e) ×
+        ((e : ℕ) × (e < total) × (slice_index_or marks e false ≡ true) × (slice_index numbers e ≡ low)))
 
 -- each row in a group of its own
 abbrev pub own_groups : List ℕ

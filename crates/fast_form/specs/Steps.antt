@@ -10,7 +10,8 @@ use Rattle.fast_form.specs.Codes.{AreColumnCodes, code, cleared_code, IsNormalis
 use Rattle.fast_form.specs.Groups.{AreGroupFactors}
 use Rattle.fast_form.specs.States.{AreColumns, AreGroups, HasHead, HasOtherHead, IsLeastNumber}
 
--- a state is the frame's with the element chosen for row k: for each trail that the frame describes there is one that the state describes and that each form follows which has the element in row k
+-- a state is the frame's with the element chosen for row k: for each trail that the frame describes there is one that the state describes and that each form
+-- follows which has the element in row k
 abbrev pub Chooses : Rep → ℕ → Entries → List ℕ → ℕ → Entries → Entries → List ℕ → Type 0
 Chooses M k E groups b layer rest more =
     (d : Trail) (settled : List ℕ) → IsFrame M (suc k) (slice_index groups) settled E d →
@@ -31,8 +32,10 @@ Leads M k groups layer rest E =
     (d : Trail) (settled : List ℕ) → IsPlacing M k (slice_index groups) settled layer rest d →
     ((e : ℕ) → IsThere layer e → ⊥) → IsFrame M k (slice_index groups) settled E d
 
--- element b is chosen for row k: its column's first row that isn't 0 is p, minus is the negative of the column, of the class are the others with the same rows up to k, and the rest are those with other rows
-pub record IsRow (fields : List ℕ) (factors rank total k : ℕ) (columns : List (List (List ℕ))) (there : List Bool) (b p : ℕ) (minus : List (List ℕ)) (class rest : List Bool) : Type 0 where
+-- element b is chosen for row k: its column's first row that isn't 0 is p, minus is the negative of the column, of the class are the others with the same
+-- rows up to k, and the rest are those with other rows
+pub record IsRow (fields : List ℕ) (factors rank total k : ℕ) (columns : List (List (List ℕ))) (there : List Bool) (b p : ℕ) (minus : List (List ℕ))
+    (class rest : List Bool) : Type 0 where
   pub before : (i : ℕ) → i < p → code (slice_index_or columns b []) 0 i ≡ 0
   pub p_most : p ≤ k
   pub nonzero : code (slice_index_or columns b []) 0 p ≢ 0
@@ -51,10 +54,12 @@ ArePivoted fields factors rank total k columns p minus class layer =
 abbrev pub AreNext : List ℕ → ℕ → ℕ → ℕ → ℕ → List (List (List ℕ)) → ℕ → List (List ℕ) → List (List ℕ) → List Bool → List (List (List ℕ)) → Type 0
 AreNext fields factors rank total k columns p minus by rest after =
     (e : ℕ) → e < total → slice_index_or rest e false ≡ true → IsNormalisedFrom fields factors rank
-    (λ f i. times (slice_index fields f) (code by f i) (cleared_code fields p (code minus) (code (slice_index_or columns e [])) f (exchange p k i))) (code (slice_index_or after e []))
+    (λ f i. times (slice_index fields f) (code by f i) (cleared_code fields p (code minus) (code (slice_index_or columns e [])) f (exchange p k i)))
+        (code (slice_index_or after e []))
 
 -- the codes of a state
-pub record AreStateCodes (fields : List ℕ) (rank : ℕ) (columns : List (List (List ℕ))) (p : ℕ) (minus : List (List ℕ)) (layer : List (List (List ℕ))) (scalars : List (List ℕ)) (groups : List ℕ) : Type 0 where
+pub record AreStateCodes (fields : List ℕ) (rank : ℕ) (columns : List (List (List ℕ))) (p : ℕ) (minus : List (List ℕ)) (layer : List (List (List ℕ)))
+    (scalars : List (List ℕ)) (groups : List ℕ) : Type 0 where
   pub columns_are : AreColumns fields columns
   pub p_below : p < rank
   pub minus_are : AreColumnCodes fields minus

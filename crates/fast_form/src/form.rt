@@ -1,42 +1,37 @@
 // The form of a standard representation.
-ghost use Rattle.std.specs.Prelude.{is_some, ◌≡◌, ◌<◌, ◌≤◌, ◌+◌, ◌-◌, ◌*◌, ◌/◌, ◌%◌, ◌^◌, ◌∷◌, [], ℕ, IfSome, length, slice_index, slice_index_or};
+ghost use Rattle.std.specs.Prelude.{is_some, ◌≢◌, true, false, ◌↔◌, ◌≡◌, ◌<◌, ◌≤◌, ◌+◌, ◌-◌, ◌*◌, ◌/◌, ◌%◌, ◌^◌, ◌∷◌, [], ℕ, IfSome, length, slice_index, slice_index_or};
 ghost use Rattle.matroid_theory.specs.declared.Mode.TheVariants.{Linear as linear};
 ghost use Rattle.matroid_theory.specs.Rep.{shape, size, count, matrix, IsShaped, IsStandard};
 ghost use Rattle.matroid_theory.specs.Matroid.{Agrees};
-ghost use Rattle.matroid_theory.specs.Move.{AreEquivalent};
+ghost use Rattle.std.specs.Cmp.Lexicographic.{slice_cmp};
+ghost use Rattle.std.specs.Ordering.{nat_cmp};
+ghost use Rattle.std.specs.declared.cmp.Ordering.TheVariants.{Greater};
+ghost use Rattle.matroid_theory.specs.Rep.{Rep as Matrices};
+ghost use Rattle.matroid_theory.specs.Move.{Move, AreEquivalent};
+ghost use Rattle.form_search.specs.Trail.{ReachesForm};
 ghost use Rattle.matroid_theory.specs.Order.{IsForm};
-ghost use Rattle.form_search.specs.Search.{AreOfClass, Stands};
+ghost use Rattle.form_search.specs.Search.{AreOfClass, Stands, numbers_of};
 ghost use Rattle.form_search.specs.Start.{CoversAll, IsStarted, IsZeroTest, zero_test};
 ghost use Rattle.fast_form.specs.Codes.{code};
 ghost use Rattle.fast_form.specs.States.{IsShapeOf, AreColumns, own_groups};
 
 use crate::lists::{Columns, Marks, normalised_columns};
-use crate::modes::least_from;
 use crate::numbers::Numbers;
 use crate::search::rows;
 use crate::start::{columns_of, nonzero_marks, shape_of};
 use crate::states::{Frame, Shape};
 use crate::weights::number;
 use arrayvec::ArrayVec;
-use matroid_theory::Mode;
 use product_rep::{ProductColumn, Rep};
 
-/// The form of the class of a standard representation whose factors agree: of the standard representations that are equivalent
-/// to it by moves of the mode, the one that is not above any other.
-pub fn least_form_fast(rep: &Rep, mode: Mode) -> Rep
-    requires agrees { Agrees rep.now }
-    requires standard { IsStandard rep.now }
-    ensures form { IsForm mode result }
-    ensures equivalent { AreEquivalent mode rep.now result }
-{
-    rep.laws();
-    match mode {
-        Mode::Linear => least_of_standard(rep),
-        Mode::Semilinear => least_from(rep, 0),
-    }
+/// What a search found, and whether that took the place of what it began with.
+#[derive(Drop)]
+struct Outcome {
+    best: Option<Numbers>,
+    better: bool,
 }
 
-/// The form of the class by linear moves.
+/// The form of the class of a standard representation whose factors agree.
 pub fn least_of_standard(rep: &Rep) -> Rep
     requires agrees { Agrees rep.now }
     requires standard { IsStandard rep.now }
@@ -44,18 +39,62 @@ pub fn least_of_standard(rep: &Rep) -> Rep
     ensures equivalent { AreEquivalent linear rep.now result }
 {
     rep.laws();
-    let shape = shape_of(rep);
-    match found(rep, &shape) {
+    let shape = shape_of(rep, false);
+    match least_found(rep, &shape) {
         Some(numbers) => with_numbers(rep, &shape, &numbers),
         None => unreachable!(),
     }
 }
 
+/// Whether a standard representation whose factors agree is the form of its class, by a search that begins with its own columns
+/// and ends with the first better ones; none where it has zero columns, so that the search begins with nothing.
+pub fn decided(rep: &Rep) -> Option<bool>
+    requires agrees { Agrees rep.now }
+    requires standard { IsStandard rep.now }
+    ensures { IfSome result (λ verdict. (verdict ≡ true) ↔ IsForm linear rep.now) }
+{
+    let shape = shape_of(rep, true);
+    let found = found(rep, &shape);
+    match &found.best {
+        Some(least) => verdict(rep, &shape, least, found.better),
+        None => None,
+    }
+}
+
+/// The verdict on a representation by what was found, if this is its own list of numbers or below it.
+fn verdict(rep: &Rep, shape: &Shape, least: &Numbers, better: bool) -> Option<bool>
+    requires shape { IsShapeOf rep.now shape.now.fields shape.now.count shape.now.rank shape.now.size }
+    requires class { AreOfClass rep.now least.now }
+    requires own { better ≡ false → least.now ≡ numbers_of rep.now rep.now }
+    requires covers { better ≡ false → (m : Move) (N : Matrices) → ReachesForm rep.now m N → slice_cmp nat_cmp least.now (numbers_of rep.now N) ≢ Greater }
+    ensures { IfSome result (λ verdict. (verdict ≡ true) ↔ IsForm linear rep.now) }
+{
+    if !better {
+        return Some(true);
+    }
+    let own = own_numbers(rep, shape, &columns_of(rep, shape));
+    if least.is_below(&own) {
+        return Some(false);
+    }
+    None
+}
+
 /// The numbers of the form's later columns.
-fn found(rep: &Rep, shape: &Shape) -> Option<Numbers>
-    requires { IsShapeOf rep.now shape.now.fields shape.now.count shape.now.rank shape.now.size }
+fn least_found(rep: &Rep, shape: &Shape) -> Option<Numbers>
+    requires shape { IsShapeOf rep.now shape.now.fields shape.now.count shape.now.rank shape.now.size }
+    requires whole { shape.now.first ≡ false }
     ensures class { IfSome result (AreOfClass rep.now) }
     ensures covers { CoversAll rep.now result }
+{
+    found(rep, shape).best
+}
+
+/// What a search finds.
+fn found(rep: &Rep, shape: &Shape) -> Outcome
+    requires { IsShapeOf rep.now shape.now.fields shape.now.count shape.now.rank shape.now.size }
+    ensures class { IfSome result.best (AreOfClass rep.now) }
+    ensures own { result.better ≡ false → IfSome result.best (λ least. least ≡ numbers_of rep.now rep.now) }
+    ensures covers { (shape.now.first ≡ true → result.better ≡ false) → CoversAll rep.now result.best }
 {
     let columns = columns_of(rep, shape);
     let marks = nonzero_marks(&columns, shape.rank, shape.size);
@@ -65,9 +104,9 @@ fn found(rep: &Rep, shape: &Shape) -> Option<Numbers>
         there: marks,
         groups: [0, 1, 2, 3, 4, 5],
     };
-    let mut best = own_numbers(rep, shape, &columns, &settled);
+    let mut best = first_best(rep, shape, &columns, &settled);
     let level = best.is_some();
-    rows(
+    let better = rows(
         rep,
         shape,
         shape.rank - 1,
@@ -77,25 +116,35 @@ fn found(rep: &Rep, shape: &Shape) -> Option<Numbers>
         &mut best,
         level,
     );
-    best
+    Outcome { best, better }
 }
 
-/// The numbers of the later columns; none where columns are zero, since those come first.
-fn own_numbers(rep: &Rep, shape: &Shape, columns: &Columns, settled: &Numbers) -> Option<Numbers>
+/// What the search begins with: the numbers of the later columns; none where columns are zero, since those come first.
+fn first_best(rep: &Rep, shape: &Shape, columns: &Columns, settled: &Numbers) -> Option<Numbers>
     requires shape { IsShapeOf rep.now shape.now.fields shape.now.count shape.now.rank shape.now.size }
     requires codes { AreColumns shape.now.fields columns.now }
     requires columns { (e f i : ℕ) → e < size rep.now → f < count rep.now → i < rep.now.rank → code (slice_index_or columns.now e []) f i ≡ matrix rep.now f i e }
-    ensures class { IfSome result (AreOfClass rep.now) }
+    ensures own { IfSome result (λ least. least ≡ numbers_of rep.now rep.now) }
     ensures stands { Stands (is_some result) result settled.now }
 {
     if settled.len() != 0 {
         return None;
     }
+    Some(own_numbers(rep, shape, columns))
+}
+
+/// The numbers of the later columns.
+fn own_numbers(rep: &Rep, shape: &Shape, columns: &Columns) -> Numbers
+    requires shape { IsShapeOf rep.now shape.now.fields shape.now.count shape.now.rank shape.now.size }
+    requires codes { AreColumns shape.now.fields columns.now }
+    requires columns { (e f i : ℕ) → e < size rep.now → f < count rep.now → i < rep.now.rank → code (slice_index_or columns.now e []) f i ≡ matrix rep.now f i e }
+    ensures { result ≡ numbers_of rep.now rep.now }
+{
     let mut numbers = Numbers::new();
     for e in shape.rank..shape.size {
         numbers = numbers.followed_by(number(&columns[e], shape.count, shape.rank));
     }
-    Some(numbers)
+    numbers
 }
 
 /// The numbers of the zero columns, which come first.

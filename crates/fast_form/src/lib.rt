@@ -8,6 +8,7 @@ mod codes;
 mod columns;
 mod form;
 mod groups;
+mod linear;
 mod lists;
 mod modes;
 mod numbers;
@@ -17,4 +18,5 @@ mod states;
 mod steps;
 mod weights;
 
-pub use form::{least_form_fast, least_of_standard};
+pub use linear::is_form_fast;
+pub use modes::least_form_fast;

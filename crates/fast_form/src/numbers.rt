@@ -1,7 +1,11 @@
 // Lists of numbers of columns.
-ghost use Rattle.std.specs.Prelude.{◌≡◌, ◌<◌, ◌≤◌, [], ◌∷◌, ◌++◌, length, slice_index};
+ghost use Rattle.std.specs.Prelude.{true, ◌≡◌, ◌<◌, ◌≤◌, [], ◌∷◌, ◌++◌, length, slice_index};
+ghost use Rattle.std.specs.Cmp.Lexicographic.{slice_cmp};
+ghost use Rattle.std.specs.Ordering.{nat_cmp};
+ghost use Rattle.std.specs.declared.cmp.Ordering.TheVariants.{Less};
 
 use arrayvec::ArrayVec;
+use std::cmp::Ordering;
 use std::marker::Model;
 
 /// The numbers of at most 16 columns, in order. Contracts see the list of numbers.
@@ -63,5 +67,12 @@ impl Numbers {
         let mut longer = self.copy();
         longer.numbers.push(last);
         longer
+    }
+
+    /// Whether the numbers come before others, compared from the first on.
+    pub fn is_below(&self, other: &Numbers) -> bool
+        ensures { (result ≡ true) → slice_cmp nat_cmp self.now other.now ≡ Less }
+    {
+        self.numbers.as_slice().cmp(other.numbers.as_slice()) == Ordering::Less
     }
 }

@@ -1,5 +1,5 @@
 // The search: row by row from the last, and in a row column by column.
-ghost use Rattle.std.specs.Prelude.{◌≡◌, ◌≢◌, ◌<◌, ◌≤◌, ◌+◌, ◌∷◌, [], ◌++◌, ◌||◌, ℕ, List, IfSome, length, slice_index, slice_index_or, suc};
+ghost use Rattle.std.specs.Prelude.{true, false, ◌↔◌, ◌≡◌, ◌≢◌, ◌<◌, ◌≤◌, ◌+◌, ◌∷◌, [], ◌++◌, ◌||◌, ℕ, List, IfSome, length, slice_index, slice_index_or, suc};
 ghost use Rattle.std.specs.Option.{MatchOption};
 ghost use Rattle.matroid_theory.specs.Rep.{size};
 ghost use Rattle.matroid_theory.specs.Rep.{Rep as Matrices};
@@ -38,7 +38,7 @@ pub fn rows(
     requires sound { IfSome best.old (AreOfClass rep.now) }
     requires stands { Stands level best.old settled.now }
     ensures improves { Improves rep.now best.old best.new settled.now result }
-    ensures covers { (d : Trail) → IsFrame rep.now (suc k) (slice_index frame.now.groups) settled.now (entries_of rep.now columns.now frame.now.there) d →
+    ensures covers { (shape.now.first ≡ true → result ≡ false) → (d : Trail) → IsFrame rep.now (suc k) (slice_index frame.now.groups) settled.now (entries_of rep.now columns.now frame.now.there) d →
         Covers rep.now d (suc k) (length settled.now) best.new }
 {
     let mut abreast = level;
@@ -51,6 +51,9 @@ pub fn rows(
             let found = place(
                 rep, shape, k, columns, &row, &layer, &state, settled, best, abreast,
             );
+            if stops(shape, found) {
+                return true;
+            }
             abreast = either(abreast, found);
             better = either(better, found);
         }
@@ -79,7 +82,7 @@ pub fn place(
     requires sound { IfSome best.old (AreOfClass rep.now) }
     requires stands { Stands level best.old settled.now }
     ensures improves { Improves rep.now best.old best.new settled.now result }
-    ensures covers { (d : Trail) →
+    ensures covers { (shape.now.first ≡ true → result ≡ false) → (d : Trail) →
         IsPlacing rep.now k (slice_index state.now.groups) settled.now (layer_of rep.now layer.now state.now.scalars state.now.open) (rest_of rep.now k columns.now row.now.p row.now.minus state.now.scalars row.now.rest) d →
         Covers rep.now d k (length settled.now) best.new }
 {
@@ -122,7 +125,7 @@ fn place_each(
     requires sound { IfSome best.old (AreOfClass rep.now) }
     requires stands { (longer : List ℕ) → longer ≡ settled.now ++ low ∷ [] → Stands level best.old longer }
     ensures improves { Improves rep.now best.old best.new settled.now result }
-    ensures covers { (d : Trail) →
+    ensures covers { (shape.now.first ≡ true → result ≡ false) → (d : Trail) →
         IsPlacing rep.now k (slice_index state.now.groups) settled.now (layer_of rep.now layer.now state.now.scalars state.now.open) (rest_of rep.now k columns.now row.now.p row.now.minus state.now.scalars row.now.rest) d →
         Covers rep.now d k (length settled.now) best.new }
 {
@@ -134,6 +137,9 @@ fn place_each(
             let found = place_one(
                 rep, shape, k, columns, row, layer, state, e, low, settled, &longer, best, abreast,
             );
+            if stops(shape, found) {
+                return true;
+            }
             abreast = either(abreast, found);
             better = either(better, found);
         }
@@ -168,7 +174,7 @@ fn place_one(
     requires sound { IfSome best.old (AreOfClass rep.now) }
     requires stands { Stands level best.old longer.now }
     ensures improves { Improves rep.now best.old best.new longer.now result }
-    ensures covers { (d : Trail) →
+    ensures covers { (shape.now.first ≡ true → result ≡ false) → (d : Trail) →
         IsPlacing rep.now k (slice_index state.now.groups) settled.now (layer_of rep.now layer.now state.now.scalars state.now.open) (rest_of rep.now k columns.now row.now.p row.now.minus state.now.scalars row.now.rest) d →
         (m : Move) (N : Matrices) → ReachesForm rep.now m N → Follows rep.now d k (length settled.now) m → m.label (rep.now.rank + length settled.now) ≡ e →
         IsAtMost best.new (numbers_of rep.now N) }
@@ -205,7 +211,7 @@ fn next_row(
     requires sound { IfSome best.old (AreOfClass rep.now) }
     requires stands { Stands level best.old settled.now }
     ensures improves { Improves rep.now best.old best.new settled.now result }
-    ensures covers { (d : Trail) →
+    ensures covers { (shape.now.first ≡ true → result ≡ false) → (d : Trail) →
         IsPlacing rep.now k (slice_index state.now.groups) settled.now (layer_of rep.now layer.now state.now.scalars state.now.open) (rest_of rep.now k columns.now row.now.p row.now.minus state.now.scalars row.now.rest) d →
         Covers rep.now d k (length settled.now) best.new }
 {
@@ -246,7 +252,7 @@ fn keep(
     requires sound { IfSome best.old (AreOfClass rep.now) }
     requires stands { Stands level best.old settled.now }
     ensures improves { Improves rep.now best.old best.new settled.now result }
-    ensures covers { (d : Trail) →
+    ensures covers { (shape.now.first ≡ true → result ≡ false) → (d : Trail) →
         IsPlacing rep.now 0 (slice_index state.now.groups) settled.now (layer_of rep.now layer.now state.now.scalars state.now.open) (rest_of rep.now 0 columns.now row.now.p row.now.minus state.now.scalars row.now.rest) d →
         Covers rep.now d 0 (length settled.now) best.new }
 {
@@ -262,4 +268,11 @@ fn either(one: bool, other: bool) -> bool
     ensures { result ≡ (one || other) }
 {
     one || other
+}
+
+/// Whether the search ends here.
+fn stops(shape: &Shape, found: bool) -> bool
+    ensures { (result ≡ true) ↔ ((shape.now.first ≡ true) × (found ≡ true)) }
+{
+    shape.first && found
 }

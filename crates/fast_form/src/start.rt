@@ -15,11 +15,12 @@ use crate::states::Shape;
 use field_tables::Field;
 use product_rep::{Factors, ProductColumn, Rep};
 
-/// What the search knows of the representation.
-pub fn shape_of(rep: &Rep) -> Shape
+/// What the search knows of the representation; `first` says whether it ends where it first finds something better.
+pub fn shape_of(rep: &Rep, first: bool) -> Shape
     requires agrees { Agrees rep.now }
     requires standard { IsStandard rep.now }
-    ensures { IsShapeOf rep.now result.fields result.count result.rank result.size }
+    ensures first { result.first ≡ first }
+    ensures shape { IsShapeOf rep.now result.fields result.count result.rank result.size }
 {
     let factors = rep.factors();
     Shape {
@@ -31,6 +32,7 @@ pub fn shape_of(rep: &Rep) -> Shape
         count: factors.count(),
         rank: rep.rank(),
         size: rep.size(),
+        first,
     }
 }
 

@@ -4,13 +4,15 @@ use crate::columns::Column;
 use crate::groups::Groups;
 use crate::lists::Marks;
 
-/// What the search knows of the representation: its fields, and the numbers of factors, rows and columns.
+/// What the search knows of the representation: its fields, and the numbers of factors, rows and columns; and whether the search
+/// ends where it first finds something better than what it began with.
 #[derive(Drop)]
 pub struct Shape {
     pub fields: Fields,
     pub count: usize,
     pub rank: usize,
     pub size: usize,
+    pub first: bool,
 }
 
 /// The elements outside the flat of the elements of the rows that are chosen. Rows of one group have one factor in each form.

@@ -14,7 +14,7 @@ whole M k a = record { some = (let f = k.fields in f.some); shaped = k.shaped; a
 pub unreachable-requires : goal.unreachable-requires
 unreachable-requires c =
     some_form c.args.rep.now (whole c.args.rep.now c.laws.ensures c.requires.agrees) c.args.rep.now c.requires.standard
-    (equivalent-reflexive Linear c.args.rep.now (shaped _ _ _ _ _ c.shape_of-shape.ensures)) (λ m L r. c.in-None.ensures.covers m L r)
+    (equivalent-reflexive Linear c.args.rep.now (shaped _ _ _ _ _ c.shape_of-shape.ensures.shape)) (λ m L r. c.in-None.ensures.covers m L r)
 
 pub returns-clause-form : goal.returns-clause-form
 returns-clause-form c =

@@ -7,5 +7,6 @@ abbrev pub invariant-loop-e : goal.invariant-loop-e
 invariant-loop-e l = record {
   size : length l.normalised ≡ 16;
   codes : AreColumns l.shape.fields l.normalised;
-  rows : (j : ℕ) → j < l.e → IsNormalisedFrom l.shape.fields l.shape.count l.shape.rank (code (slice_index_or l.columns j [])) (code (slice_index_or l.normalised j []));
+  rows : (j : ℕ) → j < l.e → IsNormalisedFrom l.shape.fields l.shape.count l.shape.rank (code (slice_index_or l.columns j []))
+      (code (slice_index_or l.normalised j []));
 }

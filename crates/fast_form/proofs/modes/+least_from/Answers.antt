@@ -6,7 +6,7 @@ use Rattle.std.specs.declared.cmp.Ordering.TheVariants.{Less, Equal, Greater}
 use Rattle.matroid_theory.specs.Field.{degree}
 use Rattle.matroid_theory.specs.Rep.{Shape, count, order}
 use Rattle.matroid_theory.proofs.Compared.{below_not_above, not_below_reversed}
-use Rattle.matroid_theory.proofs.Semilinear.{IsLeastBelow, raised_agrees, raised_standard, least_linear, least_first, least_kept, least_replaced}
+use Rattle.matroid_theory.proofs.Semilinear.{IsLeastBelow, raised_agrees, least_linear, least_first, least_kept, least_replaced}
 use Rattle.fast_form.proofs.modes.+least_from.Goals as goal
 use Rattle.fast_form.proofs.modes.+least_from.Goals.{then-eq, else-eq}
 
@@ -29,7 +29,7 @@ pub returns-then-factor-count : goal.returns-then-factor-count
 returns-then-factor-count t c =
     let n : c.count.result ≡ count c.args.rep.now = c.count.ensures.count ∙ ap (λ (fs : List ℕ). length fs) c.factors-factors.ensures in
     let e : c.args.factor ≡ c.count.result = c.if-factor-count.true in
-    least_linear c.args.factor c.args.rep.now c.least_of_standard.result (omega arith) c.least_of_standard.ensures.form c.least_of_standard.ensures.equivalent
+    least_linear c.args.factor c.args.rep.now c.least_linear.result (omega arith) c.least_linear.ensures.form c.least_linear.ensures.equivalent
 
 pub loop-power-init : goal.loop-power-init
 loop-power-init t c =
@@ -47,7 +47,7 @@ least_from-other-requires t c =
       (
         raised_agrees c.args.rep.now c.args.factor c.loop-power.power c.raised.result c.laws.ensures.shaped l c.raised.ensures
             (subst (λ (x : ℕ). c.loop-power.power < x) d c.loop-power-test.true) c.requires.agrees,
-        (raised_standard c.args.rep.now c.args.factor c.loop-power.power c.raised.result c.laws.ensures.shaped l c.raised.ensures c.requires.standard, omega arith),
+        omega arith,
       ),
     )
 

@@ -22,4 +22,5 @@ abbrev pub invariant-rows-loop-b : goal.invariant-rows-loop-b
 invariant-rows-loop-b l = AreTried l.rep l.k l.frame.groups l.columns l.frame.there l.settled l.b l.initial.best l.best l.better l.abreast
 
 abbrev pub invariant-place_each-loop-e : goal.invariant-place_each-loop-e
-invariant-place_each-loop-e l = AreBranched l.rep l.k l.state.groups (layer_of l.rep l.layer l.state.scalars l.state.open) (rest_of l.rep l.k l.columns l.row.p l.row.minus l.state.scalars l.row.rest) l.settled l.e l.longer l.initial.best l.best l.better l.abreast
+invariant-place_each-loop-e l = AreBranched l.rep l.k l.state.groups (layer_of l.rep l.layer l.state.scalars l.state.open)
+    (rest_of l.rep l.k l.columns l.row.p l.row.minus l.state.scalars l.row.rest) l.settled l.e l.longer l.initial.best l.best l.better l.abreast

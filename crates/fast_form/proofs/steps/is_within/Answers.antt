@@ -10,4 +10,5 @@ within : (n d : ℕ) → 0 < d → n / d ≡ 0 → n < d
 within n d p e = let l : n < d * (n / d + 1) = lt-mul-div-succ n p in let z : d * (n / d + 1) ≡ d * 1 = ap (λ k. d * (k + 1)) e in omega arith
 
 pub returns : goal.returns
-returns c e = subst (λ v. c.args.number < v) (sixteens c.args.digits) (within c.args.number (2 ^ (4 * c.args.digits)) (pow_pos (4 * c.args.digits)) (eqb-true _ 0 e))
+returns c e = subst (λ v. c.args.number < v) (sixteens c.args.digits) (within c.args.number (2 ^ (4 * c.args.digits)) (pow_pos (4 * c.args.digits))
+    (eqb-true _ 0 e))

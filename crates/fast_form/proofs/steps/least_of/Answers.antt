@@ -5,7 +5,8 @@ use Rattle.form_search.specs.Search.{IsThere}
 use Rattle.fast_form.specs.States.{layer_of, IsLeastOf, IsLeastMarked}
 use Rattle.fast_form.proofs.steps.least_of.Goals as goal
 
-as_entries : (M : Rep) (layer : List (List (List ℕ))) (scalars : List (List ℕ)) (marks : List Bool) (numbers : List ℕ) (total : ℕ) (found : Option ℕ) → total ≡ size M → IsLeastMarked marks numbers total found
+as_entries : (M : Rep) (layer : List (List (List ℕ))) (scalars : List (List ℕ)) (marks : List Bool) (numbers : List ℕ) (total : ℕ) (found : Option ℕ) → total
+    ≡ size M → IsLeastMarked marks numbers total found
     → MatchOption found ((e : ℕ) → IsThere (layer_of M layer scalars marks) e → ⊥) (λ low. IsLeastOf (layer_of M layer scalars marks) numbers low)
 as_entries M layer scalars marks numbers total None z h = λ e t. h e (let b : e < size M = t.below in omega arith) t.passes
 as_entries M layer scalars marks numbers total (Some low) z h = record {
@@ -16,4 +17,5 @@ as_entries M layer scalars marks numbers total (Some low) z h = record {
 }
 
 pub returns : goal.returns
-returns c = as_entries c.args.rep.now c.args.layer.now c.args.state.now.scalars c.args.state.now.open c.args.numbers.now c.args.shape.now.size c.least_marked.result c.requires.shape.total_is c.least_marked.ensures
+returns c = as_entries c.args.rep.now c.args.layer.now c.args.state.now.scalars c.args.state.now.open c.args.numbers.now c.args.shape.now.size
+    c.least_marked.result c.requires.shape.total_is c.least_marked.ensures
