@@ -62,8 +62,9 @@ fn add_children(parent: &Rep, forbidden: &[MinorItem], found: &mut Found) -> Res
     Ok(tried)
 }
 
-/// The form of the parent followed by the column, where that has no forbidden minor.
-fn child(parent: &Rep, forbidden: &[MinorItem], column: &ProductColumn) -> Option<Rep>
+/// The form of the class of the parent followed by the column, where that has no forbidden minor, and else none. All growth
+/// reduces by this function.
+pub fn child(parent: &Rep, forbidden: &[MinorItem], column: &ProductColumn) -> Option<Rep>
     requires room { size parent.now < 16 }
     requires column { IsProductColumn parent.now.factors parent.now.rank column.now.items }
     requires standard { IsStandard parent.now }

@@ -15,7 +15,7 @@ mod shown;
 
 pub use filter::passes;
 pub use form_list::FormList;
-pub use growth::grow_alone;
+pub use growth::{child, grow_alone};
 pub use level::{Level, first_level};
 pub use shown::listed;
 /// Want of memory.
