@@ -9,6 +9,7 @@ ghost use Rattle.matroid_theory.specs.Order.{IsForm};
 
 use crate::form::{decided, least_of_standard};
 use canonical_form::least_form;
+use matroid_theory::Mode;
 use product_rep::{ProductColumn, Rep, compare};
 use std::cmp::Ordering;
 
@@ -23,7 +24,7 @@ pub fn least_linear(rep: &Rep) -> Rep
     if is_standard(rep) {
         least_of_standard(rep)
     } else {
-        least_form(rep)
+        least_form(rep, Mode::Linear)
     }
 }
 

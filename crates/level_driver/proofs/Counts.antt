@@ -42,7 +42,7 @@ module _ {X : Type 0} where
   there x z xs h = (suc h.0, (let l = h.1 in omega arith), h.2)
 
   -- two lists without repeats that have nothing in common have no repeats together
-  append_apart : (xs ys : List X) → AllPairs (λ x y. x ≢ y) xs → AllPairs (λ x y. x ≢ y) ys → ((x : X) → Contains xs x → Contains ys x → ⊥) → AllPairs (λ x y. x ≢ y) (xs ++ ys)
+  pub append_apart : (xs ys : List X) → AllPairs (λ x y. x ≢ y) xs → AllPairs (λ x y. x ≢ y) ys → ((x : X) → Contains xs x → Contains ys x → ⊥) → AllPairs (λ x y. x ≢ y) (xs ++ ys)
   append_apart [] ys a b apart = b
   append_apart (x ∷ xs) ys a b apart =
       AllPairs-cons (λ x y. x ≢ y) x (xs ++ ys) new (append_apart xs ys (λ i j d l m. a (suc i) (suc j) d (omega arith) (omega arith)) b (λ z c. apart z (there x z xs c)))
@@ -79,7 +79,7 @@ module _ {X Y : Type 0} (f : X → Y) where
   Contains-from_map (x ∷ xs) y (zero, l, e) = (x, (0, omega arith, refl), e)
   Contains-from_map (x ∷ xs) y (suc k, l, e) = let b = Contains-from_map xs y (k, omega arith, e) in (b.0, there x b.0 xs b.1, b.2)
 
-  map_apart : (xs : List X) → ((x y : X) → f x ≡ f y → x ≡ y) → AllPairs (λ x y. x ≢ y) xs → AllPairs (λ x y. x ≢ y) (map f xs)
+  pub map_apart : (xs : List X) → ((x y : X) → f x ≡ f y → x ≡ y) → AllPairs (λ x y. x ≢ y) xs → AllPairs (λ x y. x ≢ y) (map f xs)
   map_apart [] one a i j d l m = absurd (omega arith)
   map_apart (x ∷ xs) one a i j d l m =
       let n : length (map f (x ∷ xs)) ≡ length (x ∷ xs) = length-map (x ∷ xs) f in

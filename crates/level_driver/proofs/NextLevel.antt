@@ -52,7 +52,7 @@ module _ (q : Request) (family : Family) (grows : Grows q family) (n : ℕ) wher
 
   module _ (parents : List Rep) (level : IsLevel family n parents) where
     -- the tries are the extensions of the parents
-    tries_are : (try : Rep × List ℕ) → IsExtension family.forbidden parents try ↔ IsTry family (n + 1) try
+    pub tries_are : (try : Rep × List ℕ) → IsExtension family.forbidden parents try ↔ IsTry family (n + 1) try
     tries_are try = (there, back)
       where
         there : IsExtension family.forbidden parents try → IsTry family (n + 1) try

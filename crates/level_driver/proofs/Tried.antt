@@ -70,7 +70,7 @@ module _ (columns : ColumnsAfter) (v : List ℕ) (next : IsNextColumn columns v)
   after = record { parent = columns.parent; last = v }
 
   -- up to the next one are those up to the last one, and it
-  one_more : (w : List ℕ) → (IsAdmissible columns.parent w × (slice_cmp nat_cmp w v ≢ Greater)) ↔ (IsUpTo columns w ⊎ (w ≡ v))
+  pub one_more : (w : List ℕ) → (IsAdmissible columns.parent w × (slice_cmp nat_cmp w v ≢ Greater)) ↔ (IsUpTo columns w ⊎ (w ≡ v))
   one_more w = (λ u. by_order (slice_cmp nat_cmp columns.last w) refl u.0 u.1, back)
     where
       tied : (r : Ordering) → slice_cmp nat_cmp w v ≡ r → slice_cmp nat_cmp w v ≢ Greater → slice_cmp nat_cmp v w ≢ Greater → w ≡ v
@@ -95,7 +95,7 @@ module _ (columns : ColumnsAfter) (v : List ℕ) (next : IsNextColumn columns v)
             | inr e ↦ (subst (IsAdmissible columns.parent) (sym e) next.admissible, λ g. let s = tied_itself nat_list_cmp_total v in let k = ap (λ x. slice_cmp nat_cmp x v) e in cc)
           ]
 
-  not_yet : (w : List ℕ) → IsUpTo columns w → w ≡ v → ⊥
+  pub not_yet : (w : List ℕ) → IsUpTo columns w → w ≡ v → ⊥
   not_yet w u e = u.1 (ap (λ x. slice_cmp nat_cmp x columns.last) e ∙ turned columns.last v Less next.after)
 
   module _ (mode : Mode) (Ns : List Matroid) (start found : List (List (List ℕ))) (tried : ℕ) (following : ColumnsAfter) (is : following ≡ record { parent = columns.parent; last = v }) (falls : above_values - value following.last < above_values - value columns.last) (h : HasTried mode Ns start columns tried found) where

@@ -68,7 +68,6 @@ fn add_children(parent: &Rep, mode: Mode, forbidden: &[MinorItem], found: &mut F
 pub fn child(parent: &Rep, mode: Mode, forbidden: &[MinorItem], column: &ProductColumn) -> Option<Rep>
     requires room { size parent.now < 16 }
     requires column { IsProductColumn parent.now.factors parent.now.rank column.now.items }
-    requires standard { IsStandard parent.now }
     requires agrees { Agrees (followed_by parent.now column.now.items) }
     ensures none { IsNone result → ¬ (Avoids (matroids_of forbidden.now) (followed_by parent.now column.now.items)) }
     ensures avoids { IsSome result → Avoids (matroids_of forbidden.now) (followed_by parent.now column.now.items) }

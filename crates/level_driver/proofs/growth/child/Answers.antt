@@ -16,8 +16,3 @@ pub returns-clause-avoids : goal.returns-clause-avoids
 returns-clause-avoids c = λ some.
     let same : c.push_column.new.self ≡ followed_by c.args.parent.now c.args.column.now.items = c.push_column.ensures ∙ ap (λ (P : Rep). followed_by P c.args.column.now.items) c.copy-candidate.ensures in
     subst (Avoids (matroids_of c.args.forbidden.now)) same (c.avoids.ensures.0 c.if-not-avoids.false)
-
-pub least_form_fast-requires-clause-standard : goal.least_form_fast-requires-clause-standard
-least_form_fast-requires-clause-standard c =
-    let same : c.push_column.new.self ≡ followed_by c.args.parent.now c.args.column.now.items = c.push_column.ensures ∙ ap (λ (P : Rep). followed_by P c.args.column.now.items) c.copy-candidate.ensures in
-    subst IsStandard (sym same) (standard_followed c.args.parent.now c.args.column.now.items c.requires.standard)

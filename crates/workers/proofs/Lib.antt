@@ -1,0 +1,9 @@
+pub mod KeyLists
+pub mod Numbers
+pub mod Calls
+pub mod ChildKeys
+pub mod PartKeys
+pub mod Whole
+pub mod Held
+pub mod FromKeys
+pub mod Ended

@@ -1,0 +1,6 @@
+pub mod Keys
+pub mod Offered
+pub mod Parts
+pub mod Store
+pub mod Seats
+pub mod Forms

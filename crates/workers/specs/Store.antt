@@ -1,0 +1,24 @@
+-- What a store holds after a level was grown through it.
+use Rattle.std.specs.Prelude.{ℕ, ◌≡◌, ◌↔◌, List}
+use Rattle.matroid_theory.specs.Rep.{Rep}
+use Rattle.matroid_theory.specs.Level.{Family, IsLevelForm, IsCount}
+use Rattle.formats.specs.Request.{Request}
+use Rattle.formats.specs.Levels.{Grows}
+use Rattle.histories.specs.declared.entry.Entry.{Entry}
+use Rattle.histories.specs.History.{IsLegal}
+use Rattle.histories.specs.Counts.{entries_in}
+use Rattle.histories.specs.Joined.{joined}
+use Rattle.class_store.specs.Seen.{IsNewIn}
+use Rattle.form_key.specs.Packing.{packing}
+use Rattle.store_laws.specs.TryKeys.{IsTryKey}
+
+-- The histories of the stripes are one legal history, where each key has as many entries as there are tries of size n with that key, and no others.
+-- The keys told New are those of the level.
+pub record HoldsTries (family : Family) (n : ℕ) (histories : List (List Entry)) : Type 0 where
+  pub legal : IsLegal (joined histories)
+  pub entries : (key : List ℕ) → IsCount (λ try. IsTryKey family n try key) (entries_in histories key)
+  pub fresh : (key : List ℕ) → IsNewIn histories key ↔ ((M : Rep) × IsLevelForm family n M × (packing M ≡ key))
+
+-- the same for what the request grows
+abbrev pub HoldsTriesOf : Request → ℕ → List (List Entry) → Type 0
+HoldsTriesOf q n histories = (family : Family) → Grows q family → HoldsTries family n histories

@@ -1,0 +1,5 @@
+//! Growth by threads, run.
+#![tactic(auto)]
+
+#[cfg(test)]
+mod tests;
