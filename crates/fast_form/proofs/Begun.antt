@@ -77,7 +77,7 @@ module _ (M : Rep) (fields : List ℕ) (factors rank total : ℕ) (h : IsShapeOf
           zeros = λ f j l c. u.multiples f j (in_factors l) (in_rank (omega arith)) ∙ ap
               (λ o. times o (u.multiple f) (code (slice_index_or columns e []) f j)) (h.fields_are f l)
               ∙ ap (times (order M f) (u.multiple f)) (codes_are e f j b l (omega arith) ∙ supported e b 0 f j one_factor l (omega arith)
-                  (sym (codes_are e 0 j b one_factor (omega arith)) ∙ pz j c))
+              (sym (codes_are e 0 j b one_factor (omega arith)) ∙ pz j c))
               ∙ times_zero (order M f) (field M s f l) (u.multiple f);
           ones = λ f l. u.leads p (in_rank pb) pz pn f (in_factors l) (λ y. pn (codes_are e 0 p b one_factor pb ∙ supported e b f 0 p l one_factor pb
               (sym (codes_are e f p b l pb) ∙ y)));

@@ -63,20 +63,20 @@ pub record AreBranched (M : Rep) (k : ℕ) (groups : List ℕ) (layer rest : Ent
 pub tried_same : (M : Rep) (k : ℕ) (groups : List ℕ) (columns : List (List (List ℕ))) (there : List Bool) (settled : List ℕ) (b : ℕ)
     (old now new : Option (List ℕ)) (better level better' level' : Bool)
     → new ≡ now → better' ≡ better → level' ≡ level → AreTried M k groups columns there settled b old now better level → AreTried M k groups columns there
-        settled b old new better' level'
+    settled b old new better' level'
 tried_same M k groups columns there settled b old now new better level better' level' x y z t =
     subst (λ (o : Option (List ℕ)). AreTried M k groups columns there settled b old o better' level') (sym x)
     (subst (λ (v : Bool). AreTried M k groups columns there settled b old now v level') (sym y)
-        (subst (AreTried M k groups columns there settled b old now better) (sym z) t))
+    (subst (AreTried M k groups columns there settled b old now better) (sym z) t))
 
 pub branched_same : (M : Rep) (k : ℕ) (groups : List ℕ) (layer rest : Entries) (settled : List ℕ) (e : ℕ) (longer : List ℕ) (old now new : Option (List ℕ))
     (better level better' level' : Bool)
     → new ≡ now → better' ≡ better → level' ≡ level → AreBranched M k groups layer rest settled e longer old now better level → AreBranched M k groups layer
-        rest settled e longer old new better' level'
+    rest settled e longer old new better' level'
 branched_same M k groups layer rest settled e longer old now new better level better' level' x y z t =
     subst (λ (o : Option (List ℕ)). AreBranched M k groups layer rest settled e longer old o better' level') (sym x)
     (subst (λ (v : Bool). AreBranched M k groups layer rest settled e longer old now v level') (sym y)
-        (subst (AreBranched M k groups layer rest settled e longer old now better) (sym z) t))
+    (subst (AreBranched M k groups layer rest settled e longer old now better) (sym z) t))
 
 module _ (M : Rep) (rep : KeepsLimits M) (k : ℕ) (k_below : k < M.rank) where
   shaped : IsShaped M
@@ -94,7 +94,7 @@ module _ (M : Rep) (rep : KeepsLimits M) (k : ℕ) (k_below : k < M.rank) where
 
     pub more_tried : (b : ℕ) (old now new : Option (List ℕ)) (better level found : Bool) (layer rest : Entries) (more : List ℕ)
         → AreTried M k groups columns there settled b old now better level → Chooses M k (entries_of M columns there) groups b layer rest more → Improves M
-            now new settled found
+        now new settled found
         → ((d : Trail) → IsPlacing M k (slice_index more) settled layer rest d → Covers M d k (length settled) new)
         → AreTried M k groups columns there settled (b + 1) old new (better || found) (level || found)
     more_tried b old now new better level found layer rest more t c i w = record {
@@ -124,7 +124,7 @@ module _ (M : Rep) (rep : KeepsLimits M) (k : ℕ) (k_below : k < M.rank) where
     all_tried b old new better level t l d h m N r f =
         t.covers d h m N r f
         (let (e, w, v) = next_row_element M k (slice_index groups) settled (entries_of M columns there) d h m N r f in let y : e < size M = w.below in let z
-            : e ≡ m.label k = v in omega arith)
+        : e ≡ m.label k = v in omega arith)
 
   -- ---- the open elements with the least number
 
@@ -145,11 +145,11 @@ module _ (M : Rep) (rep : KeepsLimits M) (k : ℕ) (k_below : k < M.rank) where
         → Places M k groups layer rest e layer_after rest_after more → IsLeastNumber M (slice_index groups) (layer.codes e) low
         → ((d : Trail) → IsPlacing M k (slice_index more) longer layer_after rest_after d → Covers M d k (length longer) new)
         → (d : Trail) → State d → (m : Move) (N : Rep) → ReachesForm M m N → Follows M d k (length settled) m → m.label (M.rank + length settled) ≡ e →
-            IsAtMost new (numbers_of M N)
+        IsAtMost new (numbers_of M N)
     one_covers e low longer new layer_after rest_after more z c least w d h m N r f l =
         let (d', p, g) = c d settled low h least in
         w d' (subst (λ (s : List ℕ). IsPlacing M k (slice_index more) s layer_after rest_after d') (sym z) p) m N r
-            (subst (λ (s : List ℕ). Follows M d' k (length s) m) (sym z) (g m f l))
+        (subst (λ (s : List ℕ). Follows M d' k (length s) m) (sym z) (g m f l))
 
     -- where no element is open, and what was found has a next number of a column that is zero before row k, it covers
     pub beyond_covers : ((e : ℕ) → IsThere layer e → ⊥) → (found : Option (List ℕ)) → IfSome found (AreOfClass M) → Stands true found settled
@@ -162,8 +162,8 @@ module _ (M : Rep) (rep : KeepsLimits M) (k : ℕ) (k_below : k < M.rank) where
         by : (o : Option (List ℕ)) → IfSome o (AreOfClass M) → MatchOption o ⊥ (λ best. (length settled < length best) ×
             (slice_index best (length settled) < 16 ^ ((M.rank - k) * count M)))
             → MatchOption o ⊥ (λ best. (length settled < length best) × (length best ≡ size M - M.rank) ×
-                ((m : Move) (N : Rep) → ReachesForm M m N → Follows M d k (length settled) m → slice_index best (length settled) < number M
-                (λ f i. matrix N f i (M.rank + length settled))))
+            ((m : Move) (N : Rep) → ReachesForm M m N → Follows M d k (length settled) m → slice_index best (length settled) < number M
+            (λ f i. matrix N f i (M.rank + length settled))))
         by None s l = l
         by (Some best) s l =
             let n : length best ≡ size M - M.rank = class_length M best s in
@@ -222,10 +222,10 @@ module _ (M : Rep) (rep : KeepsLimits M) (k : ℕ) (k_below : k < M.rank) where
       -- each form has one of them next, and the least number there
       branch : (d : Trail) → State d → (m : Move) (N : Rep) → ReachesForm M m N → Follows M d k (length settled) m
           → (e : ℕ) × IsThere layer e × (m.label (M.rank + length settled) ≡ e) × (slice_index numbers e ≡ low) ×
-              (number M (λ f i. matrix N f i (M.rank + length settled)) ≡ low)
+          (number M (λ f i. matrix N f i (M.rank + length settled)) ≡ low)
       branch d h m N r f =
           let (e, w) = next_branch M shaped some k (slice_index groups) settled layer rest d h m N r f own_of ones_of low at_least least.at least.there
-              at_low in
+          at_low in
           (e, w.is_there, w.is_next, number_at e w.is_there w.least_is, w.number_is)
 
       pub none_branched : (longer : List ℕ) (old : Option (List ℕ)) (level : Bool) → IfSome old (AreOfClass M) → Stands level old longer → AreBranched M k
@@ -235,7 +235,7 @@ module _ (M : Rep) (rep : KeepsLimits M) (k : ℕ) (k_below : k < M.rank) where
       pub more_branched : (e : ℕ) (longer : List ℕ) (old now new : Option (List ℕ)) (better level found : Bool) → AreBranched M k groups layer rest settled e
           longer old now better level → Improves M now new longer found
           → ((d : Trail) → State d → (m : Move) (N : Rep) → ReachesForm M m N → Follows M d k (length settled) m → m.label (M.rank + length settled) ≡ e →
-              IsAtMost new (numbers_of M N))
+          IsAtMost new (numbers_of M N))
           → AreBranched M k groups layer rest settled (e + 1) longer old new (better || found) (level || found)
       more_branched e longer old now new better level found t i w = record {
         improves = improves_more M old now new longer better found (better || found) t.improves i (or_false better found) (or_left better found);
@@ -249,7 +249,7 @@ module _ (M : Rep) (rep : KeepsLimits M) (k : ℕ) (k_below : k < M.rank) where
       pub other_branched : (e : ℕ) (longer : List ℕ) (old now : Option (List ℕ)) (better level : Bool) → AreBranched M k groups layer rest settled e longer
           old now better level
           → ((slice_index_or open_marks e false ≡ true) → slice_index numbers e ≡ low → ⊥) → AreBranched M k groups layer rest settled (e + 1) longer old now
-              better level
+          better level
       other_branched e longer old now better level t n = record {
         improves = t.improves;
         stands = t.stands;
@@ -290,8 +290,8 @@ module _ (M : Rep) (rep : KeepsLimits M) (k : ℕ) (k_below : k < M.rank) where
         where
           by : (o : Option (List ℕ)) → IfSome o (AreOfClass M) → MatchOption o ⊥ (λ best. slice_index best (length settled) < low)
               → MatchOption o ⊥ (λ best. (length settled < length best) × (length best ≡ size M - M.rank) ×
-                  ((m : Move) (N : Rep) → ReachesForm M m N → Follows M d k (length settled) m → slice_index best (length settled) < number M
-                  (λ f i. matrix N f i (M.rank + length settled))))
+              ((m : Move) (N : Rep) → ReachesForm M m N → Follows M d k (length settled) m → slice_index best (length settled) < number M
+              (λ f i. matrix N f i (M.rank + length settled))))
           by None s l = l
           by (Some best) s l =
               let n : length best ≡ size M - M.rank = class_length M best s in

@@ -42,7 +42,7 @@ module _ (M : Rep) (numbers : List ℕ) (class : AreOfClass M numbers) where
         (λ e l. h e (omega arith) ∙ ap (λ v. v / 16 ^ (width - 1 - e) % 16) number_weighed
         ∙ ap (λ w. weighed (slice_index (column L (M.rank + j))) w / 16 ^ (width - 1 - e) % 16) (sym z)
         ∙ digit_of (slice_index (column L (M.rank + j))) width e (width - 1 - e) (λ k b. column_digits M L l_shaped l_same (M.rank + j) p_below k
-            (subst (λ n. k < n) (sym long) (subst (λ n. k < n) z b))) (omega arith) (omega arith))
+        (subst (λ n. k < n) (sym long) (subst (λ n. k < n) z b))) (omega arith) (omega arith))
       where
         long : length (column L (M.rank + j)) ≡ M.rank * count M
         long = column_length M L l_shaped l_same (M.rank + j) p_below
@@ -82,13 +82,13 @@ module _ (M : Rep) (numbers : List ℕ) (some : 0 < count M) where
         let iu : i < size U = (let a : size U ≡ M.rank = ap (λ (S : Shape). S.size) e in omega arith) in
         same_codes M.rank (count M) (slice_index_or U.columns i []) (column L' i)
         (s.lengths i iu ∙ ap (λ (S : Shape). S.rank * length S.factors) e) (column_length M L' (l_shaped M numbers class) (l_same M numbers class) i
-            (omega arith)) some
+        (omega arith)) some
         (λ f j m n.
         ap (λ (S : Shape). slice_index (slice_index_or U.columns i []) (j * length S.factors + f)) (sym e)
         ∙ t.units f j i (subst (λ (S : Shape). f < length S.factors) (sym e) m) (subst (λ (S : Shape). j < S.rank) (sym e) n)
-            (subst (λ (S : Shape). i < S.rank) (sym e) i')
+        (subst (λ (S : Shape). i < S.rank) (sym e) i')
         ∙ sym ((let r = class.standard in r.units f j i (subst (λ (S : Shape). f < length S.factors) (sym (l_same M numbers class)) m)
-            (subst (λ (S : Shape). j < S.rank) (sym (l_same M numbers class)) n)
+        (subst (λ (S : Shape). j < S.rank) (sym (l_same M numbers class)) n)
         (subst (λ (S : Shape). i < S.rank) (sym (l_same M numbers class)) i')))
         ∙ ap (λ (S : Shape). slice_index (column L' i) (j * length S.factors + f)) (l_same M numbers class)));
   }
@@ -106,14 +106,14 @@ module _ (M : Rep) (numbers : List ℕ) (some : 0 < count M) where
     pub part_column : IsProductColumn P.factors P.rank items
     part_column = subst (λ (fs : List ℕ). IsProductColumn fs P.rank items) (sym w.factors_are)
         (subst (λ (r : ℕ). IsProductColumn M.factors r items) (sym w.rank_is) (record {
-      rows = n ∙ z;
-      codes = λ i f l m.
-          subst (λ (xs : List ℕ). slice_index xs (i * count M + f) < slice_index M.factors f) (sym is_column)
-          (subst (λ (S : Shape). slice_index (column L' (M.rank + j)) (i * length S.factors + f) < slice_index S.factors f) (l_same M numbers w.class)
-          (let s = l_shaped M numbers w.class in s.codes f i (M.rank + j) (subst (λ (S : Shape). f < length S.factors) (sym (l_same M numbers w.class)) m)
-          (subst (λ (S : Shape). i < S.rank) (sym (l_same M numbers w.class)) l) (subst (λ (S : Shape). M.rank + j < S.size) (sym (l_same M numbers w.class))
+          rows = n ∙ z;
+          codes = λ i f l m.
+              subst (λ (xs : List ℕ). slice_index xs (i * count M + f) < slice_index M.factors f) (sym is_column)
+              (subst (λ (S : Shape). slice_index (column L' (M.rank + j)) (i * length S.factors + f) < slice_index S.factors f) (l_same M numbers w.class)
+              (let s = l_shaped M numbers w.class in s.codes f i (M.rank + j) (subst (λ (S : Shape). f < length S.factors) (sym (l_same M numbers w.class)) m)
+              (subst (λ (S : Shape). i < S.rank) (sym (l_same M numbers w.class)) l) (subst (λ (S : Shape). M.rank + j < S.size) (sym (l_same M numbers w.class))
               (p_below M numbers w.class j b))));
-    }))
+        }))
       where
         L' : Rep
         L' = let c = w.class in c.member
@@ -133,7 +133,7 @@ module _ (M : Rep) (numbers : List ℕ) (some : 0 < count M) where
         | inl m ↦ get_or-append P.columns (items ∷ []) [] i m ∙ w.same i (let a : size P ≡ M.rank + j = w.size_is in omega arith)
         | inr m ↦ (let a : size P ≡ M.rank + j = w.size_is in let e : size P ≡ i = omega arith in let e' : M.rank + j ≡ i = omega arith in
             ap (λ k. slice_index_or (P.columns ++ items ∷ []) k []) (sym e) ∙ get_or-append_seam P.columns items [] [] ∙ is_column ∙ ap
-                (column (let c = w.class in c.member)) e')
+            (column (let c = w.class in c.member)) e')
       ];
     }
 

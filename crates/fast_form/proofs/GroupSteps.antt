@@ -46,8 +46,11 @@ module _ (fields : List ℕ) (count : ℕ) (few : count ≤ 3) (groups : ℕ →
     };
     unseen = λ j l u. elim (cases_lt j i) [
       | inl b ↦ h.unseen j b u
-      | inr b ↦ (let e : j ≡ i = omega arith in elim w [ inl o ↦ ap (c 0) e ∙ o | inr s ↦ absurd
-          (differ (sym s ∙ ap (λ j. slice_index_or seen (groups j) false) (sym e) ∙ u)) ])
+      | inr b ↦ (let e : j ≡ i = omega arith in elim w [
+        | inl o ↦ ap (c 0) e ∙ o
+        | inr s ↦ absurd
+            (differ (sym s ∙ ap (λ j. slice_index_or seen (groups j) false) (sym e) ∙ u))
+      ])
     ];
     found = λ g l s. (let (j, b, e, n) = h.found g l s in (j, omega arith, e, n));
   }

@@ -85,7 +85,7 @@ module _ (M : Rep) (fields : List ℕ) (factors rank total : ℕ) (h : IsShapeOf
       (t : IsThere (entries_of M columns there) b)
       (p : ℕ) (minus : List (List ℕ)) (class rest_marks : List Bool) (row : IsRow fields factors rank total k columns there b p minus class rest_marks)
       (layer_columns : List (List (List ℕ))) (layer_codes : AreColumns fields layer_columns)
-          (pivots : ArePivoted fields factors rank total k columns p minus class layer_columns)
+      (pivots : ArePivoted fields factors rank total k columns p minus class layer_columns)
       (scalars : List (List ℕ)) (units : (f i : ℕ) → f < 3 → i < 6 → code scalars f i ≡ 1) where
     abbrev E : Entries
     E = entries_of M columns there
@@ -107,14 +107,14 @@ module _ (M : Rep) (fields : List ℕ) (factors rank total : ℕ) (h : IsShapeOf
         ≡ layer.codes e f i
     pivot_at e l w f i o m = sym (
         by_one f i (code (slice_index_or layer_columns e []) f i) o m (code_below M fields factors rank total h (slice_index_or layer_columns e [])
-            (layer_codes e (sixteen l)) f i o m)
+        (layer_codes e (sixteen l)) f i o m)
         ∙ pivots e (in_total l) w f i (in_factors o) (in_rank m) ∙ cleared_same M fields factors rank total h p (code minus)
-            (code (slice_index_or columns e [])) f (exchange p k i) o)
+        (code (slice_index_or columns e [])) f (exchange p k i) o)
 
     rest_at : (e : ℕ) → e < size M → (f i : ℕ) → f < count M → i < M.rank → pivoted M p k (code minus) (E.codes e) f i ≡ rest.codes e f i
     rest_at e l f i o m = sym (by_one f i (pivoted M p k (code minus) (E.codes e) f i) o m
         (cleared_below p (code minus) (E.codes e) f (exchange p k i) o (code_below M fields factors rank total h (slice_index_or columns e [])
-            (codes e (sixteen l)) f p o p_below)))
+        (codes e (sixteen l)) f p o p_below)))
 
     division : IsDivided M k E b p (code minus) layer rest
     division = record {
@@ -130,8 +130,11 @@ module _ (M : Rep) (fields : List ℕ) (factors rank total : ℕ) (h : IsShapeOf
       rest_codes = λ e w. rest_at e w.below;
       both = λ e w n. elim (slice_index_or class e false) as (λ v. slice_index_or class e false ≡ v → IsThere layer e ⊎ IsThere rest e) [
         | true ↦ λ z. inl (record { below = w.below; passes = z })
-        | false ↦ λ z. inr (record { below = w.below; passes = (row.other e (in_total w.below)).1
-            (w.passes, n, λ a. differ ((row.same e (in_total w.below)).1 (w.passes, n, a)) z) })
+        | false ↦ λ z. inr (record {
+          below = w.below;
+          passes = (row.other e (in_total w.below)).1
+              (w.passes, n, λ a. differ ((row.same e (in_total w.below)).1 (w.passes, n, a)) z);
+        })
       ] refl;
     }
       where
@@ -172,7 +175,7 @@ module _ (M : Rep) (fields : List ℕ) (factors rank total : ℕ) (h : IsShapeOf
       (own : ℕ → ℕ → ℕ) (own_code : (f j : ℕ) → f < 3 → j < 6 → own f j < slice_index fields f)
       (column_factors : AreGroupFactors fields factors (slice_index groups) rank (code column) own)
       (after_scalars : List (List ℕ)) (products : (f i : ℕ) → f < factors → i < rank → code after_scalars f i ≡ times (slice_index fields f)
-          (own f (slice_index groups i)) (code scalars f i))
+      (own f (slice_index groups i)) (code scalars f i))
       (more : List ℕ) (met : List Bool) (column_marks : MarksGroups (slice_index groups) rank (code column) met)
       (column_tied : (p : ℕ) → p < rank → ((i : ℕ) → i < p → code column 0 i ≡ 0) → code column 0 p ≢ 0 → (i : ℕ) → i < 6 →
       slice_index more i ≡ cond (slice_index_or met (slice_index groups i) false) (slice_index groups p) (slice_index groups i))
@@ -220,38 +223,43 @@ module _ (M : Rep) (fields : List ℕ) (factors rank total : ℕ) (h : IsShapeOf
         let v = let a = w.inside in a.each g t in
         let sup : IsSupported M c = entry_supported M fields factors rank total h k (length settled) d g c o v in
         let ones : MakesOnes M (slice_index groups) c (all_own M fields factors rank total h groups group_below c own own_code own_factors sup) = makes_ones
-            M fields factors rank total h groups group_below c own own_code own_factors sup in
+        M fields factors rank total h groups group_below c own own_code own_factors sup in
         let ties = ties_of d settled w sup in
         let is : settled ++ lowest ∷ [] ≡ settled ++ number M (scaled M (slice_index groups)
-            (all_own M fields factors rank total h groups group_below c own own_code own_factors sup) c) ∷ [] =
+        (all_own M fields factors rank total h groups group_below c own own_code own_factors sup) c) ∷ [] =
         ap (λ n. settled ++ n ∷ []) (least.number_is ∙ ones_same M s one_factor (slice_index groups) c least.own
-            (all_own M fields factors rank total h groups group_below c own own_code own_factors sup)
+        (all_own M fields factors rank total h groups group_below c own own_code own_factors sup)
         (let q = v.coordinates in q.codes) least.ones ones) in (
           after M s one_factor k (slice_index groups) settled placed_layer placed_rest d w g t
               (all_own M fields factors rank total h groups group_below c own own_code own_factors sup) ones (slice_index more) ties,
           placing_same M s k (slice_index more) (settled ++ lowest ∷ [])
               (layer_after M s one_factor k (slice_index groups) settled placed_layer placed_rest d w g t
-                  (all_own M fields factors rank total h groups group_below c own own_code own_factors sup) ones (slice_index more) ties)
+              (all_own M fields factors rank total h groups group_below c own own_code own_factors sup) ones (slice_index more) ties)
               (rest_after M s one_factor k (slice_index groups) settled placed_layer placed_rest d w g t
-                  (all_own M fields factors rank total h groups group_below c own own_code own_factors sup) ones (slice_index more) ties)
+              (all_own M fields factors rank total h groups group_below c own own_code own_factors sup) ones (slice_index more) ties)
               layer_next rest_next
               (after M s one_factor k (slice_index groups) settled placed_layer placed_rest d w g t
-                  (all_own M fields factors rank total h groups group_below c own own_code own_factors sup) ones (slice_index more) ties)
+              (all_own M fields factors rank total h groups group_below c own own_code own_factors sup) ones (slice_index more) ties)
               (record {
                 element = λ e. refl;
                 there = λ e q. record { below = q.below; passes = kept_mark e q.passes };
                 back = λ e q. record { below = q.below; passes = mark_kept e q.passes };
                 codes = λ e q f i l b. codes_same sup layer_codes e f i l b;
               })
-              (record { element = λ e. refl; there = λ e q. record { below = q.below; passes = q.passes }; back = λ e q. record
-                  { below = q.below; passes = q.passes }; codes = λ e q f i l b. codes_same sup rest_codes e f i l b })
+              (record {
+                element = λ e. refl;
+                there = λ e q. record { below = q.below; passes = q.passes };
+                back = λ e q. record
+                    { below = q.below; passes = q.passes };
+                codes = λ e q f i l b. codes_same sup rest_codes e f i l b;
+              })
               (placed_state M s one_factor k (slice_index groups) settled placed_layer placed_rest d w g t
-                  (all_own M fields factors rank total h groups group_below c own own_code own_factors sup) ones (slice_index more) ties
-                  (settled ++ lowest ∷ []) is),
+              (all_own M fields factors rank total h groups group_below c own own_code own_factors sup) ones (slice_index more) ties
+              (settled ++ lowest ∷ []) is),
           λ m f e. subst (λ n. Follows M (after M s one_factor k (slice_index groups) settled placed_layer placed_rest d w g t
               (all_own M fields factors rank total h groups group_below c own own_code own_factors sup) ones (slice_index more) ties) k n m) (sym long)
               (follows_after M s one_factor k (slice_index groups) settled placed_layer placed_rest d w g t
-                  (all_own M fields factors rank total h groups group_below c own own_code own_factors sup) ones (slice_index more) ties m f e),
+              (all_own M fields factors rank total h groups group_below c own own_code own_factors sup) ones (slice_index more) ties m f e),
         )
       where
         long : length (settled ++ lowest ∷ []) ≡ suc (length settled)
@@ -263,9 +271,9 @@ module _ (M : Rep) (fields : List ℕ) (factors rank total : ℕ) (h : IsShapeOf
           | inl z ↦ no_ties (untied (λ i l. z i (subst (λ n. i < n) h.rank_is l))) d settled w (λ f i l b. sup 0 f i one_factor l b (z i b))
           | inr v ↦ (let (p, pb, pz, pn) = v in
               ties_by M s one_factor k (slice_index groups) c sup (w.zeros g t) p pb pn (λ j. slice_index_or met j false)
-                  (λ i l n. marks.marked i (subst (λ n. i < n) (sym h.rank_is) l) n)
+              (λ i l n. marks.marked i (subst (λ n. i < n) (sym h.rank_is) l) n)
               (λ i l m. (let (j, b, e, n) = marks.found (slice_index groups i) (group_below i (six l)) m in (j, subst (λ n. j < n) h.rank_is b, e, n)))
-                  (let q = w.trail in q.fresh) (slice_index more)
+              (let q = w.trail in q.fresh) (slice_index more)
               (λ i l. tied p (subst (λ n. p < n) (sym h.rank_is) pb) pz pn i (six l)) (let q = w.trail in q.rows))
         ]
           where
@@ -280,16 +288,16 @@ module _ (M : Rep) (fields : List ℕ) (factors rank total : ℕ) (h : IsShapeOf
 
         codes_same : (sup : IsSupported M c) (codes : ℕ → ℕ → ℕ → ℕ) → (e f i : ℕ) → f < count M → i < M.rank
             → scaled M (slice_index groups) (all_own M fields factors rank total h groups group_below c own own_code own_factors sup)
-                (λ f i. times (order M f) (code scalars f i) (codes e f i)) f i
+            (λ f i. times (order M f) (code scalars f i) (codes e f i)) f i
             ≡ times (order M f) (code after_scalars f i) (codes e f i)
         codes_same sup codes e f i l o =
             sym (let F = field M s f l in F.times_assoc (all_own M fields factors rank total h groups group_below c own own_code own_factors sup f
-                (slice_index groups i)) (code scalars f i) (codes e f i))
+            (slice_index groups i)) (code scalars f i) (codes e f i))
             ∙ ap (λ y. times (order M f) y (codes e f i))
             (ap (λ y. times (order M f) y (code scalars f i)) (own_at M fields factors rank total h groups group_below c own own_code own_factors sup f
-                (slice_index groups i) (group_below i (six o)))
+            (slice_index groups i) (group_below i (six o)))
             ∙ sym (field_at M fields factors rank total h f l (own f (slice_index groups i)) (code scalars f i)) ∙ sym
-                (products f i (in_factors l) (in_rank o)))
+            (products f i (in_factors l) (in_rank o)))
 
         differ : false ≡ true → ⊥
         differ e = cc
@@ -317,11 +325,11 @@ module _ (M : Rep) (fields : List ℕ) (factors rank total : ℕ) (h : IsShapeOf
     -- the codes outside, by the program's fields
     outside_is : (e f i : ℕ) → f < count M
         → times (slice_index fields f) (code scalars f i) (cleared_code fields p (code minus) (code (slice_index_or columns e [])) f (exchange p k i)) ≡
-            outside.codes e f i
+        outside.codes e f i
     outside_is e f i l = field_at M fields factors rank total h f l (code scalars f i)
         (cleared_code fields p (code minus) (code (slice_index_or columns e [])) f (exchange p k i))
         ∙ ap (times (order M f) (code scalars f i)) (cleared_same M fields factors rank total h p (code minus) (code (slice_index_or columns e [])) f
-            (exchange p k i) l)
+        (exchange p k i) l)
 
     pub leads : Leads M k groups layer outside (entries_of M after_columns rest_marks)
     leads d settled w none = next_frame M s k (slice_index groups) settled layer outside (entries_of M after_columns rest_marks) d w none (record {
@@ -334,7 +342,7 @@ module _ (M : Rep) (fields : List ℕ) (factors rank total : ℕ) (h : IsShapeOf
         (λ f l. record { code = subst (λ o. n.multiple f < o) (h.fields_are f l) (n.multiple_code f (three l)); nonzero = n.multiple_nonzero f (three l) }),
         (λ f i l b. n.multiples f i (in_factors l) (in_rank b)
             ∙ field_at M fields factors rank total h f l (n.multiple f) (times (slice_index fields f) (code scalars f i)
-                (cleared_code fields p (code minus) (code (slice_index_or columns e [])) f (exchange p k i)))
+            (cleared_code fields p (code minus) (code (slice_index_or columns e [])) f (exchange p k i)))
             ∙ ap (times (order M f) (n.multiple f)) (outside_is e f i l)),
       ));
       led = λ e q. led_at d settled w e q;
@@ -356,7 +364,7 @@ module _ (M : Rep) (fields : List ℕ) (factors rank total : ℕ) (h : IsShapeOf
               zeros = λ f j l c. u.multiples f j (in_factors l) (in_rank (omega arith))
                   ∙ field_at M fields factors rank total h f l (u.multiple f) _
                   ∙ ap (times (order M f) (u.multiple f)) (outside_is e f j l ∙ sup 0 f j one_factor l (omega arith) (pz j c)) ∙ times_zero (order M f)
-                      (field M s f l) (u.multiple f);
+                  (field M s f l) (u.multiple f);
               ones = λ f l. u.leads p (in_rank (omega arith)) (λ j c. outside_is e 0 j one_factor ∙ pz j c) (λ z. pn (sym (outside_is e 0 p one_factor) ∙ z))
                   f (in_factors l)
                   (λ z. pn (sup f 0 p l one_factor (omega arith) (sym (outside_is e f p l) ∙ z)));

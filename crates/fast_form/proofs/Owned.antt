@@ -33,10 +33,10 @@ pub not_form : (M : Rep) → IsShaped M → IsStandard M → (numbers : List ℕ
 not_form M shaped standard numbers class less form =
     let L = class.member in let x = class.equivalent in
     let below : slice_cmp nat_cmp (numbers_of M L) (numbers_of M M) ≡ Less = ap (λ (w : List ℕ). slice_cmp nat_cmp w (numbers_of M M)) class.numbers_are ∙
-        less in
+    less in
     let not_above : slice_cmp nat_cmp (numbers_of M L) (numbers_of M M) ≢ Greater = (λ g. (let z : Less ≡ Greater = sym below ∙ g in cc)) in
     let same : M ≡ L = rep_cmp-equal M L (sym x.takes.same_shape)
     (neither (rep_cmp M L) (rep_cmp L M) (rep_cmp-reversed M L) (form.least L class.standard x)
     (numbers_decide M L M x.takes.shaped shaped class.standard standard x.takes.same_shape refl not_above)) in
     let z : Less ≡ Equal = sym below ∙ ap (λ (N : Rep). slice_cmp nat_cmp (numbers_of M N) (numbers_of M M)) (sym same) ∙ tied_itself nat_list_cmp_total
-        (numbers_of M M) in cc
+    (numbers_of M M) in cc

@@ -82,7 +82,7 @@ module _ (M : Rep) (fields : List ℕ) (factors rank total : ℕ) (h : IsShapeOf
           ap (λ v. times (order M f) v (c f i)) (own_at f (slice_index groups i) (group_below i (omega arith)))
           ∙ ap (λ o. times o (own f (slice_index groups i)) (c f i)) (sym (h.fields_are f l))
           ∙ own_factors.leads i (subst (λ n. i < n) (sym h.rank_is) b) (λ j m e. supported f 0 j l some (omega arith) (z j m e))
-              (λ e. n (supported 0 f i some l b e)) f (subst (λ n. f < n) (sym h.factors_are) l) n);
+          (λ e. n (supported 0 f i some l b e)) f (subst (λ n. f < n) (sym h.factors_are) l) n);
     }
 
     -- the scaled code
@@ -98,11 +98,11 @@ module _ (M : Rep) (fields : List ℕ) (factors rank total : ℕ) (h : IsShapeOf
     ones = makes_ones groups g c w.own w.own_code w.own_factors s;
     number_is = w.number_is
         ∙ (λ t. weighed (λ e. times (slice_index fields (e % h.factors_are t)) (w.own (e % h.factors_are t) (slice_index groups (e / h.factors_are t)))
-            (c (e % h.factors_are t) (e / h.factors_are t))) (h.rank_is t * h.factors_are t))
+        (c (e % h.factors_are t) (e / h.factors_are t))) (h.rank_is t * h.factors_are t))
         ∙ weighed_same (λ e. times (slice_index fields (e % count M)) (w.own (e % count M) (slice_index groups (e / count M))) (c (e % count M) (e / count M)))
         (λ e. scaled M (slice_index groups) (all_own groups g c w.own w.own_code w.own_factors s) c (e % count M) (e / count M)) (M.rank * count M)
         (λ e l. sym (scaled_code groups g c w.own w.own_code w.own_factors s (e % count M) (e / count M) (mod-lt e some)
-            (row_below e (count M) M.rank some l)));
+        (row_below e (count M) M.rank some l)));
   }
 
   -- the order of a factor by the program's field
@@ -117,15 +117,15 @@ module _ (M : Rep) (fields : List ℕ) (factors rank total : ℕ) (h : IsShapeOf
       (rest : Entries) (d : Trail) (numbers : List ℕ) → AreGroups groups
       → IsPlacing M k (slice_index groups) settled (layer_of M layer scalars open_marks) rest d
       → ((e : ℕ) → e < total → slice_index_or open_marks e false ≡ true → IsScaledNumber fields (slice_index groups) factors rank
-          (λ f i. times (slice_index fields f) (code scalars f i) (code (slice_index_or layer e []) f i)) (slice_index numbers e))
+      (λ f i. times (slice_index fields f) (code scalars f i) (code (slice_index_or layer e []) f i)) (slice_index numbers e))
       → (e : ℕ) → IsThere (layer_of M layer scalars open_marks) e → IsLeastNumber M (slice_index groups)
-          (λ f i. times (order M f) (code scalars f i) (code (slice_index_or layer e []) f i)) (slice_index numbers e)
+      (λ f i. times (order M f) (code scalars f i) (code (slice_index_or layer e []) f i)) (slice_index numbers e)
   least_numbers_are k groups settled layer scalars open_marks rest d numbers g p w e t =
       let o = let q = p.trail in q.ordered in
       least_number_is groups g (λ f i. times (order M f) (code scalars f i) (code (slice_index_or layer e []) f i)) (slice_index numbers e)
       (entry_supported k (length settled) d e (λ f i. times (order M f) (code scalars f i) (code (slice_index_or layer e []) f i)) o
-          (let a = p.inside in a.each e t))
+      (let a = p.inside in a.each e t))
       (scaled_same fields factors rank (slice_index groups) (λ f i. times (slice_index fields f) (code scalars f i) (code (slice_index_or layer e []) f i))
-          (λ f i. times (order M f) (code scalars f i) (code (slice_index_or layer e []) f i)) (slice_index numbers e) one
+      (λ f i. times (order M f) (code scalars f i) (code (slice_index_or layer e []) f i)) (slice_index numbers e) one
       (λ f i l b. field_at f (subst (λ n. f < n) h.factors_are l) (code scalars f i) (code (slice_index_or layer e []) f i))
-          (w e (let b : e < size M = t.below in let z : total ≡ size M = h.total_is in omega arith) t.passes))
+      (w e (let b : e < size M = t.below in let z : total ≡ size M = h.total_is in omega arith) t.passes))

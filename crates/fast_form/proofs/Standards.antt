@@ -25,4 +25,4 @@ module _ (M U : Rep) (shaped : IsShaped M) (unit_shaped : IsShaped U) (t : IsSta
       (shaped.lengths j (let r : M.rank ≤ size M = w.room in omega arith))
       (unit_shaped.lengths j (let n : size U ≡ M.rank = ap (λ (S : Shape). S.size) e in omega arith) ∙ ap (λ (S : Shape). S.rank * length S.factors) e) some
       (λ f i l a. w.units f i j l a b ∙ sym (ap (λ (S : Shape). slice_index (slice_index_or U.columns j []) (i * length S.factors + f)) (sym e) ∙ t.units f i
-          j (factor_of l) (row_of a) (row_of b)))
+      j (factor_of l) (row_of a) (row_of b)))

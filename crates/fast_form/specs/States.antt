@@ -41,13 +41,23 @@ AreGroups groups = (i : ℕ) → i < 6 → slice_index groups i < 6
 
 -- the elements of a representation that are marked, with their columns
 abbrev pub entries_of : Rep → List (List (List ℕ)) → List Bool → Entries
-entries_of M columns marks = record { total = size M; there = λ e. slice_index_or marks e false; element = λ e. e; codes = λ e. code
-    (slice_index_or columns e []) }
+entries_of M columns marks = record {
+  total = size M;
+  there = λ e. slice_index_or marks e false;
+  element = λ e. e;
+  codes = λ e. code
+      (slice_index_or columns e []);
+}
 
 -- the elements that are marked, with their columns' rows multiplied by the scalars
 abbrev pub scaled_entries : Rep → (ℕ → ℕ → ℕ → ℕ) → List (List ℕ) → List Bool → Entries
-scaled_entries M codes scalars marks = record { total = size M; there = λ e. slice_index_or marks e false; element = λ e. e; codes = λ e f i. times
-    (order M f) (code scalars f i) (codes e f i) }
+scaled_entries M codes scalars marks = record {
+  total = size M;
+  there = λ e. slice_index_or marks e false;
+  element = λ e. e;
+  codes = λ e f i. times
+      (order M f) (code scalars f i) (codes e f i);
+}
 
 -- the open ones of a layer
 abbrev pub layer_of : Rep → List (List (List ℕ)) → List (List ℕ) → List Bool → Entries
@@ -103,7 +113,7 @@ abbrev pub IsLeastMarked : List Bool → List ℕ → ℕ → Option ℕ → Typ
 IsLeastMarked marks numbers total found =
     MatchOption found ((e : ℕ) → e < total → slice_index_or marks e false ≡ true → ⊥)
     (λ low. ((e : ℕ) → e < total → slice_index_or marks e false ≡ true → low ≤ slice_index numbers e) ×
-        ((e : ℕ) × (e < total) × (slice_index_or marks e false ≡ true) × (slice_index numbers e ≡ low)))
+    ((e : ℕ) × (e < total) × (slice_index_or marks e false ≡ true) × (slice_index numbers e ≡ low)))
 
 -- each row in a group of its own
 abbrev pub own_groups : List ℕ

@@ -55,7 +55,7 @@ abbrev pub AreNext : List ℕ → ℕ → ℕ → ℕ → ℕ → List (List (Li
 AreNext fields factors rank total k columns p minus by rest after =
     (e : ℕ) → e < total → slice_index_or rest e false ≡ true → IsNormalisedFrom fields factors rank
     (λ f i. times (slice_index fields f) (code by f i) (cleared_code fields p (code minus) (code (slice_index_or columns e [])) f (exchange p k i)))
-        (code (slice_index_or after e []))
+    (code (slice_index_or after e []))
 
 -- the codes of a state
 pub record AreStateCodes (fields : List ℕ) (rank : ℕ) (columns : List (List (List ℕ))) (p : ℕ) (minus : List (List ℕ)) (layer : List (List (List ℕ)))

@@ -23,5 +23,5 @@ returns-clause-normalised c =
     (cleared_code c.args.shape.now.fields c.args.p (code c.args.minus.now) (code c.args.column.now) f (exchange c.args.p c.args.k i)))
     (code c.normalised_column.result) c.requires.limits.one
     (λ f i l b. c.scaled_column.ensures.products f i l b ∙ ap (times (slice_index c.args.shape.now.fields f) (code c.args.by.now f i))
-        (c.pivoted_column-pivoted.ensures.pivoted f i l b))
+    (c.pivoted_column-pivoted.ensures.pivoted f i l b))
     c.normalised_column.ensures.normalised

@@ -24,7 +24,7 @@ returns-then-p-shape-clause-normalised c = record {
   multiple_nonzero = λ f l e. absurd (omega arith);
   multiples = λ f i l b. c.multiplied_column.ensures.products f i l b
       ∙ three (λ f. times (slice_index c.args.shape.now.fields f) (slice_index (1 ∷ (1 ∷ (1 ∷ []))) f) (code c.args.column.now f i) ≡ times
-          (slice_index c.args.shape.now.fields f) 1 (code c.args.column.now f i)) refl refl refl
+      (slice_index c.args.shape.now.fields f) 1 (code c.args.column.now f i)) refl refl refl
       f (omega (arith, c.requires.limits.few));
   leads = λ p b z n. absurd (n (c.lead-p.ensures.zeros p (omega (arith, c.if-p-shape.true))));
 }
@@ -37,7 +37,7 @@ returns-clause-normalised c = record {
   multiples = λ f i l b. c.multiplied_column-2.ensures.products f i l b;
   leads = λ p b z n f l m.
       (let e : c.lead-p.result ≡ p = same_lead (code c.args.column.now 0) c.lead-p.result p c.lead-p.ensures.zeros
-          (c.lead-p.ensures.nonzero (omega (arith, c.if-p-shape.false, c.lead-p.ensures.within))) z n in
+      (c.lead-p.ensures.nonzero (omega (arith, c.if-p-shape.false, c.lead-p.ensures.within))) z n in
       c.multiplied_column-2.ensures.products f p l b
       ∙ ap (λ q. times (slice_index c.args.shape.now.fields f) (slice_index c.inverse.result f) (code c.args.column.now f q)) (sym e)
       ∙ c.inverse.ensures.ones f l (λ o. m (ap (code c.args.column.now f) (sym e) ∙ o)));

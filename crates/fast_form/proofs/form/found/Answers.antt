@@ -14,7 +14,7 @@ pub zero_numbers-settled-requires-clause-test : goal.zero_numbers-settled-requir
 zero_numbers-settled-requires-clause-test c =
     zero_test_is c.args.rep.now c.args.shape.now.fields c.args.shape.now.count c.args.shape.now.rank c.args.shape.now.size c.requires
     c.columns_of-columns.result c.nonzero_marks-marks.result c.columns_of-columns.ensures.columns c.nonzero_marks-marks.ensures.zeros
-        c.nonzero_marks-marks.ensures.nonzero
+    c.nonzero_marks-marks.ensures.nonzero
 
 pub rows-better-requires-clause-state : goal.rows-better-requires-clause-state
 rows-better-requires-clause-state c = (
@@ -24,25 +24,25 @@ rows-better-requires-clause-state c = (
       (last_row _ _ _ _ _ c.requires)
       (first_frame c.args.rep.now c.args.shape.now.fields c.args.shape.now.count c.args.shape.now.rank c.args.shape.now.size c.requires
       c.columns_of-columns.result c.nonzero_marks-marks.result c.columns_of-columns.ensures.columns c.nonzero_marks-marks.ensures.zeros
-          c.nonzero_marks-marks.ensures.nonzero
+      c.nonzero_marks-marks.ensures.nonzero
       (slice_index own_groups) c.zero_numbers-settled.result c.normalised_columns-after.result c.normalised_columns-after.ensures.normalised
-          c.zero_numbers-settled.ensures),
+      c.zero_numbers-settled.ensures),
 )
 
 pub returns-clause-covers : goal.returns-clause-covers
 returns-clause-covers c q m N r =
     c.zero_numbers-settled.ensures.covers c.rows-better.new.best
     (subst (λ k. Covers c.args.rep.now c.zero_numbers-settled.ensures.trail k (length c.zero_numbers-settled.result) c.rows-better.new.best)
-        (sym (last_row _ _ _ _ _ c.requires))
+    (sym (last_row _ _ _ _ _ c.requires))
     (c.rows-better.ensures.covers q c.zero_numbers-settled.ensures.trail
     (subst (λ k. IsFrame c.args.rep.now k (slice_index own_groups) c.zero_numbers-settled.result
-        (entries_of c.args.rep.now c.normalised_columns-after.result c.nonzero_marks-marks.result) c.zero_numbers-settled.ensures.trail)
+    (entries_of c.args.rep.now c.normalised_columns-after.result c.nonzero_marks-marks.result) c.zero_numbers-settled.ensures.trail)
     (last_row _ _ _ _ _ c.requires)
     (first_frame c.args.rep.now c.args.shape.now.fields c.args.shape.now.count c.args.shape.now.rank c.args.shape.now.size c.requires
     c.columns_of-columns.result c.nonzero_marks-marks.result c.columns_of-columns.ensures.columns c.nonzero_marks-marks.ensures.zeros
-        c.nonzero_marks-marks.ensures.nonzero
+    c.nonzero_marks-marks.ensures.nonzero
     (slice_index own_groups) c.zero_numbers-settled.result c.normalised_columns-after.result c.normalised_columns-after.ensures.normalised
-        c.zero_numbers-settled.ensures)))) m N r
+    c.zero_numbers-settled.ensures)))) m N r
 
 pub rows-better-requires-clause-sound : goal.rows-better-requires-clause-sound
 rows-better-requires-clause-sound c = own_classes c.args.rep.now (shaped _ _ _ _ _ c.requires) c.requires.standard c.first_best-best.result

@@ -24,12 +24,12 @@ module _ (M : Rep) (fields : List ℕ) (factors rank total : ℕ) (h : IsShapeOf
       z ∙ (λ t. weighed (λ k. code (slice_index_or columns e []) (k % h.factors_are t) (k / h.factors_are t)) (h.rank_is t * h.factors_are t))
       ∙ weighed_same (λ k. code (slice_index_or columns e []) (k % count M) (k / count M)) (λ k. matrix M (k % count M) (k / count M) e) (M.rank * count M)
       (λ k l. w (k % count M) (k / count M) (mod-lt k (some M fields factors rank total h))
-          (row_below k (count M) M.rank (some M fields factors rank total h) l))
+      (row_below k (count M) M.rank (some M fields factors rank total h) l))
 
   -- one more
   own_more : (numbers longer : List ℕ) (e n : ℕ) → longer ≡ numbers ++ n ∷ [] → rank + length numbers ≡ e → n ≡ number M (λ f i. matrix M f i e)
       → ((j : ℕ) → j < length numbers → slice_index numbers j ≡ number M (λ f i. matrix M f i (rank + j))) → (j : ℕ) → j < length longer → slice_index longer
-          j ≡ number M (λ f i. matrix M f i (rank + j))
+      j ≡ number M (λ f i. matrix M f i (rank + j))
   own_more numbers longer e n is at z w j l = ap (λ (v : List ℕ). slice_index v j) is ∙
       (let q : length longer ≡ length numbers + 1 = ap (λ (v : List ℕ). length v) is ∙ length-append numbers (n ∷ []) in
       elim (cases_lt j (length numbers)) [
@@ -56,7 +56,7 @@ loop-e-preserved c = record {
   numbers = own_more _ _ _ _ _ c.requires.shape c.loop-e.numbers c.followed_by-numbers.result c.loop-e.e c.number.result c.followed_by-numbers.ensures
       c.loop-e.invariant.size
       (own_number _ _ _ _ _ c.requires.shape c.args.columns.now c.loop-e.e c.number.result (omega (arith, c.requires.shape.total_is, c.loop-e-test.true))
-          (λ f i l b. c.requires.columns c.loop-e.e f i (omega (arith, c.requires.shape.total_is, c.loop-e-test.true)) l b) c.number.ensures)
+      (λ f i l b. c.requires.columns c.loop-e.e f i (omega (arith, c.requires.shape.total_is, c.loop-e-test.true)) l b) c.number.ensures)
       c.loop-e.invariant.numbers;
 }
 

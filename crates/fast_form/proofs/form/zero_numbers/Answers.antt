@@ -29,15 +29,15 @@ loop-e-init c =
 pub loop-e-preserved : goal.loop-e-preserved
 loop-e-preserved c =
     subst (λ i. IsStarted c.args.rep.now (slice_index own_groups) (zero_test c.args.marks.now) i c.if-not-marks-e.settled)
-        (let e : suc c.loop-e.e ≡ c.loop-e.e + 1 = omega arith in e) (elim c.if-not-marks-e.branch [
+    (let e : suc c.loop-e.e ≡ c.loop-e.e + 1 = omega arith in e) (elim c.if-not-marks-e.branch [
       | then-not-marks-e w ↦
           started_zero c.args.rep.now (shaped _ _ _ _ _ c.requires.shape) (some _ _ _ _ _ c.requires.shape) c.requires.shape.standard (slice_index own_groups)
           (fresh_groups _ _ _ _ _ c.requires.shape) (zero_test c.args.marks.now) c.requires.test c.loop-e.e c.loop-e.settled c.if-not-marks-e.settled
-              c.loop-e.invariant
+          c.loop-e.invariant
           (omega (arith, c.requires.shape.total_is, c.loop-e-test.true)) (ap not w.if-not-marks-e.true) (w.settled-is ∙ w.followed_by-settled.ensures)
       | else-not-marks-e w ↦
           subst (IsStarted c.args.rep.now (slice_index own_groups) (zero_test c.args.marks.now) (suc c.loop-e.e)) (sym w.settled-is)
           (started_other c.args.rep.now (shaped _ _ _ _ _ c.requires.shape) (some _ _ _ _ _ c.requires.shape) c.requires.shape.standard (slice_index own_groups)
           (fresh_groups _ _ _ _ _ c.requires.shape) (zero_test c.args.marks.now) c.requires.test c.loop-e.e c.loop-e.settled c.loop-e.invariant
-              (ap not w.if-not-marks-e.false))
+          (ap not w.if-not-marks-e.false))
     ])

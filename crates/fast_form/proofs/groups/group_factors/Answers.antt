@@ -28,14 +28,14 @@ loop-i-preserved c = elim c.if-begins.branch [
         marks = subst (λ (x : List Bool). length x ≡ 6) (sym w.seen-is) (length-set c.loop-i.seen g true ∙ c.loop-i.invariant.marks);
         codes = subst (AreColumnCodes c.args.shape.now.fields) (sym w.factors-is)
             (set_codes c.args.shape.now.fields c.loop-i.factors g w.inverse.result (let e = c.loop-i.invariant.size in omega arith) c.loop-i.invariant.codes
-                w.inverse.ensures.codes);
+            w.inverse.ensures.codes);
         so_far = subst (λ (x : List (List ℕ)). AreFactorsSoFar c.args.shape.now.fields c.args.shape.now.count (slice_index c.args.groups.now)
             (c.loop-i.i + 1) (code c.args.column.now) c.if-begins.seen (code x)) (sym w.factors-is)
             (subst (λ (x : List Bool). AreFactorsSoFar c.args.shape.now.fields c.args.shape.now.count (slice_index c.args.groups.now) (c.loop-i.i + 1)
-                (code c.args.column.now) x (code (slice_set c.loop-i.factors g w.inverse.result))) (sym w.seen-is)
+            (code c.args.column.now) x (code (slice_set c.loop-i.factors g w.inverse.result))) (sym w.seen-is)
             (factors_taken c.args.shape.now.fields c.args.shape.now.count c.requires.limits.few (slice_index c.args.groups.now) c.loop-i.i
-                (code c.args.column.now) c.loop-i.seen c.loop-i.factors c.requires.groups (omega (arith, c.requires.limits.low, c.loop-i-test.true))
-                c.loop-i.invariant.so_far
+            (code c.args.column.now) c.loop-i.seen c.loop-i.factors c.requires.groups (omega (arith, c.requires.limits.low, c.loop-i-test.true))
+            c.loop-i.invariant.so_far
             n u c.loop-i.invariant.marks c.loop-i.invariant.size w.inverse.result w.inverse.ensures.nonzero (λ f l z. w.inverse.ensures.ones f l z)));
       })
   | else-begins w ↦ record {
@@ -45,10 +45,10 @@ loop-i-preserved c = elim c.if-begins.branch [
     so_far = subst (λ (x : List (List ℕ)). AreFactorsSoFar c.args.shape.now.fields c.args.shape.now.count (slice_index c.args.groups.now) (c.loop-i.i + 1)
         (code c.args.column.now) c.if-begins.seen (code x)) (sym w.factors-is)
         (subst (λ (x : List Bool). AreFactorsSoFar c.args.shape.now.fields c.args.shape.now.count (slice_index c.args.groups.now) (c.loop-i.i + 1)
-            (code c.args.column.now) x (code c.loop-i.factors)) (sym w.seen-is)
+        (code c.args.column.now) x (code c.loop-i.factors)) (sym w.seen-is)
         (factors_passed c.args.shape.now.fields c.args.shape.now.count c.requires.limits.few (slice_index c.args.groups.now) c.loop-i.i
-            (code c.args.column.now) c.loop-i.seen c.loop-i.factors c.requires.groups (omega (arith, c.requires.limits.low, c.loop-i-test.true))
-            c.loop-i.invariant.so_far
+        (code c.args.column.now) c.loop-i.seen c.loop-i.factors c.requires.groups (omega (arith, c.requires.limits.low, c.loop-i-test.true))
+        c.loop-i.invariant.so_far
         (passed _ _ c.begins.result (λ n u. c.begins.ensures.1 (n, u)) w.if-begins.false)));
   }
 ]

@@ -17,11 +17,11 @@ returns-then-not-same_columns c = (
       sym (get_or_from_slice_get c.args.rep.now.columns c.loop-j.j c.column.result.items [] c.column.ensures)
       ∙ unit_column c.args.rep.now c.unit-unit.result c.laws.ensures.shaped c.laws-2.ensures.shaped c.unit-unit.ensures.standard
       (c.unit-unit.ensures.shape ∙ (λ t. record { factors = c.factors.ensures t; rank = c.rank.ensures t; size = c.rank.ensures t }))
-          c.laws.ensures.fields.some s c.loop-j.j
+      c.laws.ensures.fields.some s c.loop-j.j
       (let z : size c.unit-unit.result ≡ c.rank.result = ap (λ (S : Shape). S.size) c.unit-unit.ensures.shape in omega
-          (arith, c.loop-j-test.true, c.size-j-end.ensures.value, c.rank.ensures))
+      (arith, c.loop-j-test.true, c.size-j-end.ensures.value, c.rank.ensures))
       ∙ get_or_from_slice_get c.unit-unit.result.columns c.loop-j.j c.column-in-loop-j.result.items [] c.column-in-loop-j.ensures)) ∙
-          c.if-not-same_columns.true)),
+      c.if-not-same_columns.true)),
 )
 
 pub loop-j-preserved : goal.loop-j-preserved

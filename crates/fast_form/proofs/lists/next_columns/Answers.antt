@@ -17,11 +17,11 @@ loop-e-preserved c = record {
       (λ (column : List (List ℕ)). IsNormalisedFrom c.args.shape.now.fields c.args.shape.now.count c.args.shape.now.rank
       (λ f i. times (slice_index c.args.shape.now.fields f) (code c.args.by.now f i)
       (cleared_code c.args.shape.now.fields c.args.p (code c.args.minus.now) (code (slice_index_or c.args.columns.now j [])) f
-          (exchange c.args.p c.args.k i))) (code column))
+      (exchange c.args.p c.args.k i))) (code column))
       (λ y. subst (λ q. slice_index_or c.args.marks.now q false ≡ true → IsNormalisedFrom c.args.shape.now.fields c.args.shape.now.count c.args.shape.now.rank
       (λ f i. times (slice_index c.args.shape.now.fields f) (code c.args.by.now f i)
       (cleared_code c.args.shape.now.fields c.args.p (code c.args.minus.now) (code (slice_index_or c.args.columns.now q [])) f
-          (exchange c.args.p c.args.k i))) (code c.marked_next.result))
+      (exchange c.args.p c.args.k i))) (code c.marked_next.result))
       (sym y) c.marked_next.ensures.normalised m)
       (λ n. c.loop-e.invariant.rows j (elim (cases_lt j c.loop-e.e) [ inl b ↦ b | inr b ↦ absurd (n (omega arith)) ]) m);
 }

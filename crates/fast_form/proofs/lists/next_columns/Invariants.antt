@@ -11,5 +11,5 @@ invariant-loop-e l = record {
   codes : AreColumns l.shape.fields l.next;
   rows : (j : ℕ) → j < l.e → slice_index_or l.marks j false ≡ true → IsNormalisedFrom l.shape.fields l.shape.count l.shape.rank
       (λ f i. times (slice_index l.shape.fields f) (code l.by f i) (cleared_code l.shape.fields l.p (code l.minus) (code (slice_index_or l.columns j [])) f
-          (exchange l.p l.k i))) (code (slice_index_or l.next j []));
+      (exchange l.p l.k i))) (code (slice_index_or l.next j []));
 }

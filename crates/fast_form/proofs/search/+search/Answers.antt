@@ -17,15 +17,22 @@ rows-returns-clause-improves t c = c.loop-b.invariant.improves
 pub rows-returns-clause-covers : goal.rows-returns-clause-covers
 rows-returns-clause-covers t c q d h =
     all_tried c.args.rep.now c.requires.shape.is_rep c.args.k c.requires.row c.args.frame.now.groups c.args.columns.now c.args.frame.now.there
-        c.args.settled.now
+    c.args.settled.now
     c.loop-b.b c.args.best.now c.loop-b.best c.loop-b.better c.loop-b.abreast c.loop-b.invariant (omega (arith, c.requires.shape.total_is)) d h
 
 pub rows-place-found-requires : goal.rows-place-found-requires
 rows-place-found-requires t c =
     let (d, h) = c.requires.state in
-    let (e, p, g) = c.chosen-state.ensures.chooses d c.args.settled.now h in
-    (omega (arith, c.chosen-state.ensures.few), (c.requires.shape, (c.requires.row,
-        (c.chosen-state.ensures.codes, ((e, p), (c.loop-b.invariant.improves.sound, c.loop-b.invariant.stands))))))
+    let (e, p, g) = c.chosen-state.ensures.chooses d c.args.settled.now h in (
+      omega (arith, c.chosen-state.ensures.few),
+      (
+        c.requires.shape,
+        (
+          c.requires.row,
+          (c.chosen-state.ensures.codes, ((e, p), (c.loop-b.invariant.improves.sound, c.loop-b.invariant.stands))),
+        ),
+      ),
+    )
 
 pub rows-row_of-row-requires-clause-led : goal.rows-row_of-row-requires-clause-led
 rows-row_of-row-requires-clause-led t c =
@@ -39,21 +46,21 @@ rows-loop-b-preserved t c = elim c.if-frame-b.branch [
   | rows-then-frame-b+else-stops w ↦
       tried_same c.args.rep.now c.args.k c.args.frame.now.groups c.args.columns.now c.args.frame.now.there c.args.settled.now (c.loop-b.b + 1) c.args.best.now
       w.place-found.new.best c.if-frame-b.best (c.loop-b.better || w.place-found.result) (c.loop-b.abreast || w.place-found.result) c.if-frame-b.better
-          c.if-frame-b.abreast
+      c.if-frame-b.abreast
       w.best-is (w.better-is ∙ w.either-better.ensures) (w.abreast-is ∙ w.either-abreast.ensures)
       (more_tried c.args.rep.now c.requires.shape.is_rep c.args.k c.requires.row c.args.frame.now.groups c.args.columns.now c.args.frame.now.there
-          c.args.settled.now
+      c.args.settled.now
       c.loop-b.b c.args.best.now c.loop-b.best w.place-found.new.best c.loop-b.better c.loop-b.abreast w.place-found.result
       (layer_of c.args.rep.now w.pivoted_columns-layer.result w.chosen-state.result.scalars w.chosen-state.result.open)
       (rest_of c.args.rep.now c.args.k c.args.columns.now w.row_of-row.result.p w.row_of-row.result.minus w.chosen-state.result.scalars
-          w.row_of-row.result.rest) w.chosen-state.result.groups
+      w.row_of-row.result.rest) w.chosen-state.result.groups
       c.loop-b.invariant w.chosen-state.ensures.chooses w.place-found.ensures.improves
-          (w.place-found.ensures.covers (unstopped _ _ _ w.stops.ensures.1 w.if-stops.false)))
+      (w.place-found.ensures.covers (unstopped _ _ _ w.stops.ensures.1 w.if-stops.false)))
   | rows-else-frame-b w ↦
       tried_same c.args.rep.now c.args.k c.args.frame.now.groups c.args.columns.now c.args.frame.now.there c.args.settled.now (c.loop-b.b + 1) c.args.best.now
       c.loop-b.best c.if-frame-b.best c.loop-b.better c.loop-b.abreast c.if-frame-b.better c.if-frame-b.abreast w.best-is w.better-is w.abreast-is
       (not_there c.args.rep.now c.requires.shape.is_rep c.args.k c.requires.row c.args.frame.now.groups c.args.columns.now c.args.frame.now.there
-          c.args.settled.now
+      c.args.settled.now
       c.loop-b.b c.args.best.now c.loop-b.best c.loop-b.better c.loop-b.abreast c.loop-b.invariant w.if-frame-b.false)
 ]
 
@@ -61,23 +68,23 @@ pub place-standing-requires-clause-room : goal.place-standing-requires-clause-ro
 place-standing-requires-clause-room t c =
     let (d, h) = c.requires.state in
     standing_room c.args.rep.now c.requires.shape.is_rep c.args.k c.requires.row c.args.state.now.groups (λ e. code (slice_index_or c.args.layer.now e []))
-        c.args.state.now.scalars c.args.state.now.open
+    c.args.state.now.scalars c.args.state.now.open
     (rest_of c.args.rep.now c.args.k c.args.columns.now c.args.row.now.p c.args.row.now.minus c.args.state.now.scalars c.args.row.now.rest) c.args.settled.now
     c.least_numbers-numbers.result c.in-Some.low (c.least_numbers-numbers.ensures d c.args.settled.now h) c.in-Some.ensures c.args.best.now c.requires.sound d h
 
 pub place-returns-in-None-standing-clause-covers : goal.place-returns-in-None-standing-clause-covers
 place-returns-in-None-standing-clause-covers t c q d h =
     above_covers c.args.rep.now c.requires.shape.is_rep c.args.k c.requires.row c.args.state.now.groups (λ e. code (slice_index_or c.args.layer.now e []))
-        c.args.state.now.scalars c.args.state.now.open
+    c.args.state.now.scalars c.args.state.now.open
     (rest_of c.args.rep.now c.args.k c.args.columns.now c.args.row.now.p c.args.row.now.minus c.args.state.now.scalars c.args.row.now.rest) c.args.settled.now
     c.least_numbers-numbers.result c.in-Some.low (c.least_numbers-numbers.ensures d c.args.settled.now h) c.in-Some.ensures c.args.best.now c.requires.sound
     (subst (λ (b : Bool). Stands b c.args.best.now c.args.settled.now) c.in-None-standing.ensures.was_level c.requires.stands)
-        c.in-None-standing.ensures.above d h
+    c.in-None-standing.ensures.above d h
 
 pub place_each-returns-clause-improves : goal.place_each-returns-clause-improves
 place_each-returns-clause-improves t c =
     branched_improves c.args.rep.now c.requires.shape.is_rep c.args.k c.requires.row c.args.state.now.groups
-        (λ e. code (slice_index_or c.args.layer.now e [])) c.args.state.now.scalars c.args.state.now.open
+    (λ e. code (slice_index_or c.args.layer.now e [])) c.args.state.now.scalars c.args.state.now.open
     (rest_of c.args.rep.now c.args.k c.args.columns.now c.args.row.now.p c.args.row.now.minus c.args.state.now.scalars c.args.row.now.rest) c.args.settled.now
     c.args.numbers.now c.args.low c.requires.numbers c.requires.low
     c.loop-e.e c.followed_by-longer.result c.args.best.now c.loop-e.best c.loop-e.better c.loop-e.abreast c.followed_by-longer.ensures c.loop-e.invariant
@@ -85,16 +92,16 @@ place_each-returns-clause-improves t c =
 pub place_each-returns-clause-covers : goal.place_each-returns-clause-covers
 place_each-returns-clause-covers t c q d h =
     all_branched c.args.rep.now c.requires.shape.is_rep c.args.k c.requires.row c.args.state.now.groups (λ e. code (slice_index_or c.args.layer.now e []))
-        c.args.state.now.scalars c.args.state.now.open
+    c.args.state.now.scalars c.args.state.now.open
     (rest_of c.args.rep.now c.args.k c.args.columns.now c.args.row.now.p c.args.row.now.minus c.args.state.now.scalars c.args.row.now.rest) c.args.settled.now
     c.args.numbers.now c.args.low c.requires.numbers c.requires.low
     c.loop-e.e c.followed_by-longer.result c.args.best.now c.loop-e.best c.loop-e.better c.loop-e.abreast c.loop-e.invariant
-        (omega (arith, c.requires.shape.total_is)) d h
+    (omega (arith, c.requires.shape.total_is)) d h
 
 pub place_each-place_one-found-requires : goal.place_each-place_one-found-requires
 place_each-place_one-found-requires t c =
     let there : IsThere (layer_of c.args.rep.now c.args.layer.now c.args.state.now.scalars c.args.state.now.open) c.loop-e.e = record
-        { below = omega (arith, c.requires.shape.total_is); passes = c.if-state-e.true } in (
+    { below = omega (arith, c.requires.shape.total_is); passes = c.if-state-e.true } in (
       omega arith,
       (
         c.requires.shape,
@@ -124,12 +131,12 @@ place_each-loop-e-preserved t c = elim c.if-state-e.branch [
   | place_each-then-state-e+then-numbers-e+else-stops w ↦
       branched_same c.args.rep.now c.args.k c.args.state.now.groups (layer_of c.args.rep.now c.args.layer.now c.args.state.now.scalars c.args.state.now.open)
       (rest_of c.args.rep.now c.args.k c.args.columns.now c.args.row.now.p c.args.row.now.minus c.args.state.now.scalars c.args.row.now.rest)
-          c.args.settled.now (c.loop-e.e + 1) c.followed_by-longer.result c.args.best.now
+      c.args.settled.now (c.loop-e.e + 1) c.followed_by-longer.result c.args.best.now
       w.place_one-found.new.best c.if-state-e.best (c.loop-e.better || w.place_one-found.result) (c.loop-e.abreast || w.place_one-found.result)
-          c.if-state-e.better c.if-state-e.abreast
+      c.if-state-e.better c.if-state-e.abreast
       w.best-is (w.better-is ∙ w.either-better.ensures) (w.abreast-is ∙ w.either-abreast.ensures)
       (more_branched c.args.rep.now c.requires.shape.is_rep c.args.k c.requires.row c.args.state.now.groups
-          (λ e. code (slice_index_or c.args.layer.now e [])) c.args.state.now.scalars c.args.state.now.open
+      (λ e. code (slice_index_or c.args.layer.now e [])) c.args.state.now.scalars c.args.state.now.open
       (rest_of c.args.rep.now c.args.k c.args.columns.now c.args.row.now.p c.args.row.now.minus c.args.state.now.scalars c.args.row.now.rest) c.args.settled.now
       c.args.numbers.now c.args.low c.requires.numbers c.requires.low
       c.loop-e.e c.followed_by-longer.result c.args.best.now c.loop-e.best w.place_one-found.new.best c.loop-e.better c.loop-e.abreast w.place_one-found.result
@@ -137,10 +144,10 @@ place_each-loop-e-preserved t c = elim c.if-state-e.branch [
   | place_each-else-state-e w ↦
       branched_same c.args.rep.now c.args.k c.args.state.now.groups (layer_of c.args.rep.now c.args.layer.now c.args.state.now.scalars c.args.state.now.open)
       (rest_of c.args.rep.now c.args.k c.args.columns.now c.args.row.now.p c.args.row.now.minus c.args.state.now.scalars c.args.row.now.rest)
-          c.args.settled.now (c.loop-e.e + 1) c.followed_by-longer.result c.args.best.now
+      c.args.settled.now (c.loop-e.e + 1) c.followed_by-longer.result c.args.best.now
       c.loop-e.best c.if-state-e.best c.loop-e.better c.loop-e.abreast c.if-state-e.better c.if-state-e.abreast w.best-is w.better-is w.abreast-is
       (other_branched c.args.rep.now c.requires.shape.is_rep c.args.k c.requires.row c.args.state.now.groups
-          (λ e. code (slice_index_or c.args.layer.now e [])) c.args.state.now.scalars c.args.state.now.open
+      (λ e. code (slice_index_or c.args.layer.now e [])) c.args.state.now.scalars c.args.state.now.open
       (rest_of c.args.rep.now c.args.k c.args.columns.now c.args.row.now.p c.args.row.now.minus c.args.state.now.scalars c.args.row.now.rest) c.args.settled.now
       c.args.numbers.now c.args.low c.requires.numbers c.requires.low
       c.loop-e.e c.followed_by-longer.result c.args.best.now c.loop-e.best c.loop-e.better c.loop-e.abreast c.loop-e.invariant
@@ -167,7 +174,7 @@ place_one-place-requires t c =
                 subst (λ (s : List ℕ). IsPlacing c.args.rep.now c.args.k (slice_index c.placed-next.result.groups) s
                     (layer_of c.args.rep.now c.args.layer.now c.placed-next.result.scalars c.placed-next.result.open)
                     (rest_of c.args.rep.now c.args.k c.args.columns.now c.args.row.now.p c.args.row.now.minus c.placed-next.result.scalars
-                        c.args.row.now.rest) e) (sym c.requires.longer) p,
+                    c.args.row.now.rest) e) (sym c.requires.longer) p,
               ),
               (c.requires.sound, c.requires.stands),
             ),
@@ -179,22 +186,22 @@ place_one-place-requires t c =
 pub place_one-returns-clause-covers : goal.place_one-returns-clause-covers
 place_one-returns-clause-covers t c q d h m N r f l =
     one_covers c.args.rep.now c.requires.shape.is_rep c.args.k c.requires.row c.args.state.now.groups (λ e. code (slice_index_or c.args.layer.now e []))
-        c.args.state.now.scalars c.args.state.now.open
+    c.args.state.now.scalars c.args.state.now.open
     (rest_of c.args.rep.now c.args.k c.args.columns.now c.args.row.now.p c.args.row.now.minus c.args.state.now.scalars c.args.row.now.rest) c.args.settled.now
     c.args.e c.args.low c.args.longer.now c.place.new.best (layer_of c.args.rep.now c.args.layer.now c.placed-next.result.scalars c.placed-next.result.open)
     (rest_of c.args.rep.now c.args.k c.args.columns.now c.args.row.now.p c.args.row.now.minus c.placed-next.result.scalars c.args.row.now.rest)
-        c.placed-next.result.groups c.requires.longer
+    c.placed-next.result.groups c.requires.longer
     c.placed-next.ensures.places c.requires.number (c.place.ensures.covers q) d h m N r f l
 
 pub next_row-returns-then-gives_up-clause-covers : goal.next_row-returns-then-gives_up-clause-covers
 next_row-returns-then-gives_up-clause-covers t c q d h =
     beyond_covers c.args.rep.now c.requires.shape.is_rep c.args.k c.requires.row c.args.state.now.groups (λ e. code (slice_index_or c.args.layer.now e []))
-        c.args.state.now.scalars c.args.state.now.open
+    c.args.state.now.scalars c.args.state.now.open
     (rest_of c.args.rep.now c.args.k c.args.columns.now c.args.row.now.p c.args.row.now.minus c.args.state.now.scalars c.args.row.now.rest)
-        c.args.settled.now c.requires.none c.args.best.now c.requires.sound
+    c.args.settled.now c.requires.none c.args.best.now c.requires.sound
     (subst (λ (b : Bool). Stands b c.args.best.now c.args.settled.now) (c.gives_up.ensures.was_level c.if-gives_up.true) c.requires.stands)
     (subst (λ r. MatchOption c.args.best.now ⊥ (λ least. (length c.args.settled.now < length least) ×
-        (slice_index least (length c.args.settled.now) < 16 ^ ((r - c.args.k) * count c.args.rep.now)))) c.requires.shape.rank_is
+    (slice_index least (length c.args.settled.now) < 16 ^ ((r - c.args.k) * count c.args.rep.now)))) c.requires.shape.rank_is
     (subst (λ f. MatchOption c.args.best.now ⊥ (λ least. (length c.args.settled.now < length least) ×
-        (slice_index least (length c.args.settled.now) < 16 ^ ((c.args.shape.now.rank - c.args.k) * f)))) c.requires.shape.factors_are
+    (slice_index least (length c.args.settled.now) < 16 ^ ((c.args.shape.now.rank - c.args.k) * f)))) c.requires.shape.factors_are
     (c.gives_up.ensures.within c.if-gives_up.true))) d h

@@ -21,7 +21,7 @@ module _ (M : Rep) (fields : List ℕ) (factors rank total : ℕ) (h : IsShapeOf
   room : (i : ℕ) → i < rank → (i + 1) * factors ≤ length items
   room i l =
       let a : (i + 1) * factors ≤ M.rank * factors = mul-le-mul (let r : rank ≡ M.rank = h.rank_is in let q : i + 1 ≤ M.rank = omega arith in q)
-          (le_refl factors) in
+      (le_refl factors) in
       let b : M.rank * factors ≡ M.rank * count M = ap (λ k. M.rank * k) h.factors_are in
       let c : length items ≡ M.rank * count M = long in omega arith
 
@@ -51,12 +51,12 @@ loop-i-preserved c = record {
       (arith, c.requires.shape.limits.low, c.loop-i-test.true))
       (λ (row : List ℕ). slice_index row f < slice_index c.args.shape.now.fields f)
       (λ _. own_below _ _ _ _ _ c.requires.shape c.args.e c.requires.element c.column-codes.result.items c.column-codes.ensures c.loop-i.i c.loop-i-test.true
-          c.row_of.result c.row_of.ensures.codes c.row_of.ensures.zeros f m)
+      c.row_of.result c.row_of.ensures.codes c.row_of.ensures.zeros f m)
       (λ _. c.loop-i.invariant.codes j l f m);
   rows = λ j l f m. set_at c.loop-i.column c.loop-i.i c.row_of.result [] j (let z : length c.loop-i.column ≡ 6 = c.loop-i.invariant.size in omega
       (arith, c.requires.shape.limits.low, c.loop-i-test.true))
       (λ (row : List ℕ). slice_index row f ≡ matrix c.args.rep.now f j c.args.e)
       (λ y. own _ _ _ _ _ c.requires.shape c.args.e c.requires.element c.column-codes.result.items c.column-codes.ensures c.loop-i.i c.loop-i-test.true
-          c.row_of.result c.row_of.ensures.codes c.row_of.ensures.zeros j f y m)
+      c.row_of.result c.row_of.ensures.codes c.row_of.ensures.zeros j f y m)
       (λ n. c.loop-i.invariant.rows j (elim (cases_lt j c.loop-i.i) [ inl b ↦ b | inr b ↦ absurd (n (omega arith)) ]) f m);
 }

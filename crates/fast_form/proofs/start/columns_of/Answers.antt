@@ -18,7 +18,7 @@ zero_columns = four (four (four (four [])))
 zero_code : (e i f : ℕ) → e < 16 → i < 6 → f < 3 → code (slice_index_or zero_columns e []) f i ≡ 0
 zero_code e i f l m n =
     ap (λ (column : List (List ℕ)). slice_index (slice_index_or column i []) f) (get_or-replicate 16 e zero_column [] l) ∙ ap
-        (λ (row : List ℕ). slice_index row f) (get_or-replicate 6 i zero_row [] m) ∙ get_or-replicate 3 f 0 0 n
+    (λ (row : List ℕ). slice_index row f) (get_or-replicate 6 i zero_row [] m) ∙ get_or-replicate 3 f 0 0 n
 
 pub loop-e-init : goal.loop-e-init
 loop-e-init c = record {

@@ -30,7 +30,7 @@ returns-clause-few c = omega (arith, marked_most c.args.row.now.class)
 pub returns-clause-chooses : goal.returns-clause-chooses
 returns-clause-chooses c =
     chooses c.args.rep.now c.args.shape.now.fields c.args.shape.now.count c.args.shape.now.rank c.args.shape.now.size c.requires.shape c.args.k
-        c.requires.row c.args.columns.now c.args.frame.now.there
+    c.requires.row c.args.columns.now c.args.frame.now.there
     c.args.frame.now.groups c.args.b c.requires.columns c.requires.element c.args.row.now.p c.args.row.now.minus c.args.row.now.class c.args.row.now.rest
-        c.requires.chosen c.args.layer.now c.requires.layer c.requires.pivoted
+    c.requires.chosen c.args.layer.now c.requires.layer c.requires.pivoted
     one_column one_code

@@ -10,5 +10,5 @@ returns-clause-scaled c = record {
   own_factors = c.group_factors-factors.ensures.factors;
   products = λ f i l b. c.scaled_column.ensures.products f i l b
       ∙ ap (λ (row : List ℕ). times (slice_index c.args.shape.now.fields f) (slice_index row f) (code c.args.state.now.scalars f i))
-          (c.row_factors.ensures i (omega (arith, c.requires.limits.low)));
+      (c.row_factors.ensures i (omega (arith, c.requires.limits.low)));
 }

@@ -10,7 +10,7 @@ lead_below c p k z (i, l, n) = elim (cases_lt k p) [ inl b ↦ absurd (n (z i (o
 pub returns : goal.returns
 returns c =
     let l : c.lead.result ≤ c.args.k = lead_below (code (slice_index_or c.args.columns.now c.args.b []) 0) c.lead.result c.args.k c.lead.ensures.zeros
-        c.requires.led in
+    c.requires.led in
     record {
       before = c.lead.ensures.zeros;
       p_most = l;
