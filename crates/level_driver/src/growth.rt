@@ -47,7 +47,12 @@ pub fn grow_alone(alloc: Global, request: &Request, parents: &FormList) -> Resul
 
 /// Adds the form of the mode of each representation that the parent and one more column make and that has no forbidden minor. The result
 /// is the number of the columns.
-fn add_children(parent: &Rep, mode: Mode, forbidden: &[MinorItem], found: &mut Found) -> Result<u64, AllocError>
+fn add_children(
+    parent: &Rep,
+    mode: Mode,
+    forbidden: &[MinorItem],
+    found: &mut Found,
+) -> Result<u64, AllocError>
     requires { IsParent parent.now }
     ensures count { IfOk result (λ tried. IsCount (IsCandidate (matroids_of forbidden.now) parent.now) tried) }
     ensures forms { OnOk result (AddsChildren mode (matroids_of forbidden.now) parent.now found.old found.new) }
@@ -65,7 +70,12 @@ fn add_children(parent: &Rep, mode: Mode, forbidden: &[MinorItem], found: &mut F
 
 /// The form of the mode of the class of the parent followed by the column, where that has no forbidden minor, and else none.
 /// All growth reduces by this function.
-pub fn child(parent: &Rep, mode: Mode, forbidden: &[MinorItem], column: &ProductColumn) -> Option<Rep>
+pub fn child(
+    parent: &Rep,
+    mode: Mode,
+    forbidden: &[MinorItem],
+    column: &ProductColumn,
+) -> Option<Rep>
     requires room { size parent.now < 16 }
     requires column { IsProductColumn parent.now.factors parent.now.rank column.now.items }
     requires agrees { Agrees (followed_by parent.now column.now.items) }

@@ -12,7 +12,6 @@ use Rattle.workers.specs.contracts.worker.Worker as worker
 use Rattle.crossing.proofs.Sending.{closure_sync, seen, seen_with}
 use Rattle.workers.proofs.threads.run.Goals as goal
 
-
 worker_send : IsSend worker.the_row
 worker_send = recorded_send _ _ _ (worker.the_type).to_one (struct_send (shape worker.the_type) (
   pass_send,
