@@ -6,7 +6,7 @@ use Rattle.std.proofs.lemmas.Bool.{cases_lt}
 use Rattle.std.proofs.lemmas.List.Elements.{Contains-append_left, Contains-append_right, Contains-push, Contains-push_cases}
 use Rattle.std.proofs.lemmas.List.Sums.{sum_by-append}
 use Rattle.std.proofs.lemmas.Option.{get_or_from_slice_get, slice_get_within}
-use Rattle.matroid_theory.specs.declared.Mode.TheVariants.{Linear}
+use Rattle.matroid_theory.specs.declared.Mode.{Mode}
 use Rattle.matroid_theory.specs.Rep.{Rep}
 use Rattle.matroid_theory.specs.Order.{rep_cmp, IsForm}
 use Rattle.matroid_theory.specs.Move.{AreEquivalent}
@@ -16,6 +16,7 @@ use Rattle.matroid_theory.proofs.Levels.{rep_cmp-irreflexive}
 use Rattle.formats.specs.Request.{Request}
 use Rattle.formats.specs.Levels.{AreGivenBy, Grows}
 use Rattle.formats.specs.Minors.{given_as}
+use Rattle.extension.specs.Admissible.{above_values}
 use Rattle.class_store.specs.Seen.{PassSide, calls_with}
 use Rattle.steal_pool.specs.Deque.{times as often}
 use Rattle.store_laws.specs.TryKeys.{IsTryKey}
@@ -36,27 +37,27 @@ pub record IsExtensionFrom (Ns : List Matroid) (parents : List Rep) (numbers : L
   pub there : slice_get parents number ≡ Some try.0
   pub candidate : IsCandidate Ns try.0 try.1
 
-abbrev pub IsExtensionKey : Rep × List ℕ → List ℕ → Type 0
-IsExtensionKey try key = IsChildKey try.0 try.1 key
+abbrev pub IsExtensionKey : Mode → Rep × List ℕ → List ℕ → Type 0
+IsExtensionKey mode try key = IsChildKey mode try.0 try.1 key
 
 -- the parents of the numbers that were taken so far were extended by all columns, and the keys offered
-pub record HasTaken (Ns : List Matroid) (parents : List Rep) (before now : List ℕ) (old pass : PassSide) (tried : ℕ) : Type 0 where
+pub record HasTaken (mode : Mode) (Ns : List Matroid) (parents : List Rep) (before now : List ℕ) (old pass : PassSide) (tried : ℕ) : Type 0 where
   pub numbers : List ℕ
   pub took : now ≡ before ++ numbers
   pub keys : List (List ℕ)
-  pub are_keys : AreKeysOf (IsExtensionFrom Ns parents numbers) IsExtensionKey keys
+  pub are_keys : AreKeysOf (IsExtensionFrom Ns parents numbers) (IsExtensionKey mode) keys
   pub calls : MadeCalls old pass keys
   pub count : tried ≡ length keys
-  pub few : tried ≤ length numbers * 10 ^ 18
+  pub few : tried ≤ length numbers * above_values
   pub below : (x : ℕ) → Contains numbers x → x < 2 ^ 64
   pub once : (x : ℕ) → often x numbers ≤ 1
 
-pub taken_none : (Ns : List Matroid) (parents : List Rep) (before : List ℕ) (pass : PassSide) → HasTaken Ns parents before before pass pass 0
-taken_none Ns parents before pass = record {
+pub taken_none : (mode : Mode) (Ns : List Matroid) (parents : List Rep) (before : List ℕ) (pass : PassSide) → HasTaken mode Ns parents before before pass pass 0
+taken_none mode Ns parents before pass = record {
   numbers = [];
   took = sym (append-nil before);
   keys = [];
-  are_keys = keys_none IsExtensionKey (IsExtensionFrom Ns parents []) (λ try e. let t = e.taken in let l = t.1 in absurd (omega arith));
+  are_keys = keys_none (IsExtensionKey mode) (IsExtensionFrom Ns parents []) (λ try e. let t = e.taken in let l = t.1 in absurd (omega arith));
   calls = λ key. let t : times key [] ≡ 0 = refl in omega arith;
   count = refl;
   few = omega arith;
@@ -81,8 +82,8 @@ same_place parents rising i j P a b =
     ⊎_elim (λ (l : i < j). absurd (left l))
     (λ (m : j ≤ i). ⊎_elim (λ (l : j < i). absurd (right l)) (λ (n : i ≤ j). omega arith) (cases_lt j i)) (cases_lt i j)
 
-module _ (Ns : List Matroid) (parents : List Rep) (rising : AllPairs (λ M N. rep_cmp M N ≡ Less) parents) (before now : List ℕ) (old pass : PassSide) (tried : ℕ)
-    (h : HasTaken Ns parents before now old pass tried) (p : ℕ) (P : Rep) (there : slice_get parents p ≡ Some P) (fresh : ¬ (Contains now p)) (small : p < 2 ^ 64) where
+module _ (mode : Mode) (Ns : List Matroid) (parents : List Rep) (rising : AllPairs (λ M N. rep_cmp M N ≡ Less) parents) (before now : List ℕ) (old pass : PassSide) (tried : ℕ)
+    (h : HasTaken mode Ns parents before now old pass tried) (p : ℕ) (P : Rep) (there : slice_get parents p ≡ Some P) (fresh : ¬ (Contains now p)) (small : p < 2 ^ 64) where
   new_one : ¬ (Contains h.numbers p)
   new_one c = fresh (subst (λ (l : List ℕ). Contains l p) (sym h.took) (in_back before h.numbers c))
     where
@@ -120,16 +121,16 @@ module _ (Ns : List Matroid) (parents : List Rep) (rising : AllPairs (λ M N. re
           ]
 
   -- one parent more
-  pub taken_more : (after : List ℕ) (next : PassSide) (more sum : ℕ) → after ≡ now ++ p ∷ [] → OffersChildren Ns P pass next more → sum ≡ tried + more
-      → HasTaken Ns parents before after old next sum
+  pub taken_more : (after : List ℕ) (next : PassSide) (more sum : ℕ) → after ≡ now ++ p ∷ [] → OffersChildren mode Ns P pass next more → sum ≡ tried + more
+      → HasTaken mode Ns parents before after old next sum
   taken_more after next more sum is offers adds = record {
     numbers = h.numbers ++ p ∷ [];
     took = is ∙ (ap (λ (l : List ℕ). l ++ p ∷ []) h.took ∙ append_assoc before h.numbers (p ∷ []));
     keys = h.keys ++ offers.keys;
     are_keys =
-        keys_both IsExtensionKey (IsExtensionFrom Ns parents h.numbers) (λ try. (v : List ℕ) × IsCandidate Ns P v × ((P, v) ≡ try))
+        keys_both (IsExtensionKey mode) (IsExtensionFrom Ns parents h.numbers) (λ try. (v : List ℕ) × IsCandidate Ns P v × ((P, v) ≡ try))
         (IsExtensionFrom Ns parents (h.numbers ++ p ∷ [])) h.keys offers.keys h.are_keys
-        (keys_images (λ (v : List ℕ). (P, v)) (IsChildKey P) IsExtensionKey (IsCandidate Ns P) offers.keys (λ v w e. ap (λ t. t.1) e) (λ v key a k. k) offers.are_keys)
+        (keys_images (λ (v : List ℕ). (P, v)) (IsChildKey mode P) (IsExtensionKey mode) (IsCandidate Ns P) offers.keys (λ v w e. ap (λ t. t.1) e) (λ v key a k. k) offers.are_keys)
         (λ try e l. new_one (subst (Contains h.numbers)
         (same_place parents rising e.number p P (e.there ∙ ap Some (sym (ap (λ t. t.0) l.2))) there) e.taken)) two_kinds;
     calls = λ key.
@@ -146,22 +147,22 @@ module _ (Ns : List Matroid) (parents : List Rep) (rising : AllPairs (λ M N. re
   }
 
 -- so many tries fit
-pub tries_fit : (Ns : List Matroid) (parents : List Rep) (before now : List ℕ) (old pass : PassSide) (tried : ℕ) → HasTaken Ns parents before now old pass tried
+pub tries_fit : (mode : Mode) (Ns : List Matroid) (parents : List Rep) (before now : List ℕ) (old pass : PassSide) (tried : ℕ) → HasTaken mode Ns parents before now old pass tried
     → tried < 2 ^ 128
-tries_fit Ns parents before now old pass tried h =
+tries_fit mode Ns parents before now old pass tried h =
     let s = short (2 ^ 64) h.numbers h.below h.once in let f = h.few in omega arith
 
 -- the part of a worker, by the tries of the size after the parents'
 pub part_done : (q : Request) (Ns : List Matroid) → AreGivenBy (map given_as q.forbid) Ns → (parents : List Rep) (before now : List ℕ) (old pass : PassSide) (tried : ℕ)
-    → HasTaken Ns parents before now old pass tried → DoesPart q parents before now old pass tried
+    → HasTaken q.mode Ns parents before now old pass tried → DoesPart q parents before now old pass tried
 part_done q Ns given parents before now old pass tried h = record { numbers = h.numbers; took = h.took; part = part; few = h.few }
   where
     part : (n : ℕ) (family : Family) → IsParentLevel q n parents → Grows q family → IsPart family (n + 1) parents h.numbers old pass tried
     part n family level grows = record {
       keys = h.keys;
       are_keys =
-          keys_by (IsTryFrom family (n + 1) parents h.numbers) IsExtensionKey (IsTryKey family (n + 1)) h.keys key_of
-          (keys_same IsExtensionKey (IsExtensionFrom Ns parents h.numbers) (IsTryFrom family (n + 1) parents h.numbers) h.keys same h.are_keys);
+          keys_by (IsTryFrom family (n + 1) parents h.numbers) (IsExtensionKey q.mode) (IsTryKey family (n + 1)) h.keys key_of
+          (keys_same (IsExtensionKey q.mode) (IsExtensionFrom Ns parents h.numbers) (IsTryFrom family (n + 1) parents h.numbers) h.keys same h.are_keys);
       calls = h.calls;
       count = h.count;
     }
@@ -186,13 +187,13 @@ part_done q Ns given parents before now old pass tried h = record { numbers = h.
               record { number = t.number; taken = t.taken; there = t.there; candidate = subst (λ (Ms : List Matroid). IsCandidate Ms try.0 try.1) (sym are) both.1 },
         )
 
-        key_of : (try : Rep × List ℕ) (key : List ℕ) → IsTryFrom family (n + 1) parents h.numbers try → IsExtensionKey try key → IsTryKey family (n + 1) try key
+        key_of : (try : Rep × List ℕ) (key : List ℕ) → IsTryFrom family (n + 1) parents h.numbers try → IsExtensionKey q.mode try key → IsTryKey family (n + 1) try key
         key_of try key t (N, form, equivalent, packed) = (
           N,
           record {
             is_try = t.is_try;
-            form = subst (λ mode. IsForm mode N) (sym grows.linear) form;
-            equivalent = subst (λ mode. AreEquivalent mode (followed_by try.0 try.1) N) (sym grows.linear) equivalent;
+            form = subst (λ mode. IsForm mode N) (sym grows.mode_is) form;
+            equivalent = subst (λ mode. AreEquivalent mode (followed_by try.0 try.1) N) (sym grows.mode_is) equivalent;
           },
           packed,
         )

@@ -9,6 +9,7 @@ use Rattle.matroid_theory.specs.Rep.{Rep}
 use Rattle.matroid_theory.specs.Order.{rep_cmp}
 use Rattle.matroid_theory.specs.Level.{Family, IsTry}
 use Rattle.formats.specs.Request.{Request}
+use Rattle.extension.specs.Admissible.{above_values}
 use Rattle.formats.specs.Levels.{Grows}
 use Rattle.class_store.specs.Seen.{PassSide, calls_with}
 use Rattle.steal_pool.specs.declared.shift.Shift.{Shift}
@@ -164,12 +165,12 @@ module _ (q : Request) (parents : List Rep) (n : ℕ) (family : Family) (level :
       )
 
 -- ---- the answers fit
-took_at_most : (q : Request) (parents : List Rep) (before after : Worker) → IsWorked q parents before after → tried_by after ≤ length (taken_by after) * 10 ^ 18
+took_at_most : (q : Request) (parents : List Rep) (before after : Worker) → IsWorked q parents before after → tried_by after ≤ length (taken_by after) * above_values
 took_at_most q parents before after worked = by_answer after.answer worked.answered
   where
     by_answer : (answer : Option ℕ)
         → IfSome answer (λ tried. HasEnded after.shift × DoesPart q parents (taken_by before) (taken_by after) before.pass after.pass tried)
-        → answered answer ≤ length (taken_by after) * 10 ^ 18
+        → answered answer ≤ length (taken_by after) * above_values
     by_answer None h = omega arith
     by_answer (Some tried) h =
         let p = h.1 in let f = p.few in
@@ -177,7 +178,7 @@ took_at_most q parents before after worked = by_answer after.answer worked.answe
         omega arith
 
 pub tried_at_most : (q : Request) (parents : List Rep) (before after : List Worker) → AllZip (IsWorked q parents) before after
-    → sum_by tried_by after ≤ length (all_taken after) * 10 ^ 18
+    → sum_by tried_by after ≤ length (all_taken after) * above_values
 tried_at_most q parents [] [] z = omega arith
 tried_at_most q parents [] (y ∷ ys) z = absurd z
 tried_at_most q parents (x ∷ xs) [] z = absurd z

@@ -1,7 +1,7 @@
 -- What a pass has offered of a parent's forms.
-use Rattle.std.specs.Prelude.{ℕ, ◌≡◌, ◌+◌, ◌^◌, ◌<◌, ◌≤◌, List, [], length, slice_get, slice_index_or, Some}
+use Rattle.std.specs.Prelude.{ℕ, ◌≡◌, ◌+◌, ◌<◌, ◌≤◌, List, [], length, slice_get, slice_index_or, Some}
 use Rattle.std.specs.List.{All, sum_by}
-use Rattle.matroid_theory.specs.declared.Mode.TheVariants.{Linear}
+use Rattle.matroid_theory.specs.declared.Mode.{Mode}
 use Rattle.matroid_theory.specs.Rep.{Rep}
 use Rattle.matroid_theory.specs.Move.{AreEquivalent}
 use Rattle.matroid_theory.specs.Order.{IsForm}
@@ -10,6 +10,7 @@ use Rattle.matroid_theory.specs.Level.{followed_by}
 use Rattle.link_set.specs.Hash.{stripe_of}
 use Rattle.class_store.specs.Seen.{PassSide, calls_with}
 use Rattle.form_key.specs.Packing.{packing}
+use Rattle.extension.specs.Admissible.{above_values}
 use Rattle.level_driver.specs.Children.{IsCandidate}
 use Rattle.workers.specs.Keys.{AreKeysOf, times}
 
@@ -22,17 +23,17 @@ pub record IsSamePass (old new : PassSide) : Type 0 where
 abbrev pub MadeCalls : PassSide → PassSide → List (List ℕ) → Type 0
 MadeCalls old new keys = (key : List ℕ) → calls_with key new ≡ calls_with key old + times key keys
 
--- the key is that of the form of P followed by v
-abbrev pub IsChildKey : Rep → List ℕ → List ℕ → Type 0
-IsChildKey P v key = (N : Rep) × IsForm Linear N × AreEquivalent Linear (followed_by P v) N × (packing N ≡ key)
+-- the key is that of the form of the mode of P followed by v
+abbrev pub IsChildKey : Mode → Rep → List ℕ → List ℕ → Type 0
+IsChildKey mode P v key = (N : Rep) × IsForm mode N × AreEquivalent mode (followed_by P v) N × (packing N ≡ key)
 
--- the pass offered the key of each form that P and one more column make where none of the matroids is a minor, and there are so many such columns
-pub record OffersChildren (Ns : List Matroid) (P : Rep) (old new : PassSide) (tried : ℕ) : Type 0 where
+-- the pass offered the key of each form of the mode that P and one more column make where none of the matroids is a minor, and there are so many such columns
+pub record OffersChildren (mode : Mode) (Ns : List Matroid) (P : Rep) (old new : PassSide) (tried : ℕ) : Type 0 where
   pub keys : List (List ℕ)
-  pub are_keys : AreKeysOf (IsCandidate Ns P) (IsChildKey P) keys
+  pub are_keys : AreKeysOf (IsCandidate Ns P) (IsChildKey mode P) keys
   pub calls : MadeCalls old new keys
   pub count : tried ≡ length keys
-  pub few : tried ≤ 10 ^ 18
+  pub few : tried ≤ above_values
 
 -- ---- keys that are still to be offered, gathered by their stripe
 -- the keys that are gathered for the stripe

@@ -1,11 +1,12 @@
 -- What one worker does.
-use Rattle.std.specs.Prelude.{ℕ, ◌≡◌, ◌+◌, ◌*◌, ◌^◌, ◌≤◌, List, ◌++◌, length, slice_get, Some}
+use Rattle.std.specs.Prelude.{ℕ, ◌≡◌, ◌+◌, ◌*◌, ◌≤◌, List, ◌++◌, length, slice_get, Some}
 use Rattle.std.specs.List.{Contains}
 use Rattle.matroid_theory.specs.Rep.{Rep}
 use Rattle.matroid_theory.specs.Level.{Family, IsTry}
 use Rattle.formats.specs.Request.{Request}
 use Rattle.formats.specs.Levels.{Grows}
 use Rattle.class_store.specs.Seen.{PassSide}
+use Rattle.extension.specs.Admissible.{above_values}
 use Rattle.store_laws.specs.TryKeys.{IsTryKey}
 use Rattle.level_driver.specs.Grown.{IsParentLevel}
 use Rattle.workers.specs.Keys.{AreKeysOf}
@@ -30,4 +31,4 @@ pub record DoesPart (q : Request) (parents : List Rep) (before after : List ℕ)
   pub numbers : List ℕ
   pub took : after ≡ before ++ numbers
   pub part : (n : ℕ) (family : Family) → IsParentLevel q n parents → Grows q family → IsPart family (n + 1) parents numbers old new tried
-  pub few : tried ≤ length numbers * 10 ^ 18
+  pub few : tried ≤ length numbers * above_values

@@ -9,16 +9,18 @@ use class_store::{KeyBatch, OpenLevel, Pass};
 use extension::Columns;
 use form_key::pack;
 use level_driver::child;
+use matroid_theory::Mode;
 use named_matroids::MinorItem;
 use product_rep::Rep;
 use std::alloc::{AllocError, Global};
 use std::sync::Wait;
 
-/// Offers the key of the form of each representation that the parent and one more column make and that has no forbidden minor, and
+/// Offers the key of the form of the mode of each representation that the parent and one more column make and that has no forbidden minor, and
 /// says how many these are. Keys are offered 16 at a time, and the rest at the end.
 pub(crate) fn offer_children<R: Wait + Sync>(
     rt: &R,
     alloc: Global,
+    mode: Mode,
     forbidden: &[MinorItem],
     parent: &Rep,
     level: &OpenLevel,
@@ -31,12 +33,12 @@ pub(crate) fn offer_children<R: Wait + Sync>(
     requires empty { AreEmpty batches.old }
     ensures same { IsSamePass pass.old pass.new }
     ensures empty { OnOk result (AreEmpty batches.new) }
-    ensures offered { IfOk result (λ tried. OffersChildren (matroids_of forbidden.now) parent.now pass.old pass.new tried) }
+    ensures offered { IfOk result (λ tried. OffersChildren mode (matroids_of forbidden.now) parent.now pass.old pass.new tried) }
 {
     parent.laws();
     let mut tried = 0;
     for column in Columns::of(parent) {
-        if let Some(child) = child(parent, forbidden, &column) {
+        if let Some(child) = child(parent, mode, forbidden, &column) {
             add_key(rt, alloc, level, pass, batches, pack(alloc, &child)?)?;
             tried += 1;
         }

@@ -72,6 +72,7 @@ fn take_parents<R: Wait + Sync, G: Gate>(
     ensures part { IfOk result (λ tried. DoesPart request.now parents.now (shift_taken shift.old) (shift_taken shift.new) pass.old pass.new tried) }
 {
     request.laws();
+    let mode = request.mode();
     let forbidden = request.forbid();
     let mut batches = empty_batches(alloc, level.stripes())?;
     let mut tried = 0;
@@ -89,6 +90,7 @@ fn take_parents<R: Wait + Sync, G: Gate>(
         let more = offer_children(
             rt,
             alloc,
+            mode,
             forbidden,
             parent,
             level,

@@ -10,5 +10,5 @@ invariant-loop-column g l = record {
   parent : l.column-iterator.parent ≡ l.parent;
   same : IsSamePass l.fn.pass l.pass;
   gathered : AreGathered l.batches;
-  so_far : HasOffered (matroids_of l.forbidden) l.fn.pass l.column-iterator l.tried l.pass l.batches;
+  so_far : HasOffered l.mode (matroids_of l.forbidden) l.fn.pass l.column-iterator l.tried l.pass l.batches;
 }

@@ -1,5 +1,6 @@
 use Rattle.std.proofs.Common.{◌≡◌, ℕ, ◌+◌, ◌<◌, ◌^◌, List, [], length, refl, sym, ◌∙◌, ap, subst, arith, rules}
 use Rattle.std.proofs.lemmas.List.{length-replicate}
+use Rattle.matroid_theory.specs.declared.Mode.{Mode}
 use Rattle.matroid_theory.specs.Rep.{Rep}
 use Rattle.matroid_theory.specs.Minor.{Matroid}
 use Rattle.formats.specs.Request.{Request}
@@ -22,7 +23,7 @@ loop-init g c =
       shift = stays_same c.args.shift.now;
       width = ap (λ (l : List (List (List ℕ))). length l) is ∙ (length-replicate c.stripes.result [] ∙ c.stripes.ensures.count);
       empty = subst AreEmpty (sym is) (none_gathered c.stripes.result);
-      so_far = taken_none (matroids_of c.forbid-forbidden.result.now) c.args.parents.now (shift_taken c.args.shift.now) c.args.pass.now;
+      so_far = taken_none c.mode-mode.result (matroids_of c.forbid-forbidden.result.now) c.args.parents.now (shift_taken c.args.shift.now) c.args.pass.now;
     }
 
 pub returns-in_default-clause-part : goal.returns-in_default-clause-part
@@ -31,8 +32,10 @@ returns-in_default-clause-part g c =
     let same : shift_taken c.next-in-loop.new.self ≡ shift_taken c.loop.shift = c.in_default.ensures.taken in
     part_done c.args.request.now Ns c.forbid-forbidden.ensures.given c.args.parents.now (shift_taken c.args.shift.now) (shift_taken c.next-in-loop.new.self)
     c.args.pass.now c.loop.pass c.loop.tried
-    (subst (λ (now : List ℕ). HasTaken Ns c.args.parents.now (shift_taken c.args.shift.now) now c.args.pass.now c.loop.pass c.loop.tried) (sym same)
-    c.loop.invariant.so_far)
+    (subst (λ (mode : Mode).
+    HasTaken mode Ns c.args.parents.now (shift_taken c.args.shift.now) (shift_taken c.next-in-loop.new.self) c.args.pass.now c.loop.pass c.loop.tried) c.mode-mode.ensures
+    (subst (λ (now : List ℕ). HasTaken c.mode-mode.result Ns c.args.parents.now (shift_taken c.args.shift.now) now c.args.pass.now c.loop.pass c.loop.tried) (sym same)
+    c.loop.invariant.so_far))
 
 pub unreachable-requires : goal.unreachable-requires
 unreachable-requires g c =
@@ -54,13 +57,13 @@ overflow_add-tried g c =
     let q : Request = c.args.request.now in
     let Ns : List Matroid = matroids_of c.forbid-forbidden.result.now in
     let parents : List Rep = c.args.parents.now in
-    let h = taken_more Ns parents
+    let h = taken_more c.mode-mode.result Ns parents
     (parents_rise q Ns c.forbid-forbidden.ensures.given c.laws.ensures.factors c.laws.ensures.limits c.requires.parents.0 parents c.requires.parents.1)
     (shift_taken c.args.shift.now) (shift_taken c.loop.shift) c.args.pass.now c.loop.pass c.loop.tried c.loop.invariant.so_far c.in-Some-next.number
     c.in-Some-get.parent.now (sym c.in-Some-get.ensures) c.in-Some-next.ensures.taken.1 (search rules) (shift_taken c.next-in-loop.new.self)
     c.offer_children.new.pass c.in_ok-more.more (c.loop.tried + c.from-tried.result) c.in-Some-next.ensures.taken.2 c.in_ok-more.ensures.offered
     (ap (λ (k : ℕ). c.loop.tried + k) c.from-tried.ensures) in
-    let fits : c.loop.tried + c.from-tried.result < 2 ^ 128 = tries_fit Ns parents (shift_taken c.args.shift.now) (shift_taken c.next-in-loop.new.self)
+    let fits : c.loop.tried + c.from-tried.result < 2 ^ 128 = tries_fit c.mode-mode.result Ns parents (shift_taken c.args.shift.now) (shift_taken c.next-in-loop.new.self)
     c.args.pass.now c.offer_children.new.pass (c.loop.tried + c.from-tried.result) h in
     omega arith
 
@@ -81,7 +84,7 @@ loop-preserved g c =
       shift = stays_more c.args.shift.now c.loop.shift c.next-in-loop.new.self i.shift c.in-Some-next.ensures.same;
       width = ap (λ (l : List (List (List ℕ))). length l) back ∙ (lent ∙ i.width);
       empty = subst AreEmpty (sym back) c.in_ok-more.ensures.empty;
-      so_far = taken_more Ns parents
+      so_far = taken_more c.mode-mode.result Ns parents
           (parents_rise q Ns c.forbid-forbidden.ensures.given c.laws.ensures.factors c.laws.ensures.limits c.requires.parents.0 parents c.requires.parents.1)
           (shift_taken c.args.shift.now) (shift_taken c.loop.shift) c.args.pass.now c.loop.pass c.loop.tried i.so_far c.in-Some-next.number
           c.in-Some-get.parent.now (sym c.in-Some-get.ensures) c.in-Some-next.ensures.taken.1 (search rules) (shift_taken c.next-in-loop.new.self)

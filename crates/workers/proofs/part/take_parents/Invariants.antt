@@ -12,5 +12,5 @@ invariant-loop g l = record {
   shift : StaysInPool l.fn.shift l.shift;
   width : length l.batches.items ≡ length l.level.level.tables;
   empty : AreEmpty l.batches.items;
-  so_far : HasTaken (matroids_of l.forbidden) l.parents (shift_taken l.fn.shift) (shift_taken l.shift) l.fn.pass l.pass l.tried;
+  so_far : HasTaken l.mode (matroids_of l.forbidden) l.parents (shift_taken l.fn.shift) (shift_taken l.shift) l.fn.pass l.pass l.tried;
 }
