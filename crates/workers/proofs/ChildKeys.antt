@@ -1,16 +1,13 @@
 -- What is known after the keys for some of the columns of a parent were offered, and after all of them.
-use Rattle.std.proofs.Common.{◌≡◌, ◌≢◌, ◌⊎◌, ◌↔◌, ℕ, ◌+◌, ◌-◌, ◌*◌, ◌^◌, ◌<◌, ◌≤◌, List, [], ◌∷◌, ◌++◌, length, inl, inr, refl, sym, ◌∙◌, ap, subst, arith, length-append, bytes_eq, cond}
-use Rattle.std.specs.List.{Contains, sum_by}
-use Rattle.std.specs.Cmp.Lexicographic.{slice_cmp}
-use Rattle.std.specs.Ordering.{nat_cmp, ordering_reverse}
-use Rattle.std.specs.declared.cmp.Ordering.TheVariants.{Less, Greater}
+use Rattle.std.proofs.Common.{◌≡◌, ◌⊎◌, ◌↔◌, ℕ, ◌+◌, ◌-◌, ◌^◌, ◌<◌, ◌≤◌, List, [], ◌∷◌, ◌++◌, length, inl, inr, refl, sym, ◌∙◌, ap, subst, arith, length-append, bytes_eq, cond}
+use Rattle.std.specs.Ordering.{ordering_reverse}
 use Rattle.std.proofs.lemmas.Cmp.{nat_list_cmp_total}
 use Rattle.std.proofs.lemmas.List.Sums.{sum_by-append}
 use Rattle.matroid_theory.specs.Rep.{Rep}
 use Rattle.matroid_theory.specs.Minor.{Matroid}
 use Rattle.matroid_theory.specs.Level.{IsCount, followed_by}
 use Rattle.class_store.specs.Seen.{PassSide, calls_with}
-use Rattle.extension.specs.Admissible.{IsAdmissible, ColumnsAfter, IsNextColumn, IsLastColumn, value}
+use Rattle.extension.specs.Admissible.{ColumnsAfter, IsNextColumn, IsLastColumn, value}
 use Rattle.level_driver.specs.Children.{IsCandidate}
 use Rattle.level_driver.specs.Forbidden.{Avoids}
 use Rattle.level_driver.proofs.Tried.{IsTriedUpTo, IsUpTo, HasTried, tried_none, one_more, not_yet}
@@ -20,7 +17,8 @@ use Rattle.workers.proofs.KeyLists.{keys_both, keys_none, keys_one, keys_same}
 use Rattle.workers.proofs.Calls.{empty_with}
 
 -- the keys for the columns up to the last one were offered, or are gathered
-pub record HasOffered (Ns : List Matroid) (old : PassSide) (columns : ColumnsAfter) (tried : ℕ) (pass : PassSide) (batches : List (List (List ℕ))) : Type 0 where
+pub record HasOffered (Ns : List Matroid) (old : PassSide) (columns : ColumnsAfter) (tried : ℕ) (pass : PassSide)
+    (batches : List (List (List ℕ))) : Type 0 where
   pub keys : List (List ℕ)
   pub are_keys : AreKeysOf (IsTriedUpTo Ns columns) (IsChildKey columns.parent) keys
   pub count : tried ≡ length keys
@@ -65,7 +63,8 @@ module _ (Ns : List Matroid) (old : PassSide) (columns following : ColumnsAfter)
     bound = let b = h.bound in let f = falls in omega arith;
     calls = λ k.
         let c = calls k in let b = h.calls k in
-        let t : times k (h.keys ++ key ∷ []) ≡ times k h.keys + times k (key ∷ []) = sum_by-append (λ (l : List ℕ). cond (bytes_eq k l) 1 0) h.keys (key ∷ []) in
+        let t : times k (h.keys ++ key ∷ []) ≡ times k h.keys + times k (key ∷ []) =
+        sum_by-append (λ (l : List ℕ). cond (bytes_eq k l) 1 0) h.keys (key ∷ []) in
         omega arith;
   }
     where

@@ -1,22 +1,21 @@
 -- What is known after a worker has taken some numbers, and when it has ended its part.
-use Rattle.std.proofs.Common.{◌≡◌, ◌≢◌, ◌⊎◌, ◌↔◌, ℕ, ◌+◌, ◌*◌, ◌^◌, ◌<◌, ◌≤◌, List, [], ◌∷◌, ◌++◌, map, length, Some, slice_get, slice_index_or, inl, inr, refl, sym, ◌∙◌, ap, subst, arith, length-append, append-nil, append_assoc, bytes_eq, cond, ⊎_elim}
+use Rattle.std.proofs.Common.{◌≡◌, ◌⊎◌, ◌↔◌, ℕ, ◌+◌, ◌*◌, ◌^◌, ◌<◌, ◌≤◌, List, [], ◌∷◌, ◌++◌, map, length, Some, slice_get, slice_index_or, inl, inr, refl, sym, ◌∙◌, ap, subst, arith, length-append, append-nil, append_assoc, bytes_eq, cond, ⊎_elim}
 use Rattle.std.specs.List.{Contains, AllPairs}
 use Rattle.std.specs.declared.cmp.Ordering.TheVariants.{Less}
 use Rattle.std.proofs.lemmas.Bool.{cases_lt}
 use Rattle.std.proofs.lemmas.List.Elements.{Contains-append_left, Contains-append_right, Contains-push, Contains-push_cases}
 use Rattle.std.proofs.lemmas.List.Sums.{sum_by-append}
 use Rattle.std.proofs.lemmas.Option.{get_or_from_slice_get, slice_get_within}
-use Rattle.matroid_theory.specs.declared.Mode.TheVariants.{Linear}
 use Rattle.matroid_theory.specs.Rep.{Rep}
 use Rattle.matroid_theory.specs.Order.{rep_cmp, IsForm}
 use Rattle.matroid_theory.specs.Move.{AreEquivalent}
 use Rattle.matroid_theory.specs.Minor.{Matroid}
-use Rattle.matroid_theory.specs.Level.{Family, IsLevel, IsTry, IsTryFor, followed_by}
+use Rattle.matroid_theory.specs.Level.{Family, followed_by}
 use Rattle.matroid_theory.proofs.Levels.{rep_cmp-irreflexive}
 use Rattle.formats.specs.Request.{Request}
 use Rattle.formats.specs.Levels.{AreGivenBy, Grows}
 use Rattle.formats.specs.Minors.{given_as}
-use Rattle.class_store.specs.Seen.{PassSide, calls_with}
+use Rattle.class_store.specs.Seen.{PassSide}
 use Rattle.steal_pool.specs.Deque.{times as often}
 use Rattle.store_laws.specs.TryKeys.{IsTryKey}
 use Rattle.level_driver.specs.Children.{IsCandidate}
@@ -65,7 +64,8 @@ taken_none Ns parents before pass = record {
 }
 
 -- in a rising list a form has one place
-one_place : (parents : List Rep) → AllPairs (λ M N. rep_cmp M N ≡ Less) parents → (i j : ℕ) (P : Rep) → slice_get parents i ≡ Some P → slice_get parents j ≡ Some P
+one_place : (parents : List Rep) → AllPairs (λ M N. rep_cmp M N ≡ Less) parents → (i j : ℕ) (P : Rep) → slice_get parents i ≡ Some P
+    → slice_get parents j ≡ Some P
     → ¬ (i < j)
 one_place parents rising i j P a b l =
     let less = rising i j P l (slice_get_within parents j P b) in
@@ -73,7 +73,8 @@ one_place parents rising i j P a b l =
     let second : slice_index_or parents j P ≡ P = get_or_from_slice_get parents j P P b in
     rep_cmp-irreflexive P (subst (λ N. rep_cmp P N ≡ Less) second (subst (λ M. rep_cmp M (slice_index_or parents j P) ≡ Less) first less))
 
-pub same_place : (parents : List Rep) → AllPairs (λ M N. rep_cmp M N ≡ Less) parents → (i j : ℕ) (P : Rep) → slice_get parents i ≡ Some P → slice_get parents j ≡ Some P
+pub same_place : (parents : List Rep) → AllPairs (λ M N. rep_cmp M N ≡ Less) parents → (i j : ℕ) (P : Rep) → slice_get parents i ≡ Some P
+    → slice_get parents j ≡ Some P
     → i ≡ j
 same_place parents rising i j P a b =
     let left = one_place parents rising i j P a b in
@@ -81,8 +82,10 @@ same_place parents rising i j P a b =
     ⊎_elim (λ (l : i < j). absurd (left l))
     (λ (m : j ≤ i). ⊎_elim (λ (l : j < i). absurd (right l)) (λ (n : i ≤ j). omega arith) (cases_lt j i)) (cases_lt i j)
 
-module _ (Ns : List Matroid) (parents : List Rep) (rising : AllPairs (λ M N. rep_cmp M N ≡ Less) parents) (before now : List ℕ) (old pass : PassSide) (tried : ℕ)
-    (h : HasTaken Ns parents before now old pass tried) (p : ℕ) (P : Rep) (there : slice_get parents p ≡ Some P) (fresh : ¬ (Contains now p)) (small : p < 2 ^ 64) where
+module _ (Ns : List Matroid) (parents : List Rep) (rising : AllPairs (λ M N. rep_cmp M N ≡ Less) parents) (before now : List ℕ)
+    (old pass : PassSide) (tried : ℕ)
+    (h : HasTaken Ns parents before now old pass tried) (p : ℕ) (P : Rep) (there : slice_get parents p ≡ Some P) (fresh : ¬ (Contains now p))
+    (small : p < 2 ^ 64) where
   new_one : ¬ (Contains h.numbers p)
   new_one c = fresh (subst (λ (l : List ℕ). Contains l p) (sym h.took) (in_back before h.numbers c))
     where
@@ -96,7 +99,8 @@ module _ (Ns : List Matroid) (parents : List Rep) (rising : AllPairs (λ M N. re
       ↔ (IsExtensionFrom Ns parents h.numbers try ⊎ ((v : List ℕ) × IsCandidate Ns P v × ((P, v) ≡ try)))
   two_kinds try = (to, back)
     where
-      to : IsExtensionFrom Ns parents (h.numbers ++ p ∷ []) try → IsExtensionFrom Ns parents h.numbers try ⊎ ((v : List ℕ) × IsCandidate Ns P v × ((P, v) ≡ try))
+      to : IsExtensionFrom Ns parents (h.numbers ++ p ∷ []) try
+          → IsExtensionFrom Ns parents h.numbers try ⊎ ((v : List ℕ) × IsCandidate Ns P v × ((P, v) ≡ try))
       to e =
           elim (Contains-push_cases h.numbers p e.number e.taken) [
             | inl c ↦ inl record { number = e.number; taken = c; there = e.there; candidate = e.candidate }
@@ -106,7 +110,8 @@ module _ (Ns : List Matroid) (parents : List Rep) (rising : AllPairs (λ M N. re
                 inr (try.1, subst (λ (M : Rep). IsCandidate Ns M try.1) (sym is) e.candidate, λ i. (is i, try.1)))
           ]
 
-      back : IsExtensionFrom Ns parents h.numbers try ⊎ ((v : List ℕ) × IsCandidate Ns P v × ((P, v) ≡ try)) → IsExtensionFrom Ns parents (h.numbers ++ p ∷ []) try
+      back : IsExtensionFrom Ns parents h.numbers try ⊎ ((v : List ℕ) × IsCandidate Ns P v × ((P, v) ≡ try))
+          → IsExtensionFrom Ns parents (h.numbers ++ p ∷ []) try
       back c =
           elim c [
             | inl e ↦ record {
@@ -129,7 +134,8 @@ module _ (Ns : List Matroid) (parents : List Rep) (rising : AllPairs (λ M N. re
     are_keys =
         keys_both IsExtensionKey (IsExtensionFrom Ns parents h.numbers) (λ try. (v : List ℕ) × IsCandidate Ns P v × ((P, v) ≡ try))
         (IsExtensionFrom Ns parents (h.numbers ++ p ∷ [])) h.keys offers.keys h.are_keys
-        (keys_images (λ (v : List ℕ). (P, v)) (IsChildKey P) IsExtensionKey (IsCandidate Ns P) offers.keys (λ v w e. ap (λ t. t.1) e) (λ v key a k. k) offers.are_keys)
+        (keys_images (λ (v : List ℕ). (P, v)) (IsChildKey P) IsExtensionKey (IsCandidate Ns P) offers.keys (λ v w e. ap (λ t. t.1) e)
+        (λ v key a k. k) offers.are_keys)
         (λ try e l. new_one (subst (Contains h.numbers)
         (same_place parents rising e.number p P (e.there ∙ ap Some (sym (ap (λ t. t.0) l.2))) there) e.taken)) two_kinds;
     calls = λ key.
@@ -152,7 +158,8 @@ tries_fit Ns parents before now old pass tried h =
     let s = short (2 ^ 64) h.numbers h.below h.once in let f = h.few in omega arith
 
 -- the part of a worker, by the tries of the size after the parents'
-pub part_done : (q : Request) (Ns : List Matroid) → AreGivenBy (map given_as q.forbid) Ns → (parents : List Rep) (before now : List ℕ) (old pass : PassSide) (tried : ℕ)
+pub part_done : (q : Request) (Ns : List Matroid) → AreGivenBy (map given_as q.forbid) Ns
+    → (parents : List Rep) (before now : List ℕ) (old pass : PassSide) (tried : ℕ)
     → HasTaken Ns parents before now old pass tried → DoesPart q parents before now old pass tried
 part_done q Ns given parents before now old pass tried h = record { numbers = h.numbers; took = h.took; part = part; few = h.few }
   where
@@ -183,7 +190,13 @@ part_done q Ns given parents before now old pass tried h = record { numbers = h.
           },
           λ t.
               let both = (tries_are q family grows n parents (level.level family grows) try).1 t.is_try in
-              record { number = t.number; taken = t.taken; there = t.there; candidate = subst (λ (Ms : List Matroid). IsCandidate Ms try.0 try.1) (sym are) both.1 },
+              record {
+                number = t.number;
+                taken = t.taken;
+                there = t.there;
+                candidate = subst (λ (Ms : List Matroid). IsCandidate Ms try.0 try.1)
+                    (sym are) both.1;
+              },
         )
 
         key_of : (try : Rep × List ℕ) (key : List ℕ) → IsTryFrom family (n + 1) parents h.numbers try → IsExtensionKey try key → IsTryKey family (n + 1) try key

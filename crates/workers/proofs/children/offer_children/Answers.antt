@@ -11,7 +11,8 @@ use Rattle.workers.proofs.children.offer_children.Goals as goal
 
 pub loop-column-init : goal.loop-column-init
 loop-column-init g c =
-    let start : c.into_iter-column-iterator.result ≡ record { parent = c.args.parent.now; last = [] } = c.into_iter-column-iterator.ensures.into_iter_gives ∙ c.of-column-items.ensures in
+    let start : c.into_iter-column-iterator.result ≡ record { parent = c.args.parent.now; last = [] } =
+    c.into_iter-column-iterator.ensures.into_iter_gives ∙ c.of-column-items.ensures in
     record {
       parent = ap (λ (columns : ColumnsAfter). columns.parent) start;
       same = record { level = refl; number = refl };
@@ -30,8 +31,8 @@ loop-column-preserved g c =
       parent = ap (λ (columns : ColumnsAfter). columns.parent) steps.1 ∙ i.parent;
       same = i.same;
       gathered = i.gathered;
-      so_far = offered_same Ns c.args.pass.now c.loop-column.column-iterator c.next.new.self c.in-Some.column.items steps.0 steps.1 progress.2 c.loop-column.tried
-          c.loop-column.pass c.loop-column.batches
+      so_far = offered_same Ns c.args.pass.now c.loop-column.column-iterator c.next.new.self c.in-Some.column.items steps.0 steps.1 progress.2
+          c.loop-column.tried c.loop-column.pass c.loop-column.batches
           (λ avoids. c.in_default.ensures.none refl (subst (λ (P : Rep). Avoids Ns (followed_by P c.in-Some.column.items)) i.parent avoids)) i.so_far;
     }
 
@@ -47,8 +48,8 @@ loop-column-preserved-in-Some-child g c =
       parent = ap (λ (columns : ColumnsAfter). columns.parent) steps.1 ∙ i.parent;
       same = record { level = s.level ∙ was.level; number = s.number ∙ was.number };
       gathered = c.in_ok-add_key.ensures.gathered;
-      so_far = offered_more Ns c.args.pass.now c.loop-column.column-iterator c.next.new.self c.in-Some.column.items steps.0 steps.1 progress.2 c.loop-column.tried
-          _ c.loop-column.pass c.add_key.new.pass c.loop-column.batches c.add_key.new.batches c.in_ok-pack.field-0
+      so_far = offered_more Ns c.args.pass.now c.loop-column.column-iterator c.next.new.self c.in-Some.column.items steps.0 steps.1 progress.2
+          c.loop-column.tried _ c.loop-column.pass c.add_key.new.pass c.loop-column.batches c.add_key.new.batches c.in_ok-pack.field-0
           (subst (λ (P : Rep). Avoids Ns (followed_by P c.in-Some.column.items)) (sym i.parent) (c.in-Some-child.ensures.avoids refl))
           (subst (λ (P : Rep). IsChildKey P c.in-Some.column.items c.in_ok-pack.field-0) (sym i.parent)
           (c.in-Some-child.child, c.in-Some-child.ensures.form, c.in-Some-child.ensures.equivalent, sym c.in_ok-pack.ensures.key)) i.so_far refl
