@@ -1,10 +1,9 @@
 -- What a batch adds to the calls of a pass, and gathered keys.
-use Rattle.std.proofs.Common.{◌≡◌, ◌≢◌, ◌∙◌, ℕ, zero, suc, ◌+◌, ◌*◌, ◌<◌, ◌≤◌, cond, List, [], ◌∷◌, ◌++◌, length, take, drop, append-nil, get_or, replicate, slice_get, slice_set, slice_index_or, Some, refl, sym, ap, subst, arith, bytes_eq, ⊎_elim, inl, inr}
-use Rattle.std.specs.List.{All, sum_by, count_by}
+use Rattle.std.proofs.Common.{◌≡◌, ◌≢◌, ◌∙◌, ℕ, suc, ◌+◌, ◌<◌, ◌≤◌, cond, List, [], ◌∷◌, ◌++◌, length, take, drop, append-nil, get_or, replicate, slice_set, refl, sym, ap, subst, arith, bytes_eq, ⊎_elim}
+use Rattle.std.specs.List.{All, sum_by}
 use Rattle.std.proofs.lemmas.Bool.{cases_eq, cases_lt}
 use Rattle.std.proofs.lemmas.List.{drop_all, take_all, length-set, length-replicate, get_or-set_same, get_or-set_other, get_or-replicate}
-use Rattle.std.proofs.lemmas.List.Folds.{sum_by-replicate}
-use Rattle.std.proofs.lemmas.List.Sums.{sum_by-set, sum_by-cons, sum_by-append, sum_by_push}
+use Rattle.std.proofs.lemmas.List.Sums.{sum_by-set, sum_by-cons, sum_by-append}
 use Rattle.std.proofs.lemmas.Option.{get_or_from_slice_get, slice_get_within}
 use Rattle.histories.specs.declared.entry.Entry.{Entry}
 use Rattle.histories.specs.SetObject.{after_offer, reply_to}
@@ -38,7 +37,8 @@ batch_calls old new stripe keys news (t, u, before, there, is, batch) key =
 
 -- ---- gathered keys
 pub none_gathered : (stripes : ℕ) → AreEmpty (replicate stripes [])
-none_gathered stripes s l = get_or-replicate stripes s [] [] (let n : length (replicate {A = List (List ℕ)} stripes []) ≡ stripes = length-replicate stripes [] in omega arith)
+none_gathered stripes s l = get_or-replicate stripes s [] []
+    (let n : length (replicate {A = List (List ℕ)} stripes []) ≡ stripes = length-replicate stripes [] in omega arith)
 
 pub empty_with : (key : List ℕ) (batches : List (List (List ℕ))) → AreEmpty batches → gathered_with key batches ≡ 0
 empty_with key [] none = refl
@@ -81,7 +81,8 @@ set_gathered before s batch are l names few = record { names = names_at; few = f
     same : length (slice_set before s batch) ≡ length before
     same = length-set before s batch
 
-    names_at : (t : ℕ) → t < length (slice_set before s batch) → All (λ key. stripe_of (length (slice_set before s batch)) key ≡ t) (gathered_at (slice_set before s batch) t)
+    names_at : (t : ℕ) → t < length (slice_set before s batch)
+        → All (λ key. stripe_of (length (slice_set before s batch)) key ≡ t) (gathered_at (slice_set before s batch) t)
     names_at t m =
         subst (λ (n : ℕ). All (λ key. stripe_of n key ≡ t) (gathered_at (slice_set before s batch) t)) (sym same)
         (⊎_elim

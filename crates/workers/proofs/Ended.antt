@@ -1,7 +1,6 @@
 -- The workers of a new level, and what is known of them when they have ended.
-use Rattle.std.proofs.Common.{◌≡◌, ℕ, zero, suc, ◌+◌, ◌*◌, ◌^◌, ◌<◌, ◌≤◌, List, [], ◌∷◌, ◌++◌, map, length, replicate, take, get_or, Option, Some, None, IsSome, slice_get, slice_index_or, refl, sym, ◌∙◌, ap, ap₂, subst, arith, length-append}
-use Rattle.std.specs.Prelude.{unwrap_or}
-use Rattle.std.specs.List.{All, AllByRecursion, AllZip, Contains, concat, sum_by}
+use Rattle.std.proofs.Common.{◌≡◌, ℕ, zero, suc, ◌+◌, ◌*◌, ◌^◌, ◌<◌, ◌≤◌, List, [], ◌∷◌, ◌++◌, map, length, replicate, take, get_or, Option, Some, None, IsSome, slice_index_or, refl, sym, ◌∙◌, ap, subst, arith, length-append}
+use Rattle.std.specs.List.{All, AllByRecursion, AllZip, sum_by}
 use Rattle.std.proofs.lemmas.List.{length-map, take_more}
 use Rattle.std.proofs.lemmas.List.Elements.{All-push, All-from_recursion, recursion_from_All, AllZip-get_or, length_all_zip}
 use Rattle.std.proofs.lemmas.List.Folds.{sum_by-replicate}
@@ -13,14 +12,13 @@ use Rattle.class_store.specs.Seen.{AreItsPasses, LevelId, LevelSide, PassSide, T
 use Rattle.class_store.proofs.Closing.{all_snoc}
 use Rattle.class_store.proofs.Passes.{fresh_are_all, name_of, still_all}
 use Rattle.steal_pool.specs.declared.shift.Shift.{Shift}
-use Rattle.steal_pool.specs.Deque.{times as often}
 use Rattle.steal_pool.specs.Shift.{HasEnded, StaysInPool, shift_parents, shift_taken}
 use Rattle.steal_pool.specs.Pool.{AllEnded, AreNew, IsPool, IsProper, lists_taken, pool_parents}
 use Rattle.steal_pool.proofs.Stays.{pool_stays}
 use Rattle.workers.specs.declared.worker.Worker.{Worker}
 use Rattle.workers.specs.Seats.{AllWorked, IsSeated, IsWorked}
-use Rattle.workers.proofs.Numbers.{found, place, short}
-use Rattle.workers.proofs.Whole.{IsFresh, all_taken, answered, calls_of, of_answer, taken_by, tried_at_most, tried_by, zipped}
+use Rattle.workers.proofs.Numbers.{found, short}
+use Rattle.workers.proofs.Whole.{IsFresh, all_taken, answered, of_answer, taken_by, tried_at_most, tried_by, zipped}
 
 abbrev pub pass_of : Worker → PassSide
 pass_of w = w.pass
@@ -56,7 +54,8 @@ no_calls level zero = tt
 no_calls level (suc n) =
     let last : PassSide = record { level = level; number = n; tracks = replicate (length level.tables) blank } in
     all_snoc (λ (p : PassSide). (key : List ℕ) → calls_with key p ≡ 0) (fresh_passes level n) last (no_calls level n)
-    (λ key. let none : calls_with key last ≡ length level.tables * 0 = sum_by-replicate (λ (t : Track). entries_with key t.mine) (length level.tables) blank in omega arith)
+    (λ key. let none : calls_with key last ≡ length level.tables * 0 = sum_by-replicate (λ (t : Track). entries_with key t.mine)
+    (length level.tables) blank in omega arith)
 
 module _ (level : LevelSide) (parents : ℕ) (before : List Worker) (shifts : List Shift) (new : AreNew level.passes parents shifts)
     (passes_are : map pass_of before ≡ fresh_passes level.level level.passes) (shifts_are : map shift_of before ≡ shifts) where
@@ -76,7 +75,8 @@ module _ (level : LevelSide) (parents : ℕ) (before : List Worker) (shifts : Li
       (seated_by before (all_of_map pass_of (λ p. p.level ≡ level.level) before (let its = their_passes in its.each))
       (with_shift (λ s. shift_parents s ≡ parents) (λ i d l. let s = new i d l in s.parents_of)))
 
-  fresh_by : (ws : List Worker) → AllByRecursion (λ w. (key : List ℕ) → calls_with key (pass_of w) ≡ 0) ws → AllByRecursion (λ w. shift_taken (shift_of w) ≡ []) ws
+  fresh_by : (ws : List Worker) → AllByRecursion (λ w. (key : List ℕ) → calls_with key (pass_of w) ≡ 0) ws
+      → AllByRecursion (λ w. shift_taken (shift_of w) ≡ []) ws
       → AllByRecursion IsFresh ws
   fresh_by [] a b = tt
   fresh_by (w ∷ ws) a b = (record { taken = b.0; calls = a.0 }, fresh_by ws a.1 b.1)

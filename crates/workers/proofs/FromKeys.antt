@@ -1,16 +1,15 @@
 -- The level, from the keys that were told New.
-use Rattle.std.proofs.Common.{◌≡◌, ◌↔◌, ℕ, zero, suc, ◌+◌, ◌<◌, ◌≤◌, List, [], ◌∷◌, ◌++◌, map, take, length, get_or, Some, slice_index_or, slice_get, refl, sym, ◌∙◌, ap, subst, arith}
-use Rattle.std.specs.List.{All, AllPairs, AllZip, Contains}
+use Rattle.std.proofs.Common.{◌≡◌, ◌↔◌, ℕ, zero, suc, ◌+◌, ◌<◌, ◌≤◌, List, [], ◌∷◌, ◌++◌, map, take, get_or, Some, slice_index_or, slice_get, refl, sym, ◌∙◌, ap, subst, arith}
+use Rattle.std.specs.List.{All, AllZip, Contains}
 use Rattle.std.specs.List.Sorted.{IsStrictlySortedBy}
 use Rattle.std.specs.Cmp.Lexicographic.{slice_cmp}
 use Rattle.std.specs.Ordering.{nat_cmp}
-use Rattle.std.specs.declared.cmp.Ordering.TheVariants.{Less}
 use Rattle.std.proofs.lemmas.List.Elements.{Contains-get_or}
 use Rattle.std.proofs.lemmas.List.{take_more}
 use Rattle.std.proofs.lemmas.Map.Keys.{Less-from_sorted}
 use Rattle.std.proofs.lemmas.Option.{get_or_from_slice_get, slice_get_within}
 use Rattle.std.proofs.lemmas.Slice.Zip.{all_zipped_more}
-use Rattle.matroid_theory.specs.Rep.{Rep, Shape, shape, size}
+use Rattle.matroid_theory.specs.Rep.{Rep, Shape, size}
 use Rattle.matroid_theory.specs.Level.{Family, IsLevel, IsLevelForm, followed_by}
 use Rattle.matroid_theory.proofs.Followed.{size_followed}
 use Rattle.existence.proofs.Classes.{form_has_try}
@@ -67,7 +66,8 @@ packed_each s (N ∷ Ns) (k ∷ ks) z M (zero, l, e) =
     subst (λ (M : Rep). IsPackedAs s (packing M) M) e (subst (λ key. IsPackedAs s key N) (sym z.0.packs) z.0)
 packed_each s (N ∷ Ns) (k ∷ ks) z M (suc i, l, e) = packed_each s Ns ks z.1 M (i, omega arith, e)
 
-module _ (q : Request) (family : Family) (grows : Grows q family) (n : ℕ) (parents : List Rep) (level : IsParentLevel q n parents) (histories : List (List Entry))
+module _ (q : Request) (family : Family) (grows : Grows q family) (n : ℕ) (parents : List Rep) (level : IsParentLevel q n parents)
+    (histories : List (List Entry))
     (holds : HoldsTries family (n + 1) histories) (next : ℕ) (is_next : (P : Rep) → Contains parents P → next ≡ size P + 1) where
   room : family.rank < n + 1
   room = let r : family.rank ≡ q.rank = grows.rank_is in let l : q.rank ≤ n = level.at_least in omega arith
@@ -93,14 +93,19 @@ module _ (q : Request) (family : Family) (grows : Grows q family) (n : ℕ) (par
       let r = m.representation in (
         M,
         record {
-          shapes = λ i. record { factors = (m.same_factors ∙ grows.factors_are) i; rank = (m.ranks ∙ grows.rank_is) i; size = (m.sizes ∙ sym (next_is M form)) i };
+          shapes = λ i. record {
+            factors = (m.same_factors ∙ grows.factors_are) i;
+            rank = (m.ranks ∙ grows.rank_is) i;
+            size = (m.sizes ∙ sym (next_is M form)) i;
+          };
           shaped = r.shaped;
           standard = f.standard;
           packs = e;
         },
       )
 
-  module _ (keys : List (List ℕ)) (sorted : IsStrictlySortedBy (slice_cmp nat_cmp) keys) (exact : (key : List ℕ) → Contains keys key ↔ IsNewIn histories key) where
+  module _ (keys : List (List ℕ)) (sorted : IsStrictlySortedBy (slice_cmp nat_cmp) keys)
+      (exact : (key : List ℕ) → Contains keys key ↔ IsNewIn histories key) where
     pub have_packing : HavePacking (record { factors = q.factors; rank = q.rank; size = next }) keys
     have_packing key c = key_packing key ((exact key).0 c)
 
@@ -121,7 +126,8 @@ module _ (q : Request) (family : Family) (grows : Grows q family) (n : ℕ) (par
             let M : Rep = slice_index_or forms k d in
             let c : Contains forms M = Contains-get_or forms k d l in
             let p = packed_each (record { factors = q.factors; rank = q.rank; size = next }) forms keys z M c in
-            let (N, form, e) = (holds.fresh (packing M)).0 ((exact (packing M)).0 (subst (λ (l : List (List ℕ)). Contains l (packing M)) are (Contains-map packing forms M c))) in
+            let there : Contains keys (packing M) = subst (λ (l : List (List ℕ)). Contains l (packing M)) are (Contains-map packing forms M c) in
+            let (N, form, e) = (holds.fresh (packing M)).0 ((exact (packing M)).0 there) in
             record {
               shapes = p.shapes ∙ λ i. record { factors = sym grows.factors_are i; rank = sym grows.rank_is i; size = next_is N form i };
               shaped = p.shaped;

@@ -1,17 +1,17 @@
 -- What the store holds after all tries were offered.
-use Rattle.std.proofs.Common.{◌≡◌, ◌↔◌, ℕ, zero, suc, ◌+◌, ◌<◌, ◌≤◌, List, [], ◌∷◌, ◌++◌, map, length, Some, slice_get, inl, inr, refl, sym, ◌∙◌, ap, subst, arith}
-use Rattle.std.specs.List.{Contains, flat_map, sum_by}
+use Rattle.std.proofs.Common.{◌≡◌, ℕ, zero, suc, ◌+◌, ◌<◌, ◌≤◌, List, [], ◌∷◌, length, Some, slice_get, inl, inr, refl, sym, ◌∙◌, ap, subst, arith}
+use Rattle.std.specs.List.{Contains, flat_map}
 use Rattle.std.proofs.lemmas.List.Elements.{Contains-append_left, Contains-append_right, Contains-append_cases}
 use Rattle.std.proofs.lemmas.Slice.Zip.{AllZip-long}
 use Rattle.matroid_theory.specs.Rep.{Rep}
-use Rattle.matroid_theory.specs.Level.{Family, IsLevelForm, IsTry, IsTryFor, IsCount}
+use Rattle.matroid_theory.specs.Level.{Family, IsTry, IsCount}
 use Rattle.matroid_theory.proofs.Equivalence.{equivalent-symmetric, equivalent-transitive}
 use Rattle.matroid_theory.proofs.Forms.{one_form}
 use Rattle.formats.specs.Request.{Request}
 use Rattle.formats.specs.Levels.{Grows, HasTries}
 use Rattle.histories.specs.declared.entry.Entry.{Entry}
 use Rattle.histories.specs.History.{IsLegal}
-use Rattle.histories.specs.Counts.{AreItsKeys, entries_in, new_keys}
+use Rattle.histories.specs.Counts.{entries_in, new_keys}
 use Rattle.histories.specs.Joined.{joined}
 use Rattle.histories.proofs.Joining.{joined_entries, joined_new}
 use Rattle.class_store.specs.Seen.{IsNewIn}
@@ -53,7 +53,8 @@ module _ (family : Family) (n : ℕ) (keys : List (List ℕ)) (are : AreKeysOf (
       long : length are.list ≡ length keys
       long = sym (AllZip-long (IsTryKey family n) are.list keys are.packed)
 
-  pub holds_tries : (histories : List (List Entry)) → family.rank < n → IsLegal (joined histories) → ((key : List ℕ) → entries_in histories key ≡ times key keys)
+  pub holds_tries : (histories : List (List Entry)) → family.rank < n → IsLegal (joined histories)
+      → ((key : List ℕ) → entries_in histories key ≡ times key keys)
       → HoldsTries family n histories
   holds_tries histories room legal counts = record {
     legal = legal;
@@ -74,7 +75,8 @@ module _ (family : Family) (n : ℕ) (keys : List (List ℕ)) (are : AreKeysOf (
   count_tries tried is = subst (IsCount (IsTry family n)) (sym is) (keys_count (IsTryKey family n) (IsTry family n) keys are)
 
 -- the number of the tries of a size above the rank
-pub has_tries : (q : Request) (family : Family) → Grows q family → (n tried : ℕ) → q.rank ≤ n → IsCount (IsTry family (n + 1)) tried → HasTries family (n + 1) tried
+pub has_tries : (q : Request) (family : Family) → Grows q family → (n tried : ℕ) → q.rank ≤ n → IsCount (IsTry family (n + 1)) tried
+    → HasTries family (n + 1) tried
 has_tries q family grows n tried room count = record {
   first = λ e. let r : family.rank ≡ q.rank = grows.rank_is in absurd (omega arith);
   later = λ l. count;

@@ -1,6 +1,6 @@
 -- Lists of keys of values: of none, of one, of two kinds together, of images, and how often a key stands in one.
-use Rattle.std.proofs.Common.{◌≡◌, ◌≢◌, ◌⊎◌, ◌↔◌, ℕ, zero, suc, ◌+◌, ◌<◌, Bool, true, false, cond, List, [], ◌∷◌, ◌++◌, map, length, inl, inr, refl, sym, ◌∙◌, ap, subst, arith, bytes_eq, zero-add}
-use Rattle.std.specs.List.{AllPairs, AllZip, Contains, count_by, sum_by}
+use Rattle.std.proofs.Common.{◌≡◌, ◌≢◌, ◌⊎◌, ◌↔◌, ℕ, zero, suc, ◌+◌, Bool, true, false, cond, List, [], ◌∷◌, ◌++◌, map, length, inl, inr, refl, sym, subst, arith, bytes_eq, zero-add}
+use Rattle.std.specs.List.{AllPairs, AllZip, Contains}
 use Rattle.std.proofs.lemmas.List.Elements.{Contains-append_left, Contains-append_right, Contains-append_cases}
 use Rattle.std.proofs.lemmas.List.Sums.{sum_by-cons}
 use Rattle.std.proofs.lemmas.Slice.Eq.{bytes_eq-Decides}
@@ -123,7 +123,8 @@ module _ {X : Type 0} (R : X → List ℕ → Type 0) where
       (times_in h.list keys key (λ x k l c. let e = h.exact x in one x k l (e.0 c)) h.apart h.packed)
 
 module _ {X Y : Type 0} (f : X → Y) (R : X → List ℕ → Type 0) (T : Y → List ℕ → Type 0) where
-  zip_images : (xs : List X) (keys : List (List ℕ)) → ((x : X) (key : List ℕ) → Contains xs x → R x key → T (f x) key) → AllZip R xs keys → AllZip T (map f xs) keys
+  zip_images : (xs : List X) (keys : List (List ℕ)) → ((x : X) (key : List ℕ) → Contains xs x → R x key → T (f x) key) → AllZip R xs keys
+      → AllZip T (map f xs) keys
   zip_images [] [] each z = tt
   zip_images [] (k ∷ ks) each z = absurd z
   zip_images (x ∷ xs) [] each z = absurd z

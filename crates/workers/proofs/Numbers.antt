@@ -1,5 +1,5 @@
 -- Numbers that stand once in a list.
-use Rattle.std.proofs.Common.{◌≡◌, ℕ, zero, suc, ◌+◌, ◌<◌, ◌≤◌, ◌==◌, Bool, true, false, List, [], ◌∷◌, ◌++◌, length, refl, ap, sym, ◌∙◌, subst, arith, eqb, eqb-true, Contains, ⊎_elim}
+use Rattle.std.proofs.Common.{◌≡◌, ℕ, zero, suc, ◌+◌, ◌<◌, ◌≤◌, ◌==◌, Bool, true, false, List, [], ◌∷◌, ◌++◌, length, refl, ap, sym, ◌∙◌, arith, eqb, eqb-true, Contains, ⊎_elim}
 use Rattle.std.specs.List.{list_any, IsDistinct, AllByRecursion}
 use Rattle.std.proofs.lemmas.Bool.{false≢true, or_cases}
 use Rattle.std.proofs.lemmas.Map.Keys.{IsDistinct-cons}
@@ -38,7 +38,8 @@ apart (y ∷ ys) once =
 among : (q : ℕ) (xs : List ℕ) → list_any (eqb q) xs ≡ true → Contains xs q
 among q [] e = absurd (false≢true e)
 among q (x ∷ xs) e = ⊎_elim (λ (here : eqb q x ≡ true). (0, omega arith, sym (eqb-true q x here)))
-    (λ (there : list_any (eqb q) xs ≡ true). let c = among q xs there in (suc c.0, (let l = c.1 in omega arith), c.2)) (or_cases (eqb q x) (list_any (eqb q) xs) e)
+    (λ (there : list_any (eqb q) xs ≡ true). let c = among q xs there in (suc c.0, (let l = c.1 in omega arith), c.2))
+    (or_cases (eqb q x) (list_any (eqb q) xs) e)
 
 -- such numbers below n are at most n
 pub short : (n : ℕ) (xs : List ℕ) → ((x : ℕ) → Contains xs x → x < n) → ((x : ℕ) → times x xs ≤ 1) → length xs ≤ n

@@ -1,7 +1,7 @@
 -- What all workers of a level did together.
-use Rattle.std.proofs.Common.{◌≡◌, ◌⊎◌, ◌↔◌, ℕ, zero, suc, ◌+◌, ◌*◌, ◌^◌, ◌<◌, ◌≤◌, List, [], ◌∷◌, ◌++◌, map, length, Option, Some, None, IsSome, IfSome, slice_get, slice_index_or, inl, inr, refl, sym, ◌∙◌, ap, subst, arith, bytes_eq, cond, length-append, ⊎_elim}
+use Rattle.std.proofs.Common.{◌≡◌, ◌⊎◌, ◌↔◌, ℕ, zero, suc, ◌+◌, ◌*◌, ◌^◌, ◌<◌, ◌≤◌, List, [], ◌∷◌, ◌++◌, map, length, Option, Some, None, IsSome, IfSome, slice_get, slice_index_or, inl, inr, refl, sym, ◌∙◌, ap, subst, arith, bytes_eq, cond, length-append}
 use Rattle.std.specs.Prelude.{unwrap_or}
-use Rattle.std.specs.List.{All, AllByRecursion, AllPairs, AllZip, Contains, concat, sum_by}
+use Rattle.std.specs.List.{AllByRecursion, AllPairs, AllZip, Contains, concat, sum_by}
 use Rattle.std.specs.declared.cmp.Ordering.TheVariants.{Less}
 use Rattle.std.proofs.lemmas.List.Elements.{Contains-append_left, Contains-append_right, Contains-append_cases}
 use Rattle.std.proofs.lemmas.List.Sums.{sum_by-append, sum_by-cons}
@@ -11,8 +11,7 @@ use Rattle.matroid_theory.specs.Level.{Family, IsTry}
 use Rattle.formats.specs.Request.{Request}
 use Rattle.extension.specs.Admissible.{above_values}
 use Rattle.formats.specs.Levels.{Grows}
-use Rattle.class_store.specs.Seen.{PassSide, calls_with}
-use Rattle.steal_pool.specs.declared.shift.Shift.{Shift}
+use Rattle.class_store.specs.Seen.{calls_with}
 use Rattle.steal_pool.specs.Deque.{times as often}
 use Rattle.steal_pool.specs.Shift.{HasEnded, shift_taken}
 use Rattle.steal_pool.specs.Pool.{IsWhole}
@@ -22,9 +21,8 @@ use Rattle.level_driver.specs.Grown.{IsParentLevel}
 use Rattle.level_driver.proofs.NextLevel.{tries_are}
 use Rattle.workers.specs.declared.worker.Worker.{Worker}
 use Rattle.workers.specs.Keys.{AreKeysOf, times}
-use Rattle.workers.specs.Offered.{MadeCalls}
 use Rattle.workers.specs.Parts.{IsTryFrom, DoesPart}
-use Rattle.workers.specs.Seats.{AllWorked, IsWorked}
+use Rattle.workers.specs.Seats.{IsWorked}
 use Rattle.workers.proofs.KeyLists.{keys_both, keys_none, keys_same}
 use Rattle.workers.proofs.Numbers.{found, place}
 use Rattle.workers.proofs.PartKeys.{same_place}
@@ -69,7 +67,8 @@ module _ (family : Family) (n : ℕ) (parents : List Rep) (rising : AllPairs (λ
       → AreKeysOf (IsTryFrom family n parents xs) (IsTryKey family n) ks → AreKeysOf (IsTryFrom family n parents ys) (IsTryKey family n) ls
       → AreKeysOf (IsTryFrom family n parents (xs ++ ys)) (IsTryKey family n) (ks ++ ls)
   parts_both xs ys ks ls once a b =
-      keys_both (IsTryKey family n) (IsTryFrom family n parents xs) (IsTryFrom family n parents ys) (IsTryFrom family n parents (xs ++ ys)) ks ls a b disjoint either
+      keys_both (IsTryKey family n) (IsTryFrom family n parents xs) (IsTryFrom family n parents ys) (IsTryFrom family n parents
+      (xs ++ ys)) ks ls a b disjoint either
     where
       disjoint : (try : Rep × List ℕ) → IsTryFrom family n parents xs try → IsTryFrom family n parents ys try → ⊥
       disjoint try s t =
@@ -115,14 +114,16 @@ module _ (q : Request) (parents : List Rep) (n : ℕ) (family : Family) (level :
       → ((x : ℕ) → often x (taken_by after ++ all_taken ws) ≤ 1) → HaveDone family (n + 1) parents ws → HaveDone family (n + 1) parents (after ∷ ws)
   one_more_done before after ws worked fresh some once h =
       let does : HasEnded after.shift × DoesPart q parents (taken_by before) (taken_by after) before.pass after.pass (tried_by after) =
-      of_answer (λ tried. HasEnded after.shift × DoesPart q parents (taken_by before) (taken_by after) before.pass after.pass tried) after.answer some worked.answered in
+      of_answer (λ tried. HasEnded after.shift × DoesPart q parents (taken_by before)
+      (taken_by after) before.pass after.pass tried) after.answer some worked.answered in
       let p = does.1 in
       let part = p.part n family level grows in
       let is : p.numbers ≡ taken_by after = sym (p.took ∙ ap (λ (l : List ℕ). l ++ p.numbers) fresh.taken) in
       record {
         keys = part.keys ++ h.keys;
         are_keys = parts_both family (n + 1) parents rising (taken_by after) (all_taken ws) part.keys h.keys once
-            (subst (λ (numbers : List ℕ). AreKeysOf (IsTryFrom family (n + 1) parents numbers) (IsTryKey family (n + 1)) part.keys) is part.are_keys) h.are_keys;
+            (subst (λ (numbers : List ℕ). AreKeysOf (IsTryFrom family (n + 1) parents numbers) (IsTryKey family
+            (n + 1)) part.keys) is part.are_keys) h.are_keys;
         calls = λ key.
             let a = part.calls key in let z = fresh.calls key in let b = h.calls key in
             let sum = sum_by-cons (calls_of key) after ws in
@@ -136,7 +137,8 @@ module _ (q : Request) (parents : List Rep) (n : ℕ) (family : Family) (level :
             omega arith;
       }
 
-  pub all_done : (before after : List Worker) → AllZip (IsWorked q parents) before after → AllByRecursion IsFresh before → AllByRecursion (λ w. IsSome w.answer) after
+  pub all_done : (before after : List Worker) → AllZip (IsWorked q parents) before after → AllByRecursion IsFresh before
+      → AllByRecursion (λ w. IsSome w.answer) after
       → ((x : ℕ) → often x (all_taken after) ≤ 1) → HaveDone family (n + 1) parents after
   all_done [] [] z fresh some once = none_done
   all_done [] (y ∷ ys) z fresh some once = absurd z
@@ -148,7 +150,8 @@ module _ (q : Request) (parents : List Rep) (n : ℕ) (family : Family) (level :
   -- where every number was taken these are all tries
   pub whole_done : (after : List Worker) → IsWhole (length parents) (all_taken after) → (h : HaveDone family (n + 1) parents after)
       → AreKeysOf (IsTry family (n + 1)) (IsTryKey family (n + 1)) h.keys
-  whole_done after whole h = keys_same (IsTryKey family (n + 1)) (IsTryFrom family (n + 1) parents (all_taken after)) (IsTry family (n + 1)) h.keys all h.are_keys
+  whole_done after whole h = keys_same (IsTryKey family (n + 1)) (IsTryFrom family (n + 1) parents (all_taken after)) (IsTry family
+      (n + 1)) h.keys all h.are_keys
     where
       at_place : (Ms : List Rep) (k : ℕ) (M : Rep) → k < length Ms → slice_index_or Ms k M ≡ M → slice_get Ms k ≡ Some M
       at_place [] k M l e = absurd (omega arith)
@@ -174,7 +177,8 @@ took_at_most q parents before after worked = by_answer after.answer worked.answe
     by_answer None h = omega arith
     by_answer (Some tried) h =
         let p = h.1 in let f = p.few in
-        let l : length (taken_by after) ≡ length (taken_by before) + length p.numbers = ap (λ (l : List ℕ). length l) p.took ∙ length-append (taken_by before) p.numbers in
+        let l : length (taken_by after) ≡ length (taken_by before) + length p.numbers = ap (λ (l : List ℕ). length l) p.took ∙ length-append
+        (taken_by before) p.numbers in
         omega arith
 
 pub tried_at_most : (q : Request) (parents : List Rep) (before after : List Worker) → AllZip (IsWorked q parents) before after

@@ -1,5 +1,5 @@
 -- The keys of values, one by one.
-use Rattle.std.specs.Prelude.{ℕ, ◌≡◌, ◌≢◌, ◌↔◌, List}
+use Rattle.std.specs.Prelude.{ℕ, ◌≢◌, ◌↔◌, List}
 use Rattle.std.specs.List.{AllPairs, AllZip, Contains, count_by}
 use Rattle.std.specs.Str.{bytes_eq}
 

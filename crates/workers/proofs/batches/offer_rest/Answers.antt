@@ -4,8 +4,9 @@ use Rattle.workers.proofs.batches.offer_rest.Goals as goal
 
 pub loop-stripe-preserved : goal.loop-stripe-preserved
 loop-stripe-preserved g c =
-    rest_more c.args.pass.now c.loop-stripe.pass c.offer_stripe.new.pass c.args.batches.now c.loop-stripe.batches c.offer_stripe.new.batches c.loop-stripe.stripe
-    c.loop-stripe.invariant (let l = c.loop-stripe-test.true in let e = c.loop-stripe.auto.batches in omega arith) c.offer_stripe.ensures.emptied
+    rest_more c.args.pass.now c.loop-stripe.pass c.offer_stripe.new.pass c.args.batches.now c.loop-stripe.batches c.offer_stripe.new.batches
+    c.loop-stripe.stripe c.loop-stripe.invariant (let l = c.loop-stripe-test.true in let e = c.loop-stripe.auto.batches in omega arith)
+    c.offer_stripe.ensures.emptied
     c.offer_stripe.ensures.same c.in_ok-offer_stripe.ensures.calls
 
 pub returns-clause-calls : goal.returns-clause-calls

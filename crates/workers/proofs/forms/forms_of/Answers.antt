@@ -13,5 +13,5 @@ pub loop-i-preserved : goal.loop-i-preserved
 loop-i-preserved c =
     packed_more (record { factors = c.args.factors.now; rank = c.args.rank; size = c.args.size }) c.args.keys.now c.loop-i.i c.in-Some.key.now c.loop-i.forms
     c.push.new.self c.in-Some-unpack.form c.in-Some.ensures c.loop-i.invariant
-    (subst (λ (fs : List ℕ). IsPackedAs (record { factors = fs; rank = c.args.rank; size = c.args.size }) c.in-Some.key.now c.in-Some-unpack.form) c.copy.ensures
-    c.in-Some-unpack.ensures) c.in-Ok.ensures.pushed
+    (subst (λ (fs : List ℕ). IsPackedAs (record { factors = fs; rank = c.args.rank; size = c.args.size }) c.in-Some.key.now c.in-Some-unpack.form)
+    c.copy.ensures c.in-Some-unpack.ensures) c.in-Ok.ensures.pushed

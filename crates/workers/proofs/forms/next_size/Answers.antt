@@ -1,4 +1,4 @@
-use Rattle.std.proofs.Common.{◌≡◌, ℕ, sym, arith}
+use Rattle.std.proofs.Common.{◌≡◌, sym, arith}
 use Rattle.matroid_theory.specs.Rep.{size}
 use Rattle.level_driver.specs.Forbidden.{matroids_of}
 use Rattle.workers.proofs.FromKeys.{inside, parent_size}

@@ -1,4 +1,4 @@
-use Rattle.std.proofs.Common.{◌≡◌, ℕ, ◌+◌, ◌<◌, ◌≤◌, ◌^◌, List, [], ◌∷◌, ◌++◌, map, length, Option, IsSome, refl, sym, ◌∙◌, ap, subst, arith}
+use Rattle.std.proofs.Common.{◌≡◌, ℕ, ◌+◌, ◌<◌, ◌≤◌, ◌^◌, List, ◌++◌, map, length, Option, IsSome, sym, ◌∙◌, ap, subst, arith}
 use Rattle.std.specs.List.{All, AllByRecursion, AllZip, concat, sum_by}
 use Rattle.matroid_theory.specs.Rep.{Rep}
 use Rattle.formats.specs.Request.{Request}
@@ -110,9 +110,11 @@ returns-clause-holds g c n h family grows =
     let some : AllByRecursion (λ w. IsSome w.answer) after =
     all_answered after (subst (All (λ (answer : Option ℕ). IsSome answer)) answers c.in-Some.ensures.0) in
     let done : HaveDone family (n + 1) parents after =
-    all_done q parents n family h grows before after zip (all_fresh c.in_ok-level.level (length parents) before c.in_ok-new_shifts.new_shifts.items new passes_are
+    all_done q parents n family h grows before after zip (all_fresh c.in_ok-level.level
+    (length parents) before c.in_ok-new_shifts.new_shifts.items new passes_are
     c.in_ok-seated.ensures.shifts) some proper.once in
-    let ended : AllEnded c.unseat-answers.new.shifts.items = subst (λ (l : List Shift). AllEnded l) (sym now_shifts) (all_ended q parents before after zip some) in
+    let ended : AllEnded c.unseat-answers.new.shifts.items = subst (λ (l : List Shift). AllEnded l) (sym now_shifts)
+    (all_ended q parents before after zip some) in
     let whole : IsWhole (length parents) (all_taken after) =
     subst (λ (p : ℕ). IsWhole p (all_taken after)) counts (subst (IsWhole (taken_parents c.finish-taken.result)) lists (c.finish-taken.ensures.whole ended)) in
     let keys = whole_done q parents n family h grows after whole done in
@@ -145,9 +147,11 @@ returns-clause-tried g c n h family grows =
     let some : AllByRecursion (λ w. IsSome w.answer) after =
     all_answered after (subst (All (λ (answer : Option ℕ). IsSome answer)) answers c.in-Some.ensures.0) in
     let done : HaveDone family (n + 1) parents after =
-    all_done q parents n family h grows before after zip (all_fresh c.in_ok-level.level (length parents) before c.in_ok-new_shifts.new_shifts.items new passes_are
+    all_done q parents n family h grows before after zip (all_fresh c.in_ok-level.level
+    (length parents) before c.in_ok-new_shifts.new_shifts.items new passes_are
     c.in_ok-seated.ensures.shifts) some proper.once in
-    let ended : AllEnded c.unseat-answers.new.shifts.items = subst (λ (l : List Shift). AllEnded l) (sym now_shifts) (all_ended q parents before after zip some) in
+    let ended : AllEnded c.unseat-answers.new.shifts.items = subst (λ (l : List Shift). AllEnded l) (sym now_shifts)
+    (all_ended q parents before after zip some) in
     let whole : IsWhole (length parents) (all_taken after) =
     subst (λ (p : ℕ). IsWhole p (all_taken after)) counts (subst (IsWhole (taken_parents c.finish-taken.result)) lists (c.finish-taken.ensures.whole ended)) in
     let keys = whole_done q parents n family h grows after whole done in

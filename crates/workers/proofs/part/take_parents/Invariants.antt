@@ -1,4 +1,4 @@
-use Rattle.std.proofs.Common.{◌≡◌, length, vec_len}
+use Rattle.std.proofs.Common.{◌≡◌, length}
 use Rattle.level_driver.specs.Forbidden.{matroids_of}
 use Rattle.steal_pool.specs.Shift.{StaysInPool, shift_taken}
 use Rattle.workers.specs.Offered.{AreEmpty, IsSamePass}

@@ -1,5 +1,4 @@
 use Rattle.std.proofs.Common.{◌≡◌, ◌+◌, ◌≤◌, ◌++◌, map, length, vec_len, vec_capacity}
-use Rattle.arrayvec.specs.ArrayVec.{array_vec_len}
 use Rattle.workers.proofs.seats.unseat.Given as goal
 
 abbrev pub invariant-loop-worker : goal.invariant-loop-worker

@@ -23,6 +23,7 @@ for_each_mut-requires-send-T g c κs within = param_send 1 _ (arg_send _ no _ wo
 
 pub for_each_mut-requires-sync-F : goal.for_each_mut-requires-sync-F
 for_each_mut-requires-sync-F g c κs within =
-    closure_sync 2 _ no _ (seen_with (shr_sync _ _ _ c.type_bounds.sync-R) (seen_with (shr_sync _ _ _ crossing.sync) (seen_with (shr_sync _ _ _ requests.the_sync)
+    closure_sync 2 _ no _ (seen_with (shr_sync _ _ _ c.type_bounds.sync-R) (seen_with (shr_sync _ _ _ crossing.sync) (seen_with
+    (shr_sync _ _ _ requests.the_sync)
     (seen_with (shr_sync _ _ _ forms.the_sync) (seen_with (shr_sync _ _ _ level_sync) (seen_with (shr_sync _ _ _ flags.the_sync)
     (seen (shr_sync _ _ _ c.type_bounds.sync-G))))))))

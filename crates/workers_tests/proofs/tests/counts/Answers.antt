@@ -1,4 +1,4 @@
-use Rattle.std.proofs.Common.{◌≡◌, ◌+◌, ◌≤◌, ℕ, length, sym, ◌∙◌, ap, subst, arith}
+use Rattle.std.proofs.Common.{◌≤◌, ℕ, sym, ◌∙◌, ap, subst, arith}
 use Rattle.level_driver.specs.Grown.{IsLevelOf}
 use Rattle.class_store.specs.Closed.{StoreSide}
 use Rattle.workers_tests.proofs.tests.counts.Goals as goal
