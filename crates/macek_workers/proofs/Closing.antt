@@ -17,7 +17,7 @@ none_closed q n store low = record { first = λ l. refl; later = λ m. absurd (o
 pub more_closed : (q : Request) (n : ℕ) (old new : StoreSide) → q.rank ≤ n → HoldsTriesOf q (n + 1) new.last → HasClosed q (n + 1) old new
 more_closed q n old new low holds = record { first = λ l. absurd (omega arith); later = λ m. holds }
 
-closed_at : (q : Request) (n m : ℕ) (old new : StoreSide) → n ≡ m → HasClosed q n old new → HasClosed q m old new
+pub closed_at : (q : Request) (n m : ℕ) (old new : StoreSide) → n ≡ m → HasClosed q n old new → HasClosed q m old new
 closed_at q n m old new is h = subst (λ (k : ℕ). HasClosed q k old new) is h
 
 -- the level behind the whole ones was grown
