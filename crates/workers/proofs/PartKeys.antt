@@ -1,5 +1,5 @@
 -- What is known after a worker has taken some numbers, and when it has ended its part.
-use Rattle.std.proofs.Common.{◌≡◌, ◌≢◌, ◌⊎◌, ◌↔◌, ℕ, ◌+◌, ◌*◌, ◌^◌, ◌<◌, ◌≤◌, List, [], ◌∷◌, ◌++◌, map, length, Some, slice_get, slice_index_or, inl, inr, refl, sym, ◌∙◌, ap, subst, arith, length-append, append-nil, append_assoc, bytes_eq, cond, ⊎_elim}
+use Rattle.std.proofs.Common.{◌≡◌, ◌⊎◌, ◌↔◌, ℕ, ◌+◌, ◌*◌, ◌^◌, ◌<◌, ◌≤◌, List, [], ◌∷◌, ◌++◌, map, length, Some, slice_get, slice_index_or, inl, inr, refl, sym, ◌∙◌, ap, subst, arith, length-append, append-nil, append_assoc, bytes_eq, cond, ⊎_elim}
 use Rattle.std.specs.List.{Contains, AllPairs}
 use Rattle.std.specs.declared.cmp.Ordering.TheVariants.{Less}
 use Rattle.std.proofs.lemmas.Bool.{cases_lt}
@@ -11,13 +11,13 @@ use Rattle.matroid_theory.specs.Rep.{Rep}
 use Rattle.matroid_theory.specs.Order.{rep_cmp, IsForm}
 use Rattle.matroid_theory.specs.Move.{AreEquivalent}
 use Rattle.matroid_theory.specs.Minor.{Matroid}
-use Rattle.matroid_theory.specs.Level.{Family, IsLevel, IsTry, IsTryFor, followed_by}
+use Rattle.matroid_theory.specs.Level.{Family, followed_by}
 use Rattle.matroid_theory.proofs.Levels.{rep_cmp-irreflexive}
 use Rattle.formats.specs.Request.{Request}
 use Rattle.formats.specs.Levels.{AreGivenBy, Grows}
 use Rattle.formats.specs.Minors.{given_as}
 use Rattle.extension.specs.Admissible.{above_values}
-use Rattle.class_store.specs.Seen.{PassSide, calls_with}
+use Rattle.class_store.specs.Seen.{PassSide}
 use Rattle.steal_pool.specs.Deque.{times as often}
 use Rattle.store_laws.specs.TryKeys.{IsTryKey}
 use Rattle.level_driver.specs.Children.{IsCandidate}

@@ -1,5 +1,5 @@
 -- What all workers of a level did together.
-use Rattle.std.proofs.Common.{◌≡◌, ◌⊎◌, ◌↔◌, ℕ, zero, suc, ◌+◌, ◌*◌, ◌^◌, ◌<◌, ◌≤◌, List, [], ◌∷◌, ◌++◌, map, length, Option, Some, None, IsSome, IfSome, slice_get, slice_index_or, inl, inr, refl, sym, ◌∙◌, ap, subst, arith, bytes_eq, cond, length-append}
+use Rattle.std.proofs.Common.{◌≡◌, ◌⊎◌, ◌↔◌, ℕ, zero, suc, ◌+◌, ◌*◌, ◌<◌, ◌≤◌, List, [], ◌∷◌, ◌++◌, map, length, Option, Some, None, IsSome, IfSome, slice_get, slice_index_or, inl, inr, refl, sym, ◌∙◌, ap, subst, arith, bytes_eq, cond, length-append}
 use Rattle.std.specs.Prelude.{unwrap_or}
 use Rattle.std.specs.List.{AllByRecursion, AllPairs, AllZip, Contains, concat, sum_by}
 use Rattle.std.specs.declared.cmp.Ordering.TheVariants.{Less}

@@ -1,5 +1,5 @@
 -- What a pass has offered of a parent's forms.
-use Rattle.std.specs.Prelude.{ℕ, ◌≡◌, ◌+◌, ◌<◌, ◌≤◌, List, [], length, slice_get, slice_index_or, Some}
+use Rattle.std.specs.Prelude.{ℕ, ◌≡◌, ◌+◌, ◌<◌, ◌≤◌, List, [], length, slice_index_or}
 use Rattle.std.specs.List.{All, sum_by}
 use Rattle.matroid_theory.specs.declared.Mode.{Mode}
 use Rattle.matroid_theory.specs.Rep.{Rep}
