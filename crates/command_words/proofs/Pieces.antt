@@ -15,7 +15,7 @@ use Rattle.clap.specs.declared.parser.matches.ValueSource.TheVariants.{CommandLi
 use Rattle.formats.specs.Words.{Piece, Workers, Sample, Orderly, spellings, Spells, piece_kind, IsCommand, StandsAtMacek, StandsAtAlone, sample_in}
 use Rattle.command_words.specs.Asking.{StandsAtEither, workers_in}
 use Rattle.command_words.proofs.Uses.{Valued, Wide, Sampled, Which, Takes, Flag, Use, Given, Flagged, name_of, same, option_of, text_of}
-use Rattle.command_words.proofs.Uses.{has, text_in, AreOnce, IsUse, SpellsUses, row_for, unused_row, rest_for, rows_for}
+use Rattle.command_words.proofs.Uses.{has, text_in, AreOnce, IsUse, SpellsUses, row_for, rest_for, rows_for}
 use Rattle.command_words.proofs.Walked.{both_false}
 use Rattle.command_words.proofs.Whole.{IsGood, AreGood, has_dashes}
 

@@ -1,5 +1,5 @@
 -- From the matches to what the words ask for.
-use Rattle.std.proofs.Common.{◌≡◌, ◌≢◌, ◌∙◌, ◌≤◌, ℕ, Bool, true, false, List, [], ◌∷◌, map, codes, Option, Some, None, unwrap_or, refl, sym, ap, subst, arith}
+use Rattle.std.proofs.Common.{◌≡◌, ◌≢◌, ◌∙◌, ◌≤◌, ℕ, Bool, true, false, List, [], ◌∷◌, codes, Option, Some, None, unwrap_or, refl, sym, ap, subst, arith}
 use Rattle.std.specs.Prelude.{◌↔◌, if◌then◌else◌, decimal, Contains, MatchOption, IfSome, filter_map}
 use Rattle.clap.specs.Matches.{first_value, one_text}
 use Rattle.clap.specs.Walk.{Text, first_of, one_of, rows_of}

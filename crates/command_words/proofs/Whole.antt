@@ -1,5 +1,5 @@
 -- What `clap` makes of all the words.
-use Rattle.std.proofs.Common.{◌≡◌, ◌∙◌, ◌||◌, Bool, true, false, cond, List, [], ◌∷◌, ◌++◌, map, codes, Some, None, refl, sym, ap, ap₂, subst, inl, inr}
+use Rattle.std.proofs.Common.{◌≡◌, ◌∙◌, ◌||◌, Bool, true, false, List, [], ◌∷◌, ◌++◌, map, codes, Some, None, refl, sym, ap, ap₂, subst, inl, inr}
 use Rattle.std.proofs.Common.{append-nil, append_assoc}
 use Rattle.std.specs.Prelude.{if◌then◌else◌, is_some}
 use Rattle.std.specs.List.{fold, list_any}
@@ -14,7 +14,7 @@ use Rattle.clap.specs.declared.error.kind.ErrorKind.TheVariants as kind
 use Rattle.command_words.specs.Command.{macek_app}
 use Rattle.command_words.proofs.Uses.{Valued, Wide, Sampled, Which, Takes, Flag, Use, Given, Flagged, Pend, Resting, Asking, Holding, name_of, rule_for, option_of, text_of}
 use Rattle.command_words.proofs.Uses.{has, AreOnce, IsUse, SpellsUses, row_for, unused_row, rest_for, rows_for, held, stands}
-use Rattle.command_words.proofs.Walked.{shape, rules, which, settle_kinds, settle_uses, settle_is, settled_is, no_clash, clash, or_first, or_second, long_kinds}
+use Rattle.command_words.proofs.Walked.{shape, rules, which, settle_kinds, settle_uses, settle_is, settled_is, no_clash, clash, or_first, or_second}
 use Rattle.command_words.proofs.Walked.{both_false, has_row_is, absent_at}
 use Rattle.command_words.proofs.Walked.{Turns, Names, Texts, turn_back, names_on, text_on}
 use Rattle.command_words.proofs.Texts.{word_is, once_last, once_mid}

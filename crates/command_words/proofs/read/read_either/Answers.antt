@@ -2,7 +2,7 @@ use Rattle.std.proofs.Common.{◌≡◌, ◌∙◌, List, map, string_bytes, tru
 use Rattle.clap.specs.Matches.{found_of}
 use Rattle.clap.specs.Walk.{Text}
 use Rattle.command_words.proofs.Pieces.{accepted, uses_of, no_dashes}
-use Rattle.command_words.proofs.Readings.{IsFlag, refused, wrong_workers, wrong_sample, asked, number_range, most_range}
+use Rattle.command_words.proofs.Readings.{refused, wrong_workers, wrong_sample, asked, number_range, most_range}
 use Rattle.command_words.proofs.read.read_either.Goals as goal
 
 pub returns-then-has_dashes-clause-reads : goal.returns-then-has_dashes-clause-reads
