@@ -60,6 +60,7 @@ fn is_least_of(least: &Rep, rep: &Rep) -> bool
     requires shape { shape least.now ≡ shape rep.now }
     ensures { (result ≡ true) ↔ IsNotAboveClass least.now rep.now }
 {
+    rep.laws();
     match compare(least, rep) {
         Ordering::Less => is_at_most(compare(least, &least_of_standard(rep))),
         Ordering::Equal => is_least(rep),
