@@ -132,7 +132,7 @@ module _ (columns : ColumnsAfter) (v : List ℕ) (next : IsNextColumn columns v)
       exact = λ N. (
         λ c. elim (Contains-push_cases h.added (followed_by columns.parent v) N c) [
           | inl b ↦ (let k = (h.are.exact N).0 b in record { column = k.column; tried = earlier k.column k.tried; is = k.is; form = k.form })
-          | inr e ↦ record { column = v; tried = (one_more_tried v).1 (inr refl); is = e; form = subst (IsForm mode) (sym e) form }
+          | inr e ↦ record { column = v; tried = (one_more_tried v).1 (inr refl); is = sym e; form = subst (IsForm mode) e form }
         ],
         λ k. elim ((one_more_tried k.column).0 k.tried) [
           | inl b ↦ Contains-append_left h.added (followed_by columns.parent v ∷ []) N

@@ -117,3 +117,11 @@ module _ (q : Request) (Ns : List Matroid) (given : AreGivenBy (map given_as q.f
   -- and one of the next level is its own form, without the minors
   pub kept_own : (v : List ℕ) → IsLevelFormOf q (n + 1) (followed_by P v) → IsLevelForm (grown_by q Ns) (n + 1) (followed_by P v)
   kept_own v h = h (grown_by q Ns) (grows_it q Ns given)
+
+  -- so the two say the same of a candidate
+  pub kept_by : (v : List ℕ) (child : Rep) (mode : Mode) → child ≡ followed_by P v → mode ≡ q.mode → IsCandidate Ns P v →
+      IsForm mode child ↔ IsLevelFormOf q (n + 1) (followed_by P v)
+  kept_by v child mode is same candidate = (
+    λ form. own_kept v candidate (subst (λ (mode : Mode). IsForm mode (followed_by P v)) same (subst (IsForm mode) is form)),
+    λ h. subst (IsForm mode) (sym is) (subst (λ (mode : Mode). IsForm mode (followed_by P v)) (sym same) (let f = kept_own v h in f.form)),
+  )
