@@ -3,6 +3,7 @@ ghost use Rattle.std.specs.Prelude.{◌≡◌, ◌+◌, ℕ, IfOk, if◌then◌e
 ghost use Rattle.level_driver.specs.Grown.{IsParentLevel, IsLevelOf, AreTriesOf};
 
 use level_driver::{FormList, Level, grow_alone};
+use orderly::next_level;
 use request_reader::Request;
 use std::alloc::{AllocError, Global};
 
@@ -42,6 +43,6 @@ pub fn grow(
 {
     match growth {
         Growth::Gathered => grow_alone(alloc, request, parents),
-        Growth::Orderly => grow_alone(alloc, request, parents),
+        Growth::Orderly => next_level(alloc, request, parents),
     }
 }
