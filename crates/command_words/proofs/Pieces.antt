@@ -285,8 +285,10 @@ flag_piece w k us = (there us, back us)
 
     back : (us : List Use) → Contains (pieces_for w k us) Orderly → has Flag us ≡ true
     back [] (at, below, is) = absurd (omega arith)
-    back (Given Wide t ∷ us) among = elim (no_head Orderly (Workers w) (pieces_for w k us) among) [ inl bad ↦ absurd (cc) | inr rest ↦ back us rest ]
-    back (Given Sampled t ∷ us) among = elim (no_head Orderly (Sample k) (pieces_for w k us) among) [ inl bad ↦ absurd (cc) | inr rest ↦ back us rest ]
+    back (Given Wide t ∷ us) among =
+        elim (no_head Orderly (Workers w) (pieces_for w k us) among) [ inl bad ↦ absurd (cc) | inr rest ↦ back us rest ]
+    back (Given Sampled t ∷ us) among =
+        elim (no_head Orderly (Sample k) (pieces_for w k us) among) [ inl bad ↦ absurd (cc) | inr rest ↦ back us rest ]
     back (Flagged ∷ us) among = refl
 
 text_has : (i : Which) (us : List Use) → has i us ≡ false → text_in i us ≡ None
@@ -379,7 +381,8 @@ piece_one : (piece other : Piece) → StandsAtEither piece → StandsAtEither ot
 piece_one (Workers n) (Workers m) may may' same =
     let low = workers_range n may in
     let high = workers_range m may' in
-    ap Workers (decimal_injective n m (omega (arith, low.1)) (omega (arith, high.1)) (text_same (Given Wide (decimal n)) (Given Wide (decimal m)) same))
+    ap Workers (decimal_injective n m (omega (arith, low.1)) (omega (arith, high.1))
+    (text_same (Given Wide (decimal n)) (Given Wide (decimal m)) same))
 piece_one (Workers n) (Sample m) may may' same = let bad : ◌≡◌ {A = ℕ} 119 115 = ap letter same in absurd (omega arith)
 piece_one (Workers n) Orderly may may' same = let bad : ◌≡◌ {A = ℕ} 119 111 = ap letter same in absurd (omega arith)
 piece_one (Sample n) (Workers m) may may' same = let bad : ◌≡◌ {A = ℕ} 115 119 = ap letter same in absurd (omega arith)
@@ -395,7 +398,8 @@ piece_one Orderly Orderly may may' same = refl
 rest_apart : (b : Bool) (u : Use) (rows : List Row) → ¬ (Same (rest_for b) (row_for u ∷ rows))
 rest_apart true u rows same = cc (same)
 rest_apart false u rows same =
-    let sources : ◌≡◌ {A = Option ValueSource} (Some DefaultValue) (Some CommandLine) = ap (λ (r : Row). r.source) (heads _ _ _ _ same).0 in cc (sources)
+    let sources : ◌≡◌ {A = Option ValueSource} (Some DefaultValue) (Some CommandLine) = ap (λ (r : Row). r.source) (heads _ _ _ _ same).0 in
+    cc (sources)
 
 pieces_one_by : (b c : Bool) (pieces others : List Piece) → AllByRecursion StandsAtEither pieces → AllByRecursion StandsAtEither others
     → map row_for (uses_of pieces) ++ rest_for b ≡ map row_for (uses_of others) ++ rest_for c → pieces ≡ others
@@ -404,7 +408,8 @@ pieces_one_by b c [] (other ∷ others) may may' same = absurd (rest_apart b (us
 pieces_one_by b c (piece ∷ pieces) [] may may' same = absurd (rest_apart c (use_of piece) _ (sym same))
 pieces_one_by b c (piece ∷ pieces) (other ∷ others) may may' same =
     let both = heads _ _ _ _ same in
-    ap₂ (λ (p : Piece) (ps : List Piece). p ∷ ps) (piece_one piece other may.0 may'.0 both.0) (pieces_one_by b c pieces others may.1 may'.1 both.1)
+    ap₂ (λ (p : Piece) (ps : List Piece). p ∷ ps) (piece_one piece other may.0 may'.0 both.0)
+    (pieces_one_by b c pieces others may.1 may'.1 both.1)
 
 -- pieces with the same rows are the same
 pub pieces_one : (pieces others : List Piece) → AllByRecursion StandsAtEither pieces → AllByRecursion StandsAtEither others
@@ -418,7 +423,8 @@ NamesNone pieces = filter_map workers_in pieces ≡ []
 
 module _ (words : List Text) where
   module _ (MayStand Other : Piece → Type 0) where
-    all_stand : ((piece : Piece) → MayStand piece → Other piece) → (pieces : List Piece) → AllByRecursion MayStand pieces → AllByRecursion Other pieces
+    all_stand : ((piece : Piece) → MayStand piece → Other piece) → (pieces : List Piece) → AllByRecursion MayStand pieces
+        → AllByRecursion Other pieces
     all_stand f [] may = tt
     all_stand f (piece ∷ pieces) may = (f piece may.0, all_stand f pieces may.1)
 

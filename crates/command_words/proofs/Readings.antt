@@ -96,11 +96,14 @@ module _ (words : List Text) where
           command = record { may = uses_stand n m us a.0 a.1 b.1; spelled = uses_spell n m us words numbers back.1; once = uses_once n m us back.2 };
           workers_are = workers_are w n m us back.2 a.3 (λ t e. (a.2 t e).1);
           sample_is = sample_is k n m us back.2 b.3 (λ t e. (b.2 t e).1);
-          orderly_is = subst (λ (b : Bool). (b ≡ true) ↔ Contains (pieces_for n m us) Orderly) (sym (flag_is f us rows_us flag reads_flag)) (flag_piece n m us);
+          orderly_is =
+              subst (λ (b : Bool). (b ≡ true) ↔ Contains (pieces_for n m us) Orderly) (sym (flag_is f us rows_us flag reads_flag))
+              (flag_piece n m us);
         }
 
   -- the words are read in one way
-  one_reading_either : (pieces others : List Piece) → IsCommand StandsAtEither words pieces → IsCommand StandsAtEither words others → pieces ≡ others
+  one_reading_either : (pieces others : List Piece) → IsCommand StandsAtEither words pieces → IsCommand StandsAtEither words others
+      → pieces ≡ others
   one_reading_either pieces others p q =
       let a = accepted words pieces p in
       let b = accepted words others q in

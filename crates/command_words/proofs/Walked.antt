@@ -96,7 +96,8 @@ abbrev Clashes : Which → List Text → Type 0
 Clashes i values = (us : List Use) → use_fault false (rule_for i) values (map row_for us) ≡ clash (has i us)
 
 use_kinds : (i : Valued) (v : Text) → Clashes (Takes i) (v ∷ [])
-use_kinds Wide v us = ap (λ b. or_else (if b && true then kind.ArgumentConflict ∷ [] else []) []) (has_row_is (Takes Wide) us) ∙ clash_is (has (Takes Wide) us)
+use_kinds Wide v us =
+    ap (λ b. or_else (if b && true then kind.ArgumentConflict ∷ [] else []) []) (has_row_is (Takes Wide) us) ∙ clash_is (has (Takes Wide) us)
 use_kinds Sampled v us =
     ap (λ b. or_else (if b && true then kind.ArgumentConflict ∷ [] else []) []) (has_row_is (Takes Sampled) us) ∙ clash_is (has (Takes Sampled) us)
 
@@ -211,9 +212,11 @@ stand_by waiting h = record { held = h; waiting = waiting; position = 1; is_trai
 
 -- the use is put last, after what stood open
 use_after : (u : Use) (values : List Text) (us : List Use) (pend : Pend)
-    → ((before : List Use) → has (option_of u) before ≡ false → used (rule_for (option_of u)) values (map row_for before) ≡ map row_for (before ++ u ∷ []))
+    → ((before : List Use) → has (option_of u) before ≡ false
+      → used (rule_for (option_of u)) values (map row_for before) ≡ map row_for (before ++ u ∷ []))
     → or_else (settle_kinds us pend) (clash (has (option_of u) (settle_uses us pend))) ≡ []
-    → stand_by idle (rows_only (used (rule_for (option_of u)) values (settled rules (held us pend)).rows)) ≡ stands (settle_uses us pend ++ u ∷ []) Resting
+    → stand_by idle (rows_only (used (rule_for (option_of u)) values (settled rules (held us pend)).rows))
+    ≡ stands (settle_uses us pend ++ u ∷ []) Resting
 use_after u values us pend last none =
     ap (λ (h : Held). stand_by idle (rows_only (used (rule_for (option_of u)) values h.rows))) (settled_is us pend (or_first (settle_kinds us pend) _ none))
     ∙ ap (λ rs. stand_by idle (rows_only rs))

@@ -12,8 +12,8 @@ use Rattle.clap.specs.Kinds.{Kinds, or_else}
 use Rattle.clap.specs.Faults.{fault_of, settle_fault, turn_fault, walk_fault, defaults_fault, check_fault, entered_fault}
 use Rattle.clap.specs.declared.error.kind.ErrorKind.TheVariants as kind
 use Rattle.command_words.specs.Command.{macek_app}
-use Rattle.command_words.proofs.Uses.{Valued, Wide, Sampled, Which, Takes, Flag, Use, Given, Flagged, Pend, Resting, Asking, Holding, name_of, rule_for, option_of, text_of}
-use Rattle.command_words.proofs.Uses.{has, AreOnce, IsUse, SpellsUses, row_for, unused_row, rest_for, rows_for, held, stands}
+use Rattle.command_words.proofs.Uses.{Valued, Wide, Sampled, Which, Takes, Flag, Use, Given, Flagged, Pend, Resting, Asking, Holding}
+use Rattle.command_words.proofs.Uses.{name_of, rule_for, option_of, text_of, has, AreOnce, IsUse, SpellsUses, row_for, unused_row, rest_for, rows_for, held, stands}
 use Rattle.command_words.proofs.Walked.{shape, rules, which, settle_kinds, settle_uses, settle_is, settled_is, no_clash, clash, or_first, or_second}
 use Rattle.command_words.proofs.Walked.{both_false, has_row_is, absent_at}
 use Rattle.command_words.proofs.Walked.{Turns, Names, Texts, turn_back, names_on, text_on}
@@ -60,8 +60,8 @@ pub record Ends (us : List Use) (pend : Pend) (words : List Text) : Type 0 where
 
 module _ (us : List Use) (pend : Pend) (word : Text) (words : List Text) where
   -- a use in one word
-  end_one : (u : Use) → IsUse u (word ∷ []) → or_else (settle_kinds us pend) (clash (has (option_of u) (settle_uses us pend))) ≡ []
-      → walked rules [] (stands us pend) word ≡ stands (settle_uses us pend ++ u ∷ []) Resting → Ends (settle_uses us pend ++ u ∷ []) Resting words
+  end_one : (u : Use) → IsUse u (word ∷ [])
+      → or_else (settle_kinds us pend) (clash (has (option_of u) (settle_uses us pend))) ≡ [] → walked rules [] (stands us pend) word ≡ stands (settle_uses us pend ++ u ∷ []) Resting → Ends (settle_uses us pend ++ u ∷ []) Resting words
       → Ends us pend (word ∷ words)
   end_one u one kinds after e =
       let settles : settle_kinds us pend ≡ [] = or_first (settle_kinds us pend) _ kinds in
@@ -124,7 +124,8 @@ module _ (us : List Use) (pend : Pend) (word : Text) (words : List Text) where
     | Names (Takes i) (Some v) name long is kinds after ↦
         let spelled : IsUse (Given i v) (word ∷ []) = inr (ap (λ w. w ∷ []) (word_is word name (Some v) (Takes i) long is)) in
         end_one (Given i v) spelled kinds after (next _ _ (subst (λ w. walk_fault shape [] w words ≡ []) after rest))
-    | Names (Takes i) None name long is kinds after ↦ end_name i name long is kinds after (next _ _ (subst (λ w. walk_fault shape [] w words ≡ []) after rest))
+    | Names (Takes i) None name long is kinds after ↦
+        end_name i name long is kinds after (next _ _ (subst (λ w. walk_fault shape [] w words ≡ []) after rest))
     | Names Flag None name long is kinds after ↦
         let spelled : IsUse Flagged (word ∷ []) = ap (λ w. w ∷ []) (name_alone Flag name long is) in
         end_one Flagged spelled kinds after (next _ _ (subst (λ w. walk_fault shape [] w words ≡ []) after rest))
@@ -179,23 +180,26 @@ name_word : (i : Valued) (us : List Use) (pend : Pend) → settle_kinds us pend 
 name_word Wide us pend settles = names_on us pend (codes "--workers") (codes "workers") None (Takes Wide) refl refl refl settles
 name_word Sampled us pend settles = names_on us pend (codes "--sample") (codes "sample") None (Takes Sampled) refl refl refl settles
 
+-- the word isn't refused, and the use is then the last one
+abbrev Turned : List Use → Pend → Use → Text → Type 0
+Turned us pend u word =
+    (turn_fault shape [] (stands us pend) word ≡ []) × (walked rules [] (stands us pend) word ≡ stands (settle_uses us pend ++ u ∷ []) Resting)
+
 -- a use that is spelled in one word
 one_word : (u : Use) (word : Text) (us : List Use) (pend : Pend) → IsUse u (word ∷ [])
-    → or_else (settle_kinds us pend) (clash (has (option_of u) (settle_uses us pend))) ≡ []
-    → (turn_fault shape [] (stands us pend) word ≡ []) × (walked rules [] (stands us pend) word ≡ stands (settle_uses us pend ++ u ∷ []) Resting)
+    → or_else (settle_kinds us pend) (clash (has (option_of u) (settle_uses us pend))) ≡ [] → Turned us pend u word
 one_word (Given i v) word us pend (inl two) kinds = cc (two)
 one_word (Given i v) word us pend (inr one) kinds =
-    let P : Text → Type 0 = λ w. (turn_fault shape [] (stands us pend) w ≡ []) × (walked rules [] (stands us pend) w ≡ stands (settle_uses us pend ++ Given i v ∷ []) Resting) in
+    let P : Text → Type 0 = Turned us pend (Given i v) in
     let is : word ≡ codes "--" ++ (name_of (Takes i) ++ 61 ∷ v) = cc (one) in
     subst P (sym is) (valued i kinds)
   where
     valued : (j : Valued) → or_else (settle_kinds us pend) (clash (has (Takes j) (settle_uses us pend))) ≡ []
-        → (turn_fault shape [] (stands us pend) (codes "--" ++ (name_of (Takes j) ++ 61 ∷ v)) ≡ [])
-        × (walked rules [] (stands us pend) (codes "--" ++ (name_of (Takes j) ++ 61 ∷ v)) ≡ stands (settle_uses us pend ++ Given j v ∷ []) Resting)
+        → Turned us pend (Given j v) (codes "--" ++ (name_of (Takes j) ++ 61 ∷ v))
     valued Wide kinds = names_on us pend (codes "--workers=" ++ v) (codes "workers") (Some v) (Takes Wide) refl refl refl kinds
     valued Sampled kinds = names_on us pend (codes "--sample=" ++ v) (codes "sample") (Some v) (Takes Sampled) refl refl refl kinds
 one_word Flagged word us pend one kinds =
-    let P : Text → Type 0 = λ w. (turn_fault shape [] (stands us pend) w ≡ []) × (walked rules [] (stands us pend) w ≡ stands (settle_uses us pend ++ Flagged ∷ []) Resting) in
+    let P : Text → Type 0 = Turned us pend Flagged in
     let is : word ≡ codes "--orderly" = cc (one) in
     subst P (sym is) (names_on us pend (codes "--orderly") (codes "orderly") None Flag refl refl refl kinds)
 

@@ -31,7 +31,8 @@ module _ (words : List (List ℕ)) (left : Option (List ℕ)) (workers : Option 
     gains = l.gains;
   }
 
-  pub none_refused : (why : Refusal) → IsAsked StandsAtMacek words workers None false → LeavesRefused left why → AsksForRefused StandsAtMacek words left why
+  pub none_refused : (why : Refusal) → IsAsked StandsAtMacek words workers None false → LeavesRefused left why
+      → AsksForRefused StandsAtMacek words left why
   none_refused why asked l = record {
     text = l.text;
     asked = asks_text words workers None false asked left l.text l.is_left;
@@ -39,8 +40,9 @@ module _ (words : List (List ℕ)) (left : Option (List ℕ)) (workers : Option 
   }
 
   -- and with a sample its text
-  pub sample_lists : (k : ℕ) (q : Request) (before after : Option (List ℕ)) (Part : Request → List ℕ → Type 0) → IsAsked StandsAtMacek words workers (Some k) false
-      → StandsFor (sample_text k) q → Gains before after (Part q) → Lists StandsAtMacek words left before after Part
+  pub sample_lists : (k : ℕ) (q : Request) (before after : Option (List ℕ)) (Part : Request → List ℕ → Type 0)
+      → IsAsked StandsAtMacek words workers (Some k) false → StandsFor (sample_text k) q → Gains before after (Part q)
+      → Lists StandsAtMacek words left before after Part
   sample_lists k q before after Part asked stands gains = record {
     request = q;
     asks = record { text = sample_text k; asked = asks_text words workers (Some k) false asked left (sample_text k) refl; stands = stands };
