@@ -9,8 +9,8 @@ use Rattle.std.proofs.lemmas.Slice.Eq.{bytes_eq-Decides}
 use Rattle.std.proofs.lemmas.Bool.Decides.{nat_tests}
 use Rattle.clap.specs.Lexer.{long_of, long_of_rest, strip_byte, name_and_value, has_byte}
 use Rattle.clap.specs.Walk.{Text}
-use Rattle.command_words.proofs.Uses.{Which, Wide, Sampled, Use, name_of, same, has, AreOnce}
-use Rattle.command_words.proofs.Walked.{which}
+use Rattle.command_words.proofs.Uses.{Wide, Sampled, Which, Takes, Flag, Use, name_of, same, option_of, has, AreOnce}
+use Rattle.command_words.proofs.Walked.{which, both_false}
 
 abbrev pub value_part : Option Text → Text
 value_part None = []
@@ -51,13 +51,17 @@ rest_back (x ∷ xs) name value e =
     name_parts (x ∷ xs) ∙ ap (λ (p : Text × Option Text). p.0 ++ value_part p.1) parts
 
 which_back : (name : Text) (i : Which) → which name ≡ Some i → name ≡ name_of i
-which_back name i e = go (bytes_eq (name_of Wide) name) (bytes_eq (name_of Sampled) name) refl refl e
+which_back name i e = go (bytes_eq (name_of (Takes Wide)) name) (bytes_eq (name_of (Takes Sampled)) name) (bytes_eq (name_of Flag) name) refl refl refl e
   where
-    go : (b c : Bool) → bytes_eq (name_of Wide) name ≡ b → bytes_eq (name_of Sampled) name ≡ c
-        → (if b then Some Wide else (if c then Some Sampled else None)) ≡ Some i → name ≡ name_of i
-    go true c one two h = let is : Wide ≡ i = cc in sym ((bytes_eq-Decides (name_of Wide) name).0 one) ∙ ap name_of is
-    go false true one two h = let is : Sampled ≡ i = cc in sym ((bytes_eq-Decides (name_of Sampled) name).0 two) ∙ ap name_of is
-    go false false one two h = cc
+    is_name : (j : Which) → bytes_eq (name_of j) name ≡ true → j ≡ i → name ≡ name_of i
+    is_name j met is = sym ((bytes_eq-Decides (name_of j) name).0 met) ∙ ap name_of is
+
+    go : (b c d : Bool) → bytes_eq (name_of (Takes Wide)) name ≡ b → bytes_eq (name_of (Takes Sampled)) name ≡ c → bytes_eq (name_of Flag) name ≡ d
+        → (if b then Some (Takes Wide) else (if c then Some (Takes Sampled) else (if d then Some Flag else None))) ≡ Some i → name ≡ name_of i
+    go true c d one two three h = is_name (Takes Wide) one (cc (h))
+    go false true d one two three h = is_name (Takes Sampled) two (cc (h))
+    go false false true one two three h = is_name Flag three (cc (h))
+    go false false false one two three h = cc (h)
 
 -- the word of a use
 pub word_is : (word name : Text) (value : Option Text) (i : Which) → long_of word ≡ Some (name, value) → which name ≡ Some i
@@ -70,32 +74,44 @@ word_is word name value i long is =
 
 -- ---- lists of uses
 
-has_last : (i j : Which) (v : Text) (us : List Use) → has j us ≡ false → same i j ≡ false → has j (us ++ (i, v) ∷ []) ≡ false
-has_last i j v [] none apart = rw apart refl
-has_last i j v (u ∷ us) none apart = go (same u.0 j) none (λ h. has_last i j v us h apart)
+same_back : (i j : Which) → same i j ≡ same j i
+same_back (Takes Wide) (Takes Wide) = refl
+same_back (Takes Wide) (Takes Sampled) = refl
+same_back (Takes Wide) Flag = refl
+same_back (Takes Sampled) (Takes Wide) = refl
+same_back (Takes Sampled) (Takes Sampled) = refl
+same_back (Takes Sampled) Flag = refl
+same_back Flag (Takes Wide) = refl
+same_back Flag (Takes Sampled) = refl
+same_back Flag Flag = refl
+
+has_last : (u : Use) (j : Which) (us : List Use) → has j us ≡ false → same (option_of u) j ≡ false → has j (us ++ u ∷ []) ≡ false
+has_last u j [] none apart = rw apart refl
+has_last u j (x ∷ us) none apart = go (same (option_of x) j) none (λ h. has_last u j us h apart)
   where
-    go : (b : Bool) → (b || has j us) ≡ false → (has j us ≡ false → has j (us ++ (i, v) ∷ []) ≡ false) → (b || has j (us ++ (i, v) ∷ [])) ≡ false
+    go : (b : Bool) → (b || has j us) ≡ false → (has j us ≡ false → has j (us ++ u ∷ []) ≡ false) → (b || has j (us ++ u ∷ [])) ≡ false
     go true h ih = let bad : ◌≡◌ {A = Bool} true false = h in absurd (cc)
     go false h ih = ih h
 
-pub once_last : (i : Which) (v : Text) (us : List Use) → AreOnce us → has i us ≡ false → AreOnce (us ++ (i, v) ∷ [])
-once_last i v [] once none = (refl, tt)
-once_last Wide v ((Wide, t) ∷ us) once none = let bad : ◌≡◌ {A = Bool} true false = none in absurd (cc)
-once_last Wide v ((Sampled, t) ∷ us) once none = (has_last Wide Sampled v us once.0 refl, once_last Wide v us once.1 none)
-once_last Sampled v ((Wide, t) ∷ us) once none = (has_last Sampled Wide v us once.0 refl, once_last Sampled v us once.1 none)
-once_last Sampled v ((Sampled, t) ∷ us) once none = let bad : ◌≡◌ {A = Bool} true false = none in absurd (cc)
+pub once_last : (u : Use) (us : List Use) → AreOnce us → has (option_of u) us ≡ false → AreOnce (us ++ u ∷ [])
+once_last u [] once none = (refl, tt)
+once_last u (x ∷ us) once none =
+    let both = both_false (same (option_of x) (option_of u)) (has (option_of u) us) none in
+    (has_last u (option_of x) us once.0 (same_back (option_of u) (option_of x) ∙ both.0), once_last u us once.1 both.1)
 
-has_mid : (i : Which) (v : Text) (us more : List Use) → same i i ≡ true → has i (us ++ (i, v) ∷ more) ≡ true
-has_mid i v [] more is = rw is refl
-has_mid i v (u ∷ us) more is = go (same u.0 i) (has_mid i v us more is)
+has_mid : (u : Use) (j : Which) (us more : List Use) → same (option_of u) j ≡ true → has j (us ++ u ∷ more) ≡ true
+has_mid u j [] more is = rw is refl
+has_mid u j (x ∷ us) more is = go (same (option_of x) j) (has_mid u j us more is)
   where
-    go : (b : Bool) → has i (us ++ (i, v) ∷ more) ≡ true → (b || has i (us ++ (i, v) ∷ more)) ≡ true
+    go : (b : Bool) → has j (us ++ u ∷ more) ≡ true → (b || has j (us ++ u ∷ more)) ≡ true
     go true h = refl
     go false h = h
 
-pub once_mid : (i : Which) (v : Text) (us more : List Use) → AreOnce (us ++ (i, v) ∷ more) → has i us ≡ false
-once_mid i v [] more once = refl
-once_mid Wide v ((Wide, t) ∷ us) more once = let bad : ◌≡◌ {A = Bool} false true = sym once.0 ∙ has_mid Wide v us more refl in absurd (cc)
-once_mid Wide v ((Sampled, t) ∷ us) more once = once_mid Wide v us more once.1
-once_mid Sampled v ((Wide, t) ∷ us) more once = once_mid Sampled v us more once.1
-once_mid Sampled v ((Sampled, t) ∷ us) more once = let bad : ◌≡◌ {A = Bool} false true = sym once.0 ∙ has_mid Sampled v us more refl in absurd (cc)
+pub once_mid : (u : Use) (us more : List Use) → AreOnce (us ++ u ∷ more) → has (option_of u) us ≡ false
+once_mid u [] more once = refl
+once_mid u (x ∷ us) more once = go (same (option_of x) (option_of u)) refl (once_mid u us more once.1)
+  where
+    go : (b : Bool) → same (option_of x) (option_of u) ≡ b → has (option_of u) us ≡ false → (b || has (option_of u) us) ≡ false
+    go true is h =
+        let bad : ◌≡◌ {A = Bool} true false = sym (has_mid u (option_of x) us more (same_back (option_of u) (option_of x) ∙ is)) ∙ once.0 in absurd (cc)
+    go false is h = h

@@ -14,54 +14,73 @@ use Rattle.clap.specs.Kinds.{Kinds, or_else}
 use Rattle.clap.specs.Faults.{settle_fault, use_fault, turn_fault, long_fault, flag_word_fault, step_fault, bundle_fault, bundle_step_fault, flags_fault}
 use Rattle.clap.specs.declared.error.kind.ErrorKind.TheVariants as kind
 use Rattle.command_words.specs.Command.{macek_app}
-use Rattle.command_words.proofs.Uses.{Which, Wide, Sampled, Use, Pend, Resting, Asking, Holding, name_of, rule_for, has, row_for, waiting_for, held, stands}
+use Rattle.command_words.proofs.Uses.{Valued, Wide, Sampled, Which, Takes, Flag, Use, Given, Flagged, Pend, Resting, Asking, Holding}
+use Rattle.command_words.proofs.Uses.{name_of, rule_for, same, option_of, has, row_for, waiting_for, held, stands}
 
 abbrev pub shape : Shape
 shape = (built macek_app).top
 
 abbrev pub rules : List Rule
-rules = rule_for Wide ∷ rule_for Sampled ∷ []
+rules = rule_for (Takes Wide) ∷ rule_for (Takes Sampled) ∷ rule_for Flag ∷ []
 
 rules_are : shape.rules ≡ rules
 rules_are = refl
 
+pub both_false : (a b : Bool) → (a || b) ≡ false → (a ≡ false) × (b ≡ false)
+both_false true b e = let bad : ◌≡◌ {A = Bool} true false = e in absurd (cc)
+both_false false b e = (refl, e)
+
+-- the names tell the options apart
+pub names_same : (i j : Which) → bytes_eq (name_of i) (name_of j) ≡ same i j
+names_same (Takes Wide) (Takes Wide) = refl
+names_same (Takes Wide) (Takes Sampled) = refl
+names_same (Takes Wide) Flag = refl
+names_same (Takes Sampled) (Takes Wide) = refl
+names_same (Takes Sampled) (Takes Sampled) = refl
+names_same (Takes Sampled) Flag = refl
+names_same Flag (Takes Wide) = refl
+names_same Flag (Takes Sampled) = refl
+names_same Flag Flag = refl
+
 pub has_row_is : (i : Which) (us : List Use) → has_row (name_of i) (map row_for us) ≡ has i us
 has_row_is i [] = refl
-has_row_is Wide ((Wide, t) ∷ us) = refl
-has_row_is Wide ((Sampled, t) ∷ us) = has_row_is Wide us
-has_row_is Sampled ((Wide, t) ∷ us) = has_row_is Sampled us
-has_row_is Sampled ((Sampled, t) ∷ us) = refl
+has_row_is i (u ∷ us) = ap₂ (λ (a b : Bool). a || b) (names_same (option_of u) i) (has_row_is i us)
 
 -- where an option was not used, its row is added at the end
-absent_at : (i : Which) (change : Row → List Row) (missing : List Row) (us : List Use) → has i us ≡ false
+pub absent_at : (i : Which) (change : Row → List Row) (missing : List Row) (us : List Use) → has i us ≡ false
     → at_row (name_of i) change missing (map row_for us) ≡ map row_for us ++ missing
 absent_at i change missing [] none = refl
-absent_at Wide change missing ((Wide, t) ∷ us) none = let bad : ◌≡◌ {A = Bool} true false = none in absurd (cc)
-absent_at Wide change missing ((Sampled, t) ∷ us) none = ap (λ rs. row_for (Sampled, t) ∷ rs) (absent_at Wide change missing us none)
-absent_at Sampled change missing ((Wide, t) ∷ us) none = ap (λ rs. row_for (Wide, t) ∷ rs) (absent_at Sampled change missing us none)
-absent_at Sampled change missing ((Sampled, t) ∷ us) none = let bad : ◌≡◌ {A = Bool} true false = none in absurd (cc)
+absent_at i change missing (u ∷ us) none =
+    let both = both_false (same (option_of u) i) (has i us) none in
+    let other : bytes_eq (name_of (option_of u)) (name_of i) ≡ false = names_same (option_of u) i ∙ both.0 in
+    ap (λ b. if b then change (row_for u) ++ map row_for us else row_for u ∷ at_row (name_of i) change missing (map row_for us)) other
+    ∙ ap (λ rs. row_for u ∷ rs) (absent_at i change missing us both.1)
 
-put_last : (i : Which) (change : Row → List Row) (v : Text) (us : List Use) → has i us ≡ false
-    → at_row (name_of i) change (row_for (i, v) ∷ []) (at_row (name_of i) (λ _. []) [] (map row_for us)) ≡ map row_for (us ++ (i, v) ∷ [])
-put_last i change v us none =
-    ap (at_row (name_of i) change (row_for (i, v) ∷ [])) (absent_at i (λ _. []) [] us none ∙ append-nil (map row_for us))
-    ∙ absent_at i change (row_for (i, v) ∷ []) us none ∙ sym (map-append row_for us ((i, v) ∷ []))
+put_last : (u : Use) (change : Row → List Row) (us : List Use) → has (option_of u) us ≡ false
+    → at_row (name_of (option_of u)) change (row_for u ∷ []) (at_row (name_of (option_of u)) (λ _. []) [] (map row_for us)) ≡ map row_for (us ++ u ∷ [])
+put_last u change us none =
+    ap (at_row (name_of (option_of u)) change (row_for u ∷ [])) (absent_at (option_of u) (λ _. []) [] us none ∙ append-nil (map row_for us))
+    ∙ absent_at (option_of u) change (row_for u ∷ []) us none ∙ sym (map-append row_for us (u ∷ []))
 
 -- a new use goes last
-used_is : (i : Which) (v : Text) (us : List Use) → has i us ≡ false → used (rule_for i) (v ∷ []) (map row_for us) ≡ map row_for (us ++ (i, v) ∷ [])
-used_is Wide v us none = put_last Wide (more_values CommandLine (v ∷ [])) v us none
-used_is Sampled v us none = put_last Sampled (more_values CommandLine (v ∷ [])) v us none
+used_is : (i : Valued) (v : Text) (us : List Use) → has (Takes i) us ≡ false
+    → used (rule_for (Takes i)) (v ∷ []) (map row_for us) ≡ map row_for (us ++ Given i v ∷ [])
+used_is Wide v us none = put_last (Given Wide v) (more_values CommandLine (v ∷ [])) us none
+used_is Sampled v us none = put_last (Given Sampled v) (more_values CommandLine (v ∷ [])) us none
 
-abbrev clash : Bool → Kinds
+flag_is : (us : List Use) → has Flag us ≡ false → used (rule_for Flag) [] (map row_for us) ≡ map row_for (us ++ Flagged ∷ [])
+flag_is us none = put_last Flagged (more_values CommandLine (codes "true" ∷ [])) us none
+
+abbrev pub clash : Bool → Kinds
 clash b = cond b (kind.ArgumentConflict ∷ []) []
 
 abbrev pub settle_kinds : List Use → Pend → Kinds
 settle_kinds us Resting = []
 settle_kinds us (Asking i) = kind.InvalidValue ∷ []
-settle_kinds us (Holding i v) = clash (has i us)
+settle_kinds us (Holding i v) = clash (has (Takes i) us)
 
 abbrev pub settle_uses : List Use → Pend → List Use
-settle_uses us (Holding i v) = us ++ (i, v) ∷ []
+settle_uses us (Holding i v) = us ++ Given i v ∷ []
 settle_uses us _ = us
 
 clash_is : (b : Bool) → or_else (if b && true then kind.ArgumentConflict ∷ [] else []) [] ≡ clash b
@@ -72,9 +91,18 @@ pub no_clash : (b : Bool) → clash b ≡ [] → b ≡ false
 no_clash true none = cc
 no_clash false none = refl
 
-use_kinds : (i : Which) (v : Text) (us : List Use) → use_fault false (rule_for i) (v ∷ []) (map row_for us) ≡ clash (has i us)
-use_kinds Wide v us = ap (λ b. or_else (if b && true then kind.ArgumentConflict ∷ [] else []) []) (has_row_is Wide us) ∙ clash_is (has Wide us)
-use_kinds Sampled v us = ap (λ b. or_else (if b && true then kind.ArgumentConflict ∷ [] else []) []) (has_row_is Sampled us) ∙ clash_is (has Sampled us)
+-- a use is refused where the option was used before
+abbrev Clashes : Which → List Text → Type 0
+Clashes i values = (us : List Use) → use_fault false (rule_for i) values (map row_for us) ≡ clash (has i us)
+
+use_kinds : (i : Valued) (v : Text) → Clashes (Takes i) (v ∷ [])
+use_kinds Wide v us =
+    ap (λ b. or_else (if b && true then kind.ArgumentConflict ∷ [] else []) []) (has_row_is (Takes Wide) us) ∙ clash_is (has (Takes Wide) us)
+use_kinds Sampled v us =
+    ap (λ b. or_else (if b && true then kind.ArgumentConflict ∷ [] else []) []) (has_row_is (Takes Sampled) us) ∙ clash_is (has (Takes Sampled) us)
+
+flag_kinds : Clashes Flag []
+flag_kinds us = ap (λ b. or_else (if b && true then kind.ArgumentConflict ∷ [] else []) []) (has_row_is Flag us) ∙ clash_is (has Flag us)
 
 pub settle_is : (us : List Use) (pend : Pend) → settle_fault rules false (held us pend) ≡ settle_kinds us pend
 settle_is us Resting = refl
@@ -89,8 +117,8 @@ rows_only rs = record { rows = rs; pending = None; skip = 0 }
 pub settled_is : (us : List Use) (pend : Pend) → settle_kinds us pend ≡ [] → settled rules (held us pend) ≡ held (settle_uses us pend) Resting
 settled_is us Resting none = refl
 settled_is us (Asking i) none = cc
-settled_is us (Holding Wide v) none = ap rows_only (used_is Wide v us (no_clash (has Wide us) none))
-settled_is us (Holding Sampled v) none = ap rows_only (used_is Sampled v us (no_clash (has Sampled us) none))
+settled_is us (Holding Wide v) none = ap rows_only (used_is Wide v us (no_clash (has (Takes Wide) us) none))
+settled_is us (Holding Sampled v) none = ap rows_only (used_is Sampled v us (no_clash (has (Takes Sampled) us) none))
 
 or_same : (k x y : Kinds) → (k ≡ [] → x ≡ y) → or_else k x ≡ or_else k y
 or_same [] x y e = e refl
@@ -111,55 +139,68 @@ or_second (a ∷ k) x e = cc
 -- ---- a word with two hyphens
 
 abbrev pub which : Text → Option Which
-which name = if bytes_eq (name_of Wide) name then Some Wide else (if bytes_eq (name_of Sampled) name then Some Sampled else None)
+which name =
+    if bytes_eq (name_of (Takes Wide)) name then Some (Takes Wide)
+    else (if bytes_eq (name_of (Takes Sampled)) name then Some (Takes Sampled)
+    else (if bytes_eq (name_of Flag) name then Some Flag else None))
 
 by_long : (name : Text) → arg_by_long rules name ≡ option_map rule_for (which name)
-by_long name = go (bytes_eq (name_of Wide) name) (bytes_eq (name_of Sampled) name)
+by_long name = go (bytes_eq (name_of (Takes Wide)) name) (bytes_eq (name_of (Takes Sampled)) name) (bytes_eq (name_of Flag) name)
   where
-    go : (b c : Bool)
-        → cond (b || false) (Some (rule_for Wide)) (cond (c || false) (Some (rule_for Sampled)) None)
-        ≡ option_map rule_for (if b then Some Wide else (if c then Some Sampled else None))
-    go true c = refl
-    go false true = refl
-    go false false = refl
+    go : (b c d : Bool)
+        → cond (b || false) (Some (rule_for (Takes Wide)))
+        (cond (c || false) (Some (rule_for (Takes Sampled))) (cond (d || false) (Some (rule_for Flag)) None))
+        ≡ option_map rule_for (if b then Some (Takes Wide) else (if c then Some (Takes Sampled) else (if d then Some Flag else None)))
+    go true c d = refl
+    go false true d = refl
+    go false false true = refl
+    go false false false = refl
 
 abbrev pub long_kinds : List Use → Pend → Option Which → Option Text → Kinds
 long_kinds us pend None value = kind.UnknownArgument ∷ []
-long_kinds us pend (Some i) None = settle_kinds us pend
-long_kinds us pend (Some i) (Some v) = or_else (settle_kinds us pend) (clash (has i (settle_uses us pend)))
+long_kinds us pend (Some (Takes i)) None = settle_kinds us pend
+long_kinds us pend (Some (Takes i)) (Some v) = or_else (settle_kinds us pend) (clash (has (Takes i) (settle_uses us pend)))
+long_kinds us pend (Some Flag) None = or_else (settle_kinds us pend) (clash (has Flag (settle_uses us pend)))
+long_kinds us pend (Some Flag) (Some v) = kind.TooManyValues ∷ []
 
 abbrev pub long_uses : List Use → Pend → Option Which → Option Text → List Use
-long_uses us pend (Some i) (Some v) = settle_uses us pend ++ (i, v) ∷ []
+long_uses us pend (Some (Takes i)) (Some v) = settle_uses us pend ++ Given i v ∷ []
+long_uses us pend (Some Flag) None = settle_uses us pend ++ Flagged ∷ []
 long_uses us pend _ _ = settle_uses us pend
 
 abbrev pub long_pend : Option Which → Option Text → Pend
-long_pend (Some i) None = Asking i
+long_pend (Some (Takes i)) None = Asking i
 long_pend _ _ = Resting
 
-uses_after : (i : Which) (v : Text) (us : List Use) (pend : Pend)
-    → or_else (settle_fault rules false (held us pend)) (use_fault false (rule_for i) (v ∷ []) (settled rules (held us pend)).rows)
+uses_after : (i : Which) (values : List Text) → Clashes i values → (us : List Use) (pend : Pend)
+    → or_else (settle_fault rules false (held us pend)) (use_fault false (rule_for i) values (settled rules (held us pend)).rows)
     ≡ or_else (settle_kinds us pend) (clash (has i (settle_uses us pend)))
-uses_after i v us pend =
-    ap (λ k. or_else k (use_fault false (rule_for i) (v ∷ []) (settled rules (held us pend)).rows)) (settle_is us pend)
+uses_after i values clashes us pend =
+    ap (λ k. or_else k (use_fault false (rule_for i) values (settled rules (held us pend)).rows)) (settle_is us pend)
     ∙ or_same (settle_kinds us pend) _ (clash (has i (settle_uses us pend)))
-    (λ none. ap (λ (h : Held). use_fault false (rule_for i) (v ∷ []) h.rows) (settled_is us pend none) ∙ use_kinds i v (settle_uses us pend))
+    (λ none. ap (λ (h : Held). use_fault false (rule_for i) values h.rows) (settled_is us pend none) ∙ clashes (settle_uses us pend))
 
 abbrev long_turn : Option Rule → Option Text → List Use → Pend → Text → Kinds
 long_turn o value us pend word = or_else (long_fault rules false o value (held us pend))
     (step_fault shape 1 (after_flag rules (waiting_for pend) word (long_met rules o value (held us pend)).0 (long_met rules o value (held us pend)).1).0
     (after_flag rules (waiting_for pend) word (long_met rules o value (held us pend)).0 (long_met rules o value (held us pend)).1).1)
 
+use_turn : (i : Which) (values : List Text) → Clashes i values → (us : List Use) (pend : Pend)
+    → or_else (or_else (settle_fault rules false (held us pend)) (use_fault false (rule_for i) values (settled rules (held us pend)).rows)) []
+    ≡ or_else (settle_kinds us pend) (clash (has i (settle_uses us pend)))
+use_turn i values clashes us pend =
+    or_nil (or_else (settle_fault rules false (held us pend)) (use_fault false (rule_for i) values (settled rules (held us pend)).rows))
+    ∙ uses_after i values clashes us pend
+
 long_turn_is : (w : Option Which) (value : Option Text) (us : List Use) (pend : Pend) (word : Text)
     → long_turn (option_map rule_for w) value us pend word ≡ long_kinds us pend w value
 long_turn_is None value us pend word = refl
-long_turn_is (Some Wide) None us pend word = or_nil (settle_fault rules false (held us pend)) ∙ settle_is us pend
-long_turn_is (Some Sampled) None us pend word = or_nil (settle_fault rules false (held us pend)) ∙ settle_is us pend
-long_turn_is (Some Wide) (Some v) us pend word =
-    or_nil (or_else (settle_fault rules false (held us pend)) (use_fault false (rule_for Wide) (v ∷ []) (settled rules (held us pend)).rows))
-    ∙ uses_after Wide v us pend
-long_turn_is (Some Sampled) (Some v) us pend word =
-    or_nil (or_else (settle_fault rules false (held us pend)) (use_fault false (rule_for Sampled) (v ∷ []) (settled rules (held us pend)).rows))
-    ∙ uses_after Sampled v us pend
+long_turn_is (Some (Takes Wide)) None us pend word = or_nil (settle_fault rules false (held us pend)) ∙ settle_is us pend
+long_turn_is (Some (Takes Sampled)) None us pend word = or_nil (settle_fault rules false (held us pend)) ∙ settle_is us pend
+long_turn_is (Some (Takes Wide)) (Some v) us pend word = use_turn (Takes Wide) (v ∷ []) (use_kinds Wide v) us pend
+long_turn_is (Some (Takes Sampled)) (Some v) us pend word = use_turn (Takes Sampled) (v ∷ []) (use_kinds Sampled v) us pend
+long_turn_is (Some Flag) None us pend word = use_turn Flag [] flag_kinds us pend
+long_turn_is (Some Flag) (Some v) us pend word = refl
 
 abbrev long_after : Option Rule → Option Text → List Use → Pend → Text → Walk
 long_after o value us pend word =
@@ -169,21 +210,29 @@ long_after o value us pend word =
 abbrev stand_by : Waiting → Held → Walk
 stand_by waiting h = record { held = h; waiting = waiting; position = 1; is_trailing = false; stopped = None }
 
+-- the use is put last, after what stood open
+use_after : (u : Use) (values : List Text) (us : List Use) (pend : Pend)
+    → ((before : List Use) → has (option_of u) before ≡ false
+      → used (rule_for (option_of u)) values (map row_for before) ≡ map row_for (before ++ u ∷ []))
+    → or_else (settle_kinds us pend) (clash (has (option_of u) (settle_uses us pend))) ≡ []
+    → stand_by idle (rows_only (used (rule_for (option_of u)) values (settled rules (held us pend)).rows))
+    ≡ stands (settle_uses us pend ++ u ∷ []) Resting
+use_after u values us pend last none =
+    ap (λ (h : Held). stand_by idle (rows_only (used (rule_for (option_of u)) values h.rows))) (settled_is us pend (or_first (settle_kinds us pend) _ none))
+    ∙ ap (λ rs. stand_by idle (rows_only rs))
+    (last (settle_uses us pend) (no_clash (has (option_of u) (settle_uses us pend)) (or_second (settle_kinds us pend) _ none)))
+
 long_after_is : (w : Option Which) (value : Option Text) (us : List Use) (pend : Pend) (word : Text) → long_kinds us pend w value ≡ []
     → long_after (option_map rule_for w) value us pend word ≡ stands (long_uses us pend w value) (long_pend w value)
 long_after_is None value us pend word none = cc
-long_after_is (Some Wide) None us pend word none =
-    ap (λ (h : Held). stand_by (option (name_of Wide)) (record h { pending = Some (name_of Wide, []) })) (settled_is us pend none)
-long_after_is (Some Sampled) None us pend word none =
-    ap (λ (h : Held). stand_by (option (name_of Sampled)) (record h { pending = Some (name_of Sampled, []) })) (settled_is us pend none)
-long_after_is (Some Wide) (Some v) us pend word none =
-    ap (λ (h : Held). stand_by idle (rows_only (used (rule_for Wide) (v ∷ []) h.rows))) (settled_is us pend (or_first (settle_kinds us pend) _ none))
-    ∙ ap (λ rs. stand_by idle (rows_only rs))
-    (used_is Wide v (settle_uses us pend) (no_clash (has Wide (settle_uses us pend)) (or_second (settle_kinds us pend) _ none)))
-long_after_is (Some Sampled) (Some v) us pend word none =
-    ap (λ (h : Held). stand_by idle (rows_only (used (rule_for Sampled) (v ∷ []) h.rows))) (settled_is us pend (or_first (settle_kinds us pend) _ none))
-    ∙ ap (λ rs. stand_by idle (rows_only rs))
-    (used_is Sampled v (settle_uses us pend) (no_clash (has Sampled (settle_uses us pend)) (or_second (settle_kinds us pend) _ none)))
+long_after_is (Some (Takes Wide)) None us pend word none =
+    ap (λ (h : Held). stand_by (option (name_of (Takes Wide))) (record h { pending = Some (name_of (Takes Wide), []) })) (settled_is us pend none)
+long_after_is (Some (Takes Sampled)) None us pend word none =
+    ap (λ (h : Held). stand_by (option (name_of (Takes Sampled))) (record h { pending = Some (name_of (Takes Sampled), []) })) (settled_is us pend none)
+long_after_is (Some (Takes Wide)) (Some v) us pend word none = use_after (Given Wide v) (v ∷ []) us pend (used_is Wide v) none
+long_after_is (Some (Takes Sampled)) (Some v) us pend word none = use_after (Given Sampled v) (v ∷ []) us pend (used_is Sampled v) none
+long_after_is (Some Flag) None us pend word none = use_after Flagged [] us pend flag_is none
+long_after_is (Some Flag) (Some v) us pend word none = let bad : kind.TooManyValues ∷ [] ≡ [] = none in absurd (cc)
 
 -- ---- another word
 
@@ -197,7 +246,7 @@ plain_after us pend word =
 
 -- the word is the text of the option that waits
 abbrev pub IsText : List Use → Pend → Text → Walk → Type 0
-IsText us pend word after = (i : Which) × (pend ≡ Asking i) × (after ≡ stands us (Holding i word))
+IsText us pend word after = (i : Valued) × (pend ≡ Asking i) × (after ≡ stands us (Holding i word))
 
 plain_back : (us : List Use) (pend : Pend) (word : Text) → plain_kinds us pend word ≡ [] → IsText us pend word (plain_after us pend word)
 unfolding plain_kinds
@@ -206,7 +255,7 @@ plain_back us (Holding i v) word none = cc
 plain_back us (Asking Wide) word none = (Wide, refl, refl)
 plain_back us (Asking Sampled) word none = (Sampled, refl, refl)
 
-plain_on : (i : Which) (us : List Use) (word : Text) → (plain_kinds us (Asking i) word ≡ []) × (plain_after us (Asking i) word ≡ stands us (Holding i word))
+plain_on : (i : Valued) (us : List Use) (word : Text) → (plain_kinds us (Asking i) word ≡ []) × (plain_after us (Asking i) word ≡ stands us (Holding i word))
 unfolding plain_kinds
 plain_on Wide us word = (refl, refl)
 plain_on Sampled us word = (refl, refl)
@@ -271,7 +320,7 @@ after_is us (Holding i v) word = refl
 pub data Turns (us : List Use) (pend : Pend) (word : Text) (after : Walk) : Type 0 where
   Names : (i : Which) (value : Option Text) (name : Text) → long_of word ≡ Some (name, value) → which name ≡ Some i → long_kinds us pend (Some i) value ≡ []
       → after ≡ stands (long_uses us pend (Some i) value) (long_pend (Some i) value) → Turns us pend word after
-  Texts : (i : Which) → pend ≡ Asking i → after ≡ stands us (Holding i word) → Turns us pend word after
+  Texts : (i : Valued) → pend ≡ Asking i → after ≡ stands us (Holding i word) → Turns us pend word after
 
 module _ (us : List Use) (pend : Pend) (word : Text) where
   long_back : (name : Text) (value : Option Text) (w : Option Which) → which name ≡ w → long_of word ≡ Some (name, value)
@@ -311,7 +360,7 @@ module _ (us : List Use) (pend : Pend) (word : Text) where
       )
 
 -- the text of an option
-pub text_on : (us : List Use) (i : Which) (word : Text) → bytes_eq word (codes "--") ≡ false → long_of word ≡ None → short_of word ≡ None
+pub text_on : (us : List Use) (i : Valued) (word : Text) → bytes_eq word (codes "--") ≡ false → long_of word ≡ None → short_of word ≡ None
     → (turn_fault shape [] (stands us (Asking i)) word ≡ []) × (walked rules [] (stands us (Asking i)) word ≡ stands us (Holding i word))
 unfolding plain_kinds
 text_on us i word other long short = (

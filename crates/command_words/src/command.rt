@@ -1,8 +1,8 @@
 //! What `clap` makes of the words.
-ghost use Rattle.std.specs.Prelude.{◌≡◌, codes, map, IfOk, MatchOption, string_bytes};
+ghost use Rattle.std.specs.Prelude.{◌≡◌, Some, false, codes, map, IfOk, MatchOption, string_bytes};
 ghost use Rattle.std.specs.List.{list_any};
 ghost use Rattle.std.specs.Str.{bytes_eq};
-ghost use Rattle.clap.specs.Words.{app_of, found_of};
+ghost use Rattle.clap.specs.Words.{app_of, found_of, new_rule, rule_of};
 ghost use Rattle.command_words.specs.Command.{macek_app, AreRefused, AreMatched};
 
 use clap::error::ErrorKind;
@@ -40,20 +40,23 @@ pub fn parsed<'a>(alloc: Global, words: &'a [String]) -> Result<Option<ArgMatche
     }
 }
 
-// The command, whose two options take one text each.
+// An option of this long name.
+fn option<'a>(alloc: Global, name: &'a str, action: ArgAction) -> Arg<'a>
+    ensures rule { rule_of result ≡ record (new_rule name.entry.now) { long = Some name.entry.now; action = Some action } }
+    ensures local { result.global ≡ false }
+{
+    Arg::new(alloc, name).long(name).action(action)
+}
+
+// The command of both programs: two options that take one text each, and a flag.
 fn command<'a>(alloc: Global) -> Result<Command<'a>, AllocError>
     ensures { IfOk result (λ c. app_of c ≡ macek_app) }
 {
-    let workers = Arg::new(alloc, "workers")
-        .long("workers")
-        .action(ArgAction::Set);
-    let sample = Arg::new(alloc, "sample")
-        .long("sample")
-        .action(ArgAction::Set);
     Command::new(alloc, "macek")
         .no_binary_name(true)
         .disable_help_flag(true)
         .disable_version_flag(true)
-        .arg(workers)?
-        .arg(sample)
+        .arg(option(alloc, "workers", ArgAction::Set))?
+        .arg(option(alloc, "sample", ArgAction::Set))?
+        .arg(option(alloc, "orderly", ArgAction::SetTrue))
 }

@@ -6,4 +6,4 @@ pub mod laws;
 mod number;
 mod read;
 
-pub use read::{Asked, read_alone, read_words};
+pub use read::{Asked, AskedAlone, read_alone, read_words};

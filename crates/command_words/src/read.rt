@@ -1,7 +1,7 @@
 //! The words of a command line, and what they ask for.
-ghost use Rattle.std.specs.Prelude.{◌≤◌, List, IfOk, IfSome, MatchOption, None, map, string_bytes};
+ghost use Rattle.std.specs.Prelude.{◌≤◌, List, IfOk, IfSome, MatchOption, None, false, map, string_bytes};
 ghost use Rattle.formats.specs.Words.{Piece, IsCommand, StandsAtMacek, StandsAtAlone};
-ghost use Rattle.command_words.specs.Asking.{IsAsked};
+ghost use Rattle.command_words.specs.Asking.{IsAsked, StandsAtEither};
 
 use crate::command::{has_dashes, parsed};
 use crate::number::number_if;
@@ -16,12 +16,70 @@ pub struct Asked {
     pub sample: Option<u32>,
 }
 
+/// What the words of `macek_alone` ask for.
+#[derive(Clone, Copy, Debug, PartialEq, Eq)]
+pub struct AskedAlone {
+    /// The number of the sample, at most 15, where one is named.
+    pub sample: Option<u32>,
+    /// Whether the levels are to be grown in the orderly way.
+    pub orderly: bool,
+}
+
+/// What the words ask for that one of the programs may take.
+#[derive(Clone, Copy)]
+struct AskedOfEither {
+    workers: Option<u32>,
+    sample: Option<u32>,
+    orderly: bool,
+}
+
 /// What the words of `macek`, without the program's name, ask for: `--workers N` and `--sample K`, each at most once, in any
 /// order. None where the words are anything else.
 pub fn read_words(alloc: Global, words: &[String]) -> Result<Option<Asked>, AllocError>
     ensures reads { IfOk result (λ o. MatchOption o
         ((pieces : List Piece) → IsCommand StandsAtMacek (map (λ s. string_bytes s) words.now) pieces → ⊥)
-        (λ asked. IsAsked StandsAtMacek (map (λ s. string_bytes s) words.now) asked.workers asked.sample)) }
+        (λ asked. IsAsked StandsAtMacek (map (λ s. string_bytes s) words.now) asked.workers asked.sample false)) }
+    ensures ranges { IfOk result (λ o. IfSome o
+        (λ asked. IfSome asked.workers (λ n. (1 ≤ n) × (n ≤ 64)) × IfSome asked.sample (λ k. k ≤ 15))) }
+{
+    let Some(asked) = read_either(alloc, words)? else {
+        return Ok(None);
+    };
+    if asked.orderly {
+        return Ok(None);
+    }
+    Ok(Some(Asked {
+        workers: asked.workers,
+        sample: asked.sample,
+    }))
+}
+
+/// What the words of `macek_alone`, without the program's name, ask for: `--sample K` and `--orderly`, each at most once, in
+/// any order. None where the words are anything else.
+pub fn read_alone(alloc: Global, words: &[String]) -> Result<Option<AskedAlone>, AllocError>
+    ensures reads { IfOk result (λ o. MatchOption o
+        ((pieces : List Piece) → IsCommand StandsAtAlone (map (λ s. string_bytes s) words.now) pieces → ⊥)
+        (λ asked. IsAsked StandsAtAlone (map (λ s. string_bytes s) words.now) None asked.sample asked.orderly)) }
+    ensures range { IfOk result (λ o. IfSome o (λ asked. IfSome asked.sample (λ k. k ≤ 15))) }
+{
+    let Some(asked) = read_either(alloc, words)? else {
+        return Ok(None);
+    };
+    match asked.workers {
+        Some(_) => Ok(None),
+        None => Ok(Some(AskedAlone {
+            sample: asked.sample,
+            orderly: asked.orderly,
+        })),
+    }
+}
+
+/// What the words ask for, where each of them is one that one of the programs takes: the words of both programs are among
+/// these. None where they are anything else.
+fn read_either(alloc: Global, words: &[String]) -> Result<Option<AskedOfEither>, AllocError>
+    ensures reads { IfOk result (λ o. MatchOption o
+        ((pieces : List Piece) → IsCommand StandsAtEither (map (λ s. string_bytes s) words.now) pieces → ⊥)
+        (λ asked. IsAsked StandsAtEither (map (λ s. string_bytes s) words.now) asked.workers asked.sample asked.orderly)) }
     ensures ranges { IfOk result (λ o. IfSome o
         (λ asked. IfSome asked.workers (λ n. (1 ≤ n) × (n ≤ 64)) × IfSome asked.sample (λ k. k ≤ 15))) }
 {
@@ -37,22 +95,9 @@ pub fn read_words(alloc: Global, words: &[String]) -> Result<Option<Asked>, Allo
     let Some(sample) = number_if(matches.get_str("sample"), 0, 15) else {
         return Ok(None);
     };
-    Ok(Some(Asked { workers, sample }))
-}
-
-/// The sample that the words of `macek_alone`, without the program's name, ask for: these are the words of `macek` that name
-/// no workers. None where the words are anything else.
-pub fn read_alone(alloc: Global, words: &[String]) -> Result<Option<Option<u32>>, AllocError>
-    ensures reads { IfOk result (λ o. MatchOption o
-        ((pieces : List Piece) → IsCommand StandsAtAlone (map (λ s. string_bytes s) words.now) pieces → ⊥)
-        (λ sample. IsAsked StandsAtAlone (map (λ s. string_bytes s) words.now) None sample)) }
-    ensures range { IfOk result (λ o. IfSome o (λ sample. IfSome sample (λ k. k ≤ 15))) }
-{
-    let Some(asked) = read_words(alloc, words)? else {
-        return Ok(None);
-    };
-    match asked.workers {
-        Some(_) => Ok(None),
-        None => Ok(Some(asked.sample)),
-    }
+    Ok(Some(AskedOfEither {
+        workers,
+        sample,
+        orderly: matches.get_flag("orderly"),
+    }))
 }

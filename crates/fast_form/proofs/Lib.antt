@@ -4,6 +4,7 @@ pub mod Decoded
 pub mod GroupSteps
 pub mod Marks
 pub mod Moves
+pub mod OwnForms
 pub mod Owned
 pub mod Powers
 pub mod Shapes

@@ -1,4 +1,5 @@
 pub mod Codes
 pub mod Groups
+pub mod NotAbove
 pub mod States
 pub mod Steps

@@ -12,11 +12,12 @@ mod linear;
 mod lists;
 mod modes;
 mod numbers;
+mod own;
 mod search;
 mod start;
 mod states;
 mod steps;
 mod weights;
 
-pub use linear::is_form_fast;
 pub use modes::least_form_fast;
+pub use own::is_form_fast;

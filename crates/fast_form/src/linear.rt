@@ -1,5 +1,5 @@
-// Forms of representations that need not be standard, and which representations are forms.
-ghost use Rattle.std.specs.Prelude.{◌≡◌, ◌<◌, ◌↔◌, IsTrue, true};
+// Forms of representations that need not be standard, and which representations are forms, by linear moves.
+ghost use Rattle.std.specs.Prelude.{◌≡◌, ◌<◌, ◌↔◌, true};
 ghost use Rattle.std.specs.declared.cmp.Ordering.TheVariants.{Equal};
 ghost use Rattle.matroid_theory.specs.declared.Mode.TheVariants.{Linear as linear};
 ghost use Rattle.matroid_theory.specs.Rep.{IsStandard};
@@ -28,16 +28,8 @@ pub fn least_linear(rep: &Rep) -> Rep
     }
 }
 
-/// Whether a representation whose factors agree is the form of its class by linear moves.
-pub fn is_form_fast(rep: &Rep) -> bool
-    requires { Agrees rep.now }
-    ensures { IsTrue result ↔ IsForm linear rep.now }
-{
-    is_standard(rep) && is_least(rep)
-}
-
-/// Whether a standard representation whose factors agree is the form of its class.
-fn is_least(rep: &Rep) -> bool
+/// Whether a standard representation whose factors agree is the form of its class by linear moves.
+pub fn is_least(rep: &Rep) -> bool
     requires agrees { Agrees rep.now }
     requires standard { IsStandard rep.now }
     ensures { (result ≡ true) ↔ IsForm linear rep.now }
@@ -65,7 +57,7 @@ fn is_equal(order: Ordering) -> bool
 }
 
 /// Whether the representation is standard: it begins with the unit columns.
-fn is_standard(rep: &Rep) -> bool
+pub fn is_standard(rep: &Rep) -> bool
     ensures { (result ≡ true) ↔ IsStandard rep.now }
 {
     rep.laws();

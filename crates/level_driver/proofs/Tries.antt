@@ -37,7 +37,7 @@ module _ (mode : Mode) (Ns : List Matroid) (parents : List Rep) (P : Rep) (new_o
   of_last : Rep × List ℕ → Type 0
   of_last try = (v : List ℕ) × IsCandidate Ns P v × ((P, v) ≡ try)
 
-  two_kinds : (try : Rep × List ℕ) → IsExtension Ns (parents ++ P ∷ []) try ↔ (IsExtension Ns parents try ⊎ ((v : List ℕ) × IsCandidate Ns P v × ((P, v) ≡ try)))
+  pub two_kinds : (try : Rep × List ℕ) → IsExtension Ns (parents ++ P ∷ []) try ↔ (IsExtension Ns parents try ⊎ ((v : List ℕ) × IsCandidate Ns P v × ((P, v) ≡ try)))
   two_kinds try = (there, back)
     where
       there : IsExtension Ns (parents ++ P ∷ []) try → IsExtension Ns parents try ⊎ ((v : List ℕ) × IsCandidate Ns P v × ((P, v) ≡ try))

@@ -8,7 +8,7 @@ use named_matroids::MinorItem;
 use product_rep::Rep;
 
 /// Whether the representation has none of the matroids as a minor.
-pub(crate) fn avoids(rep: &Rep, forbidden: &[MinorItem]) -> bool
+pub fn avoids(rep: &Rep, forbidden: &[MinorItem]) -> bool
     requires { Agrees rep.now }
     ensures { IsTrue result ↔ Avoids (matroids_of forbidden.now) rep.now }
 {

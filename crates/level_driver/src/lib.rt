@@ -14,6 +14,7 @@ mod level;
 mod shown;
 
 pub use filter::passes;
+pub use forbidden::avoids;
 pub use form_list::FormList;
 pub use growth::{child, grow_alone};
 pub use level::{Level, first_level};

@@ -7,9 +7,10 @@ ghost use Rattle.formats.specs.Run.{Gains};
 ghost use Rattle.macek_run.specs.Steps.{IsLess};
 
 use crate::Report;
+use crate::growth::{Growth, grow};
 use crate::write::{Stop, write_level};
 use formats::Status;
-use level_driver::{first_level, grow_alone};
+use level_driver::first_level;
 use lister::{end_text, head_text};
 use outside::{Sink, put};
 use request_reader::Request;
@@ -22,9 +23,14 @@ struct Cut {
     whole: u64,
 }
 
-/// Grows the levels of a request one from the other and writes each as soon as it is grown: all of the listing but its end
+/// Grows the levels of a request one from the other, in one of the ways, and writes each as soon as it is grown: all of the listing but its end
 /// line.
-fn write_levels<K: Sink>(alloc: Global, request: &Request, sink: &mut K) -> Result<(), Cut>
+fn write_levels<K: Sink>(
+    alloc: Global,
+    request: &Request,
+    growth: Growth,
+    sink: &mut K,
+) -> Result<(), Cut>
     ensures ok { OnOk result (Gains (K.held sink.old) (K.held sink.new) (λ written. IsListing request.now (written ++ the_end))) }
     ensures kept { OnOk result (K.faults sink.new ≡ K.faults sink.old) }
     ensures err { IfErr result (λ cut. Gains (K.held sink.old) (K.held sink.new) (IsLess cut.why request.now cut.whole)) }
@@ -45,7 +51,7 @@ fn write_levels<K: Sink>(alloc: Global, request: &Request, sink: &mut K) -> Resu
     }
     for size in rank..request.size() {
         let whole = u64::from(size - rank) + 1;
-        let Ok(next) = grow_alone(alloc, request, &level.forms) else {
+        let Ok(next) = grow(alloc, growth, request, &level.forms) else {
             return Err(Cut {
                 why: no_memory,
                 whole,
@@ -59,8 +65,13 @@ fn write_levels<K: Sink>(alloc: Global, request: &Request, sink: &mut K) -> Resu
     Ok(())
 }
 
-/// Writes the listing of a request, and says how that ended.
-pub fn write_listing<K: Sink>(alloc: Global, request: &Request, sink: &mut K) -> Report
+/// Writes the listing of a request, whose levels are grown in one of the ways, and says how that ended.
+pub fn write_listing<K: Sink>(
+    alloc: Global,
+    request: &Request,
+    growth: Growth,
+    sink: &mut K,
+) -> Report
     ensures done { result.status ≡ Status.Done →
         Gains (K.held sink.old) (K.held sink.new) (IsListing request.now)
         × (result.levels ≡ level_count request.now) × (K.faults sink.new ≡ K.faults sink.old) }
@@ -72,7 +83,7 @@ pub fn write_listing<K: Sink>(alloc: Global, request: &Request, sink: &mut K) ->
     ensures only { (result.status ≡ Status.Done) ⊎ (result.status ≡ Status.WriteFault) ⊎ (result.status ≡ Status.NoMemory) }
 {
     request.laws();
-    let (status, levels) = match write_levels(alloc, request, sink) {
+    let (status, levels) = match write_levels(alloc, request, growth, sink) {
         Ok(()) => {
             let levels = u64::from(request.size() - request.rank()) + 1;
             match put(sink, end_text().as_slice()) {

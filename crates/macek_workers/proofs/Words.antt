@@ -1,5 +1,5 @@
 -- From the words that were read to what they ask for.
-use Rattle.std.proofs.Common.{◌≡◌, ◌≢◌, ◌∙◌, ℕ, List, [], ◌∷◌, Option, None, Some, refl, ap, subst}
+use Rattle.std.proofs.Common.{◌≡◌, ◌≢◌, ◌∙◌, ℕ, false, List, [], ◌∷◌, Option, None, Some, refl, ap, subst}
 use Rattle.std.specs.Prelude.{filter_map, option_to_list, MatchOption}
 use Rattle.formats.specs.declared.refusal.Refusal.{Refusal}
 use Rattle.formats.specs.Request.{Request, StandsFor}
@@ -13,51 +13,53 @@ use Rattle.macek_run.specs.Run.{AreAccepted, NameSample, Lists, LeavesRefused, L
 
 -- what was read of the words
 pub asked_from : (words : List (List ℕ)) (o : Option Asked) (asked : Asked) (sample : Option ℕ)
-    → MatchOption o ((pieces : List Piece) → IsCommand StandsAtMacek words pieces → ⊥) (λ a. IsAsked StandsAtMacek words a.workers a.sample)
-    → o ≡ Some asked → asked.sample ≡ sample → IsAsked StandsAtMacek words asked.workers sample
+    → MatchOption o ((pieces : List Piece) → IsCommand StandsAtMacek words pieces → ⊥) (λ a. IsAsked StandsAtMacek words a.workers a.sample false)
+    → o ≡ Some asked → asked.sample ≡ sample → IsAsked StandsAtMacek words asked.workers sample false
 asked_from words None asked sample reads is at = cc (is)
 asked_from words (Some a) asked sample reads is at =
     let e : a ≡ asked = cc (is) in
-    subst (λ (s : Option ℕ). IsAsked StandsAtMacek words asked.workers s) at
-    (subst (λ (b : Asked). IsAsked StandsAtMacek words b.workers b.sample) e reads)
+    subst (λ (s : Option ℕ). IsAsked StandsAtMacek words asked.workers s false) at
+    (subst (λ (b : Asked). IsAsked StandsAtMacek words b.workers b.sample false) e reads)
 
 module _ (words : List (List ℕ)) (left : Option (List ℕ)) (workers : Option ℕ) where
   -- what is asked for without a sample is what is left
-  pub none_lists : (before after : Option (List ℕ)) (Part : Request → List ℕ → Type 0) → IsAsked StandsAtMacek words workers None
+  pub none_lists : (before after : Option (List ℕ)) (Part : Request → List ℕ → Type 0) → IsAsked StandsAtMacek words workers None false
       → ListsLeft left before after Part → Lists StandsAtMacek words left before after Part
   none_lists before after Part asked l = record {
     request = l.request;
-    asks = record { text = l.text; asked = asks_text words workers None asked left l.text l.is_left; stands = l.stands };
+    asks = record { text = l.text; asked = asks_text words workers None false asked left l.text l.is_left; stands = l.stands };
     gains = l.gains;
   }
 
-  pub none_refused : (why : Refusal) → IsAsked StandsAtMacek words workers None → LeavesRefused left why → AsksForRefused StandsAtMacek words left why
+  pub none_refused : (why : Refusal) → IsAsked StandsAtMacek words workers None false → LeavesRefused left why
+      → AsksForRefused StandsAtMacek words left why
   none_refused why asked l = record {
     text = l.text;
-    asked = asks_text words workers None asked left l.text l.is_left;
+    asked = asks_text words workers None false asked left l.text l.is_left;
     refused = l.refused;
   }
 
   -- and with a sample its text
-  pub sample_lists : (k : ℕ) (q : Request) (before after : Option (List ℕ)) (Part : Request → List ℕ → Type 0) → IsAsked StandsAtMacek words workers (Some k)
-      → StandsFor (sample_text k) q → Gains before after (Part q) → Lists StandsAtMacek words left before after Part
+  pub sample_lists : (k : ℕ) (q : Request) (before after : Option (List ℕ)) (Part : Request → List ℕ → Type 0)
+      → IsAsked StandsAtMacek words workers (Some k) false → StandsFor (sample_text k) q → Gains before after (Part q)
+      → Lists StandsAtMacek words left before after Part
   sample_lists k q before after Part asked stands gains = record {
     request = q;
-    asks = record { text = sample_text k; asked = asks_text words workers (Some k) asked left (sample_text k) refl; stands = stands };
+    asks = record { text = sample_text k; asked = asks_text words workers (Some k) false asked left (sample_text k) refl; stands = stands };
     gains = gains;
   }
 
-  pub asked_accepted : (sample : Option ℕ) → IsAsked StandsAtMacek words workers sample → AreAccepted StandsAtMacek words
+  pub asked_accepted : (sample : Option ℕ) → IsAsked StandsAtMacek words workers sample false → AreAccepted StandsAtMacek words
   asked_accepted sample asked = (asked.pieces, asked.command)
 
   some_sample : (l : List ℕ) (k : ℕ) → l ≡ k ∷ [] → l ≢ []
   some_sample l k is none = cc (is, none)
 
-  pub names_sample : (k : ℕ) → IsAsked StandsAtMacek words workers (Some k) → NameSample StandsAtMacek words
+  pub names_sample : (k : ℕ) → IsAsked StandsAtMacek words workers (Some k) false → NameSample StandsAtMacek words
   names_sample k asked = record { pieces = asked.pieces; command = asked.command; named = some_sample _ k asked.sample_is }
 
   -- words without a sample name none
-  pub no_sample : IsAsked StandsAtMacek words workers None → NameSample StandsAtMacek words → ⊥
+  pub no_sample : IsAsked StandsAtMacek words workers None false → NameSample StandsAtMacek words → ⊥
   no_sample asked named =
       named.named (ap (filter_map sample_in) (one_reading words named.pieces asked.pieces named.command asked.command) ∙ asked.sample_is)
 

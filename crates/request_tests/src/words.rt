@@ -1,6 +1,6 @@
 // The words of the command line.
 use command_words::laws::{alone_names_no_workers, one_reading};
-use command_words::{Asked, read_alone, read_words};
+use command_words::{Asked, AskedAlone, read_alone, read_words};
 use std::alloc::{AllocError, Global};
 use std::test::Fail;
 
@@ -69,6 +69,8 @@ fn words_that_macek_refuses(rt: HostRuntime) -> Result<(), Fail> {
         &[""],
         &["-"],
         &["--orderly"],
+        &["--workers", "2", "--orderly"],
+        &["--orderly=1"],
     ];
     for words in table {
         let owned = owned(rt.alloc(), words)?;
@@ -78,21 +80,50 @@ fn words_that_macek_refuses(rt: HostRuntime) -> Result<(), Fail> {
 }
 
 #[test]
-fn words_of_macek_alone(rt: HostRuntime) -> Result<(), Fail> {
+fn words_that_macek_alone_accepts(rt: HostRuntime) -> Result<(), Fail> {
     alone_names_no_workers();
     let table = [
-        (&[][..], Some(None)),
-        (&["--sample", "4"], Some(Some(4))),
-        (&["--sample=15"], Some(Some(15))),
-        (&["--sample=16"], None),
-        (&["--workers", "2"], None),
-        (&["--sample=4", "--workers=2"], None),
-        (&["--orderly", "--orderly"], None),
-        (&["--"], None),
+        (&[][..], None, false),
+        (&["--sample", "4"], Some(4), false),
+        (&["--sample=15"], Some(15), false),
+        (&["--orderly"], None, true),
+        (&["--orderly", "--sample", "4"], Some(4), true),
+        (&["--sample=4", "--orderly"], Some(4), true),
     ];
-    for (words, sample) in table {
+    for (words, sample, orderly) in table {
         let owned = owned(rt.alloc(), words)?;
-        assert_eq!(rt; read_alone(rt.alloc(), &owned)?, sample, "at {words:?}");
+        assert_eq!(rt;
+            read_alone(rt.alloc(), &owned)?,
+            Some(AskedAlone { sample, orderly }),
+            "at {words:?}"
+        );
+    }
+    Ok(())
+}
+
+#[test]
+fn words_that_macek_alone_refuses(rt: HostRuntime) -> Result<(), Fail> {
+    let table = [
+        &["--sample=16"][..],
+        &["--workers", "2"],
+        &["--sample=4", "--workers=2"],
+        &["--orderly", "--workers=2"],
+        &["--orderly", "--orderly"],
+        &["--orderly", "--sample=4", "--orderly"],
+        &["--orderly=1"],
+        &["--orderly="],
+        &["--orderly", "x"],
+        &["--orderly", ""],
+        &["--order"],
+        &["-orderly"],
+        &["-o"],
+        &["--sample", "--orderly"],
+        &["--orderly", "--"],
+        &["--"],
+    ];
+    for words in table {
+        let owned = owned(rt.alloc(), words)?;
+        assert_eq!(rt; read_alone(rt.alloc(), &owned)?, None, "at {words:?}");
     }
     Ok(())
 }

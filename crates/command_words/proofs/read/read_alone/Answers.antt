@@ -1,27 +1,18 @@
 use Rattle.std.proofs.Common.{map, string_bytes, subst}
-use Rattle.formats.specs.Words.{StandsAtMacek}
-use Rattle.command_words.specs.Asking.{IsAsked}
-use Rattle.command_words.proofs.Pieces.{from_alone}
+use Rattle.command_words.specs.Asking.{IsAsked, StandsAtEither}
 use Rattle.command_words.proofs.Readings.{alone_refused, asked_alone}
 use Rattle.command_words.proofs.read.read_alone.Goals as goal
-
-pub returns-in_default-clause-reads : goal.returns-in_default-clause-reads
-returns-in_default-clause-reads c = λ pieces command.
-    let none = rw c.in_default.is at c.in_ok-asked.ensures.reads in
-    none pieces (from_alone (map (λ s. string_bytes s) c.args.words.now) pieces command).0
 
 pub returns-in-Some-workers-clause-reads : goal.returns-in-Some-workers-clause-reads
 returns-in-Some-workers-clause-reads c =
     let asked = rw c.in-Some.is at c.in_ok-asked.ensures.reads in
     let words = map (λ s. string_bytes s) c.args.words.now in
-    alone_refused words c.in-Some-workers.field-0 c.in-Some.asked.sample
-    (subst (λ o. IsAsked StandsAtMacek words o c.in-Some.asked.sample) c.in-Some-workers.is asked)
+    alone_refused words c.in-Some-workers.field-0 c.in-Some.asked.sample c.in-Some.asked.orderly
+    (subst (λ o. IsAsked StandsAtEither words o c.in-Some.asked.sample c.in-Some.asked.orderly) c.in-Some-workers.is asked)
 
 pub returns-in-None-clause-reads : goal.returns-in-None-clause-reads
 returns-in-None-clause-reads c =
     let asked = rw c.in-Some.is at c.in_ok-asked.ensures.reads in
     let words = map (λ s. string_bytes s) c.args.words.now in
-    asked_alone words c.in-Some.asked.sample (subst (λ o. IsAsked StandsAtMacek words o c.in-Some.asked.sample) c.in-None.is asked)
-
-pub returns-in-None-clause-range : goal.returns-in-None-clause-range
-returns-in-None-clause-range c = (rw c.in-Some.is at c.in_ok-asked.ensures.ranges).1
+    asked_alone words c.in-Some.asked.sample c.in-Some.asked.orderly
+    (subst (λ o. IsAsked StandsAtEither words o c.in-Some.asked.sample c.in-Some.asked.orderly) c.in-None.is asked)

@@ -22,7 +22,7 @@ loop-size-init g c = record {
 
 pub write_level-requires-in-loop-size-clause-forms :
     goal.write_level-requires-in-loop-size-clause-forms
-write_level-requires-in-loop-size-clause-forms g c = c.in-Ok-grow_alone.ensures.forms c.loop-size.size (record { at_least = omega arith; before = omega arith; level = c.loop-size.invariant.level })
+write_level-requires-in-loop-size-clause-forms g c = c.in-Ok-grow.ensures.forms c.loop-size.size (record { at_least = omega arith; before = omega arith; level = c.loop-size.invariant.level })
 
 pub returns-in-Err-write_level-clause-err : goal.returns-in-Err-write_level-clause-err
 returns-in-Err-write_level-clause-err g c =
@@ -33,7 +33,7 @@ returns-in-Err-write_level-clause-err g c =
 pub loop-size-preserved : goal.loop-size-preserved
 loop-size-preserved g c = record {
   begun = next_begun c.args.request.now c.loop-size.size (g.K.Sink.held c.args.sink.now) (g.K.Sink.held c.loop-size.sink) c.loop-size.invariant.begun (omega arith) (omega arith) (g.K.Sink.held c.write_level-in-loop-size.new.sink) c.in_default-write_level-2.ensures.ok;
-  level = c.in-Ok-grow_alone.ensures.forms c.loop-size.size (record { at_least = omega arith; before = omega arith; level = c.loop-size.invariant.level });
+  level = c.in-Ok-grow.ensures.forms c.loop-size.size (record { at_least = omega arith; before = omega arith; level = c.loop-size.invariant.level });
   kept = c.in_default-write_level-2.ensures.kept ∙ c.loop-size.invariant.kept;
 }
 

@@ -1,4 +1,4 @@
-use Rattle.std.proofs.Common.{◌≡◌, ◌∙◌, ℕ, List, Option, None, Some, refl, sym, subst, inr, inl}
+use Rattle.std.proofs.Common.{◌≡◌, ◌∙◌, ℕ, false, List, Option, None, Some, refl, sym, subst, inr, inl}
 use Rattle.formats.specs.Refusal.{HasRefusal}
 use Rattle.formats.specs.Words.{StandsAtMacek, sample_text}
 use Rattle.formats.proofs.Unique.{not_both}
@@ -13,9 +13,9 @@ pub returns-in-Some-clause-complete_refused : goal.returns-in-Some-clause-comple
 returns-in-Some-clause-complete_refused g c = λ text why asks wrong source.
     let words = texts_of c.args.words.now in
     let sample_is : c.in-Ok-Some.asked.sample ≡ Some c.in-Some.number = rw c.in-Ok-Some.field-0-is at c.in-Some.is in
-    let asked : IsAsked StandsAtMacek words c.in-Ok-Some.asked.workers (Some c.in-Some.number) =
+    let asked : IsAsked StandsAtMacek words c.in-Ok-Some.asked.workers (Some c.in-Some.number) false =
     asked_from words _ _ _ c.in-Ok-Some.ensures.reads c.in-Ok-Some.field-0-is sample_is in
-    let same : text ≡ sample_text c.in-Some.number = known_text words c.in-Ok-Some.asked.workers (Some c.in-Some.number) asked _ text asks in
+    let same : text ≡ sample_text c.in-Some.number = known_text words c.in-Ok-Some.asked.workers (Some c.in-Some.number) false asked _ text asks in
     absurd (not_both (sample_text c.in-Some.number) c.sample_request-request.result why c.sample_request-request.ensures
     (subst (λ (t : List ℕ). HasRefusal t why) same wrong))
 
@@ -23,7 +23,7 @@ pub returns-in-None-clause-sample : goal.returns-in-None-clause-sample
 returns-in-None-clause-sample g c = λ named.
     let words = texts_of c.args.words.now in
     let sample_is : c.in-Ok-Some.asked.sample ≡ None = rw c.in-Ok-Some.field-0-is at c.in-None.is in
-    let asked : IsAsked StandsAtMacek words c.in-Ok-Some.asked.workers None =
+    let asked : IsAsked StandsAtMacek words c.in-Ok-Some.asked.workers None false =
     asked_from words _ _ _ c.in-Ok-Some.ensures.reads c.in-Ok-Some.field-0-is sample_is in
     absurd (no_sample words (g.S.Source.left c.args.source.now) c.in-Ok-Some.asked.workers asked named)
 
@@ -31,7 +31,7 @@ pub returns-in-None-clause-refused : goal.returns-in-None-clause-refused
 returns-in-None-clause-refused g c = λ why is.
     let words = texts_of c.args.words.now in
     let sample_is : c.in-Ok-Some.asked.sample ≡ None = rw c.in-Ok-Some.field-0-is at c.in-None.is in
-    let asked : IsAsked StandsAtMacek words c.in-Ok-Some.asked.workers None =
+    let asked : IsAsked StandsAtMacek words c.in-Ok-Some.asked.workers None false =
     asked_from words _ _ _ c.in-Ok-Some.ensures.reads c.in-Ok-Some.field-0-is sample_is in
     let (leaves, faults, sink, store, levels) = c.list_source.ensures.refused why is in
     (none_refused words _ c.in-Ok-Some.asked.workers why asked leaves, faults, sink, store, levels)
@@ -40,14 +40,14 @@ pub returns-in-None-clause-complete : goal.returns-in-None-clause-complete
 returns-in-None-clause-complete g c = λ text q asks stands source sink.
     let words = texts_of c.args.words.now in
     let sample_is : c.in-Ok-Some.asked.sample ≡ None = rw c.in-Ok-Some.field-0-is at c.in-None.is in
-    let asked : IsAsked StandsAtMacek words c.in-Ok-Some.asked.workers None =
+    let asked : IsAsked StandsAtMacek words c.in-Ok-Some.asked.workers None false =
     asked_from words _ _ _ c.in-Ok-Some.ensures.reads c.in-Ok-Some.field-0-is sample_is in
-    c.list_source.ensures.complete text q (left_known _ text (known_text words c.in-Ok-Some.asked.workers None asked _ text asks)) stands source sink
+    c.list_source.ensures.complete text q (left_known _ text (known_text words c.in-Ok-Some.asked.workers None false asked _ text asks)) stands source sink
 
 pub returns-in-None-clause-complete_refused : goal.returns-in-None-clause-complete_refused
 returns-in-None-clause-complete_refused g c = λ text why asks wrong source.
     let words = texts_of c.args.words.now in
     let sample_is : c.in-Ok-Some.asked.sample ≡ None = rw c.in-Ok-Some.field-0-is at c.in-None.is in
-    let asked : IsAsked StandsAtMacek words c.in-Ok-Some.asked.workers None =
+    let asked : IsAsked StandsAtMacek words c.in-Ok-Some.asked.workers None false =
     asked_from words _ _ _ c.in-Ok-Some.ensures.reads c.in-Ok-Some.field-0-is sample_is in
-    c.list_source.ensures.complete_refused text why (left_known _ text (known_text words c.in-Ok-Some.asked.workers None asked _ text asks)) wrong source
+    c.list_source.ensures.complete_refused text why (left_known _ text (known_text words c.in-Ok-Some.asked.workers None false asked _ text asks)) wrong source

@@ -1,0 +1,48 @@
+// The ways in which a level is grown from the one before.
+ghost use Rattle.std.specs.Prelude.{◌≡◌, ◌+◌, ℕ, IfOk, if◌then◌else◌};
+ghost use Rattle.level_driver.specs.Grown.{IsParentLevel, IsLevelOf, AreTriesOf};
+
+use level_driver::{FormList, Level, grow_alone};
+use orderly::next_level;
+use request_reader::Request;
+use std::alloc::{AllocError, Global};
+
+/// A way of growth. Both ways give the same level.
+#[derive(Clone, Copy, Debug, PartialEq, Eq)]
+pub enum Growth {
+    /// The forms of all tries are gathered in an ordered set.
+    Gathered,
+    /// The tries that are their own forms are kept as they come: orderly generation, as Read and Faradzev have it.
+    Orderly,
+}
+
+impl Growth {
+    /// The way that the words ask for.
+    pub fn asked(orderly: bool) -> Growth
+        ensures { result ≡ (if orderly then Growth.Orderly else Growth.Gathered) }
+    {
+        if orderly {
+            return Growth::Orderly;
+        }
+        Growth::Gathered
+    }
+}
+
+/// The level after a level of a request, grown in one of the ways.
+pub fn grow(
+    alloc: Global,
+    growth: Growth,
+    request: &Request,
+    parents: &FormList,
+) -> Result<Level, AllocError>
+    requires { (n : ℕ) × IsParentLevel request.now n parents.now }
+    ensures forms { IfOk result (λ level. (n : ℕ) →
+        IsParentLevel request.now n parents.now → IsLevelOf request.now (n + 1) level.forms) }
+    ensures tried { IfOk result (λ level. (n : ℕ) →
+        IsParentLevel request.now n parents.now → AreTriesOf request.now (n + 1) level.tried) }
+{
+    match growth {
+        Growth::Gathered => grow_alone(alloc, request, parents),
+        Growth::Orderly => next_level(alloc, request, parents),
+    }
+}

@@ -1,0 +1,4 @@
+mod KeptColumns
+mod KeptLevel
+mod KeptParents
+mod Rising

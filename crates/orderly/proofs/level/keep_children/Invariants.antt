@@ -1,0 +1,11 @@
+use Rattle.std.proofs.Common.{◌≡◌}
+use Rattle.level_driver.specs.Forbidden.{matroids_of}
+use Rattle.orderly.proofs.KeptColumns.{HasKept}
+use Rattle.orderly.proofs.level.keep_children.Given as goal
+
+-- the columns up to the last one were tried
+abbrev pub invariant-loop-column : goal.invariant-loop-column
+invariant-loop-column l = record {
+  same : l.column-iterator.parent ≡ l.parent;
+  so_far : HasKept l.mode (matroids_of l.forbidden) l.fn.forms l.column-iterator l.tried l.forms;
+}

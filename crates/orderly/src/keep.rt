@@ -1,0 +1,51 @@
+// Whether a candidate is kept, by itself.
+ghost use Rattle.std.specs.Prelude.{◌≡◌, ◌+◌, ◌<◌, ◌↔◌, IsTrue};
+ghost use Rattle.std.specs.Option.{MatchOption};
+ghost use Rattle.matroid_theory.specs.Rep.{size};
+ghost use Rattle.matroid_theory.specs.Level.{followed_by};
+ghost use Rattle.extension.specs.Admissible.{IsAdmissible};
+ghost use Rattle.level_driver.specs.Forbidden.{matroids_of, Avoids};
+ghost use Rattle.orderly.specs.Kept.{IsLevelFormOf};
+
+use fast_form::is_form_fast;
+use level_driver::avoids;
+use named_matroids::MinorItem;
+use product_rep::{ProductColumn, Rep};
+use request_reader::Request;
+
+/// Whether a form of a level of the request, of a size below the request's, followed by a column by which it can be extended is a
+/// form of the next level: a form of the request's mode without the minors that the request forbids. It looks at nothing else, and
+/// takes no memory.
+pub fn keeps(request: &Request, parent: &Rep, column: &ProductColumn) -> bool
+    requires parent { IsLevelFormOf request.now (size parent.now) parent.now }
+    requires before { size parent.now < request.now.size }
+    requires column { IsAdmissible parent.now column.now.items }
+    ensures { IsTrue result ↔ IsLevelFormOf request.now (size parent.now + 1) (followed_by parent.now column.now.items) }
+{
+    request.laws();
+    let forbidden = request.forbid();
+    match candidate(parent, forbidden, column) {
+        Some(candidate) => is_form_fast(&candidate, request.mode()),
+        None => false,
+    }
+}
+
+/// The parent followed by the column, where that has none of these minors.
+pub(crate) fn candidate(
+    parent: &Rep,
+    forbidden: &[MinorItem],
+    column: &ProductColumn,
+) -> Option<Rep>
+    requires room { size parent.now < 16 }
+    requires column { IsAdmissible parent.now column.now.items }
+    ensures { MatchOption result (¬ (Avoids (matroids_of forbidden.now) (followed_by parent.now column.now.items)))
+        (λ child. (child ≡ followed_by parent.now column.now.items) × Avoids (matroids_of forbidden.now) child) }
+{
+    let mut child = parent.copy();
+    child.push_column(column);
+    if avoids(&child, forbidden) {
+        Some(child)
+    } else {
+        None
+    }
+}

@@ -1,0 +1,82 @@
+// The level after a level.
+ghost use Rattle.std.specs.Prelude.{ℕ, ◌+◌, IfOk, OnOk};
+ghost use Rattle.matroid_theory.specs.Matroid.{Agrees};
+ghost use Rattle.matroid_theory.specs.Level.{IsCount};
+ghost use Rattle.level_driver.specs.Children.{IsParent, IsCandidate};
+ghost use Rattle.level_driver.specs.Forbidden.{matroids_of};
+ghost use Rattle.level_driver.specs.Grown.{IsLevelOf, AreTriesOf, IsParentLevel};
+ghost use Rattle.orderly.specs.Kept.{AddsKept, KeepsOwnForm};
+
+use crate::keep::candidate;
+use extension::Columns;
+use fast_form::is_form_fast;
+use level_driver::{FormList, Level};
+use matroid_theory::Mode;
+use named_matroids::MinorItem;
+use product_rep::Rep;
+use request_reader::Request;
+use std::alloc::{AllocError, Global};
+
+/// The level after a level of a request: the candidates that are their own forms, in the order in which they come, and the number
+/// of all tries. It is the same level as that of `grow_alone`.
+///
+/// # Errors
+///
+/// `AllocError` where there was no memory for the forms.
+pub fn next_level(alloc: Global, request: &Request, parents: &FormList) -> Result<Level, AllocError>
+    requires { (n : ℕ) × IsParentLevel request.now n parents.now }
+    ensures forms { IfOk result (λ level. (n : ℕ) →
+        IsParentLevel request.now n parents.now → IsLevelOf request.now (n + 1) level.forms) }
+    ensures tried { IfOk result (λ level. (n : ℕ) →
+        IsParentLevel request.now n parents.now → AreTriesOf request.now (n + 1) level.tried) }
+{
+    request.laws();
+    let mode = request.mode();
+    let forbidden = request.forbid();
+    let mut forms = FormList::new(alloc);
+    let mut tried = 0;
+    for i in 0..parents.len() {
+        let Some(parent) = parents.get(i) else {
+            unreachable!()
+        };
+        tried += u128::from(keep_children(parent, mode, forbidden, &mut forms)?);
+    }
+    Ok(Level { forms, tried })
+}
+
+/// Adds at the end each representation that the parent and one more column make, has none of these minors and is its own form.
+/// The result is the number of those without these minors.
+fn keep_children(
+    parent: &Rep,
+    mode: Mode,
+    forbidden: &[MinorItem],
+    forms: &mut FormList,
+) -> Result<u64, AllocError>
+    requires { IsParent parent.now }
+    ensures count { IfOk result (λ tried. IsCount (IsCandidate (matroids_of forbidden.now) parent.now) tried) }
+    ensures forms { OnOk result (AddsKept mode (matroids_of forbidden.now) parent.now forms.old forms.new) }
+{
+    parent.laws();
+    let mut tried = 0;
+    for column in Columns::of(parent) {
+        if let Some(child) = candidate(parent, forbidden, &column) {
+            keep(child, mode, forms)?;
+            tried += 1;
+        }
+    }
+    Ok(tried)
+}
+
+/// Adds the representation at the end, where it is its own form.
+fn keep(child: Rep, mode: Mode, forms: &mut FormList) -> Result<(), AllocError>
+    requires { Agrees child }
+    ensures { OnOk result (KeepsOwnForm mode child forms.old forms.new) }
+{
+    if !is_form_fast(&child, mode) {
+        return Ok(());
+    }
+    match forms.push(child) {
+        Ok(()) => Ok(()),
+        Err((error, _)) => Err(error),
+    }
+}
