@@ -1,0 +1,6 @@
+mod Places
+mod FilledMatrices
+mod Completing
+mod ToldSets
+mod KeptSets
+mod Targets
