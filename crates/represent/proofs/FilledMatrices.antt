@@ -1,6 +1,6 @@
 -- Matrices of which the first entries are filled in.
 use Rattle.std.proofs.Common.{◌≡◌, ℕ, zero, suc, ◌+◌, ◌-◌, ◌*◌, ◌/◌, ◌<◌, ◌≤◌, refl, sym, ◌∙◌, ap, subst, arith, cond, true, false, inl, inr, List, [], ◌∷◌, ◌++◌, map, length, length-append}
-use Rattle.std.specs.Bool.{◌==◌, nat_lt}
+use Rattle.std.specs.Bool.{◌==◌}
 use Rattle.std.specs.List.{range_with_len, slice_index, slice_index_or}
 use Rattle.std.proofs.lemmas.Bool.{cases_lt, le-ltb, lt-ltb}
 use Rattle.std.proofs.lemmas.List.FromFn.{get_or-map-range_with_len, length-map-range_with_len}

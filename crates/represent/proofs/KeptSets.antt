@@ -2,14 +2,13 @@
 use Rattle.std.proofs.Common.{◌≡◌, ◌↔◌, ℕ, ◌+◌, ◌-◌, ◌^◌, ◌<◌, ◌≤◌, refl, sym, ◌∙◌, ap, subst, arith, lit<, List, length, Bool, true, false, not}
 use mathlib.Core.Bool.{beq}
 use Rattle.std.proofs.lemmas.Bool.{false≢true}
-use Rattle.std.specs.List.{Contains}
 use Rattle.std.proofs.Math.Nat.{pow-le-pow_right}
 use Rattle.bases.specs.declared.factor.FactorColumns.{FactorColumns}
 use Rattle.bases.specs.FactorColumns.{IsFactorOf}
 use Rattle.bases.proofs.Factors.{independent_same}
 use Rattle.matroid_theory.specs.Matrix.{size_below}
-use Rattle.matroid_theory.specs.Rep.{Rep, size, KeepsLimits}
-use Rattle.matroid_theory.specs.Matroid.{members, IsBasis}
+use Rattle.matroid_theory.specs.Rep.{Rep, KeepsLimits}
+use Rattle.matroid_theory.specs.Matroid.{members}
 use Rattle.matroid_theory.specs.Minor.{Matroid}
 use Rattle.dual_theory.specs.Represented.{IsStandardOver, KeepsBasesAt}
 use Rattle.matroid_theory.proofs.MaskCounts.{size-members}

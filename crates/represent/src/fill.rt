@@ -42,5 +42,9 @@ fn codes_end(target: &Target, codes: &Codes) -> u8
     ensures two { result < target.now.order → 2 ≤ result }
     ensures free { result < target.now.order → IsFree target.now.rank codes.now.items }
 {
-    if is_free(target.rank, codes) { target.order.min(2) } else { target.order }
+    if is_free(target.rank, codes) {
+        target.order.min(2)
+    } else {
+        target.order
+    }
 }

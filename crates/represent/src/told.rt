@@ -56,7 +56,12 @@ fn keeps_with(target: &Target, matrix: &FactorColumns, place: Place, count: usiz
     ensures { IsTrue result ↔ ((later : ℕ) → IsSetOfSize (place.column - target.now.rank) count later → KeepsWith (matroid_of target.now) matrix.now place later) }
 {
     let before = usize::from(place.column - target.rank);
-    first_of_size(before, count, |later| !keeps_later(target, matrix, place, later)).is_none()
+    first_of_size(
+        before,
+        count,
+        |later| !keeps_later(target, matrix, place, later),
+    )
+    .is_none()
 }
 
 /// Whether the sets that have these of the later columns are bases exactly where they should be.
@@ -65,12 +70,22 @@ fn keeps_later(target: &Target, matrix: &FactorColumns, place: Place, later: Mas
     requires later { later < 2 ^ (place.column - target.now.rank) }
     ensures { IsTrue result ↔ KeepsWith (matroid_of target.now) matrix.now place later }
 {
-    first_set(usize::from(place.row), |units| !keeps_set(target, matrix, place, units, later)).is_none()
+    first_set(
+        usize::from(place.row),
+        |units| !keeps_set(target, matrix, place, units, later),
+    )
+    .is_none()
 }
 
 /// Whether the set with these unit columns and later columns is a base exactly where it should be, or has another number of
 /// elements.
-fn keeps_set(target: &Target, matrix: &FactorColumns, place: Place, units: Mask, later: Mask) -> bool
+fn keeps_set(
+    target: &Target,
+    matrix: &FactorColumns,
+    place: Place,
+    units: Mask,
+    later: Mask,
+) -> bool
     requires place { IsWithin (matroid_of target.now) place }
     requires units { units < 2 ^ place.row }
     requires later { later < 2 ^ (place.column - target.now.rank) }

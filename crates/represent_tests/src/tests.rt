@@ -53,7 +53,12 @@ fn names_with_a_matrix(rt: HostRuntime) -> Result<(), Fail> {
 
 #[test]
 fn names_without_a_matrix(rt: HostRuntime) -> Result<(), Fail> {
-    for (order, name) in [(2, &b"U2,4"[..]), (3, &b"F7"[..]), (2, &b"F7-"[..]), (5, &b"U2,7"[..])] {
+    for (order, name) in [
+        (2, &b"U2,4"[..]),
+        (3, &b"F7"[..]),
+        (2, &b"F7-"[..]),
+        (5, &b"U2,7"[..]),
+    ] {
         assert!(rt; named_over(order, name)?.is_none());
     }
     Ok(())
@@ -77,6 +82,9 @@ fn form_over_another_field(rt: HostRuntime) -> Result<(), Fail> {
         return Err("no basis".into());
     }
     let ternary = represent(&form, field).ok_or("no matrix")?;
-    assert_eq!(rt; form_text(&ternary).as_slice(), b"100 010 001 011 101 120\n".as_slice());
+    assert_eq!(rt;
+        form_text(&ternary).as_slice(),
+        b"100 010 001 011 101 120\n".as_slice()
+    );
     Ok(())
 }

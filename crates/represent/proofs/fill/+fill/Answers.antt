@@ -1,4 +1,4 @@
-use Rattle.std.proofs.Common.{◌≡◌, ℕ, ◌+◌, ◌-◌, ◌*◌, ◌<◌, ◌≤◌, ◌++◌, ◌∷◌, [], sym, ◌∙◌, ap, subst, arith, refl, inl, inr, List, length, length-append}
+use Rattle.std.proofs.Common.{◌≡◌, ℕ, ◌+◌, ◌*◌, ◌<◌, ◌≤◌, ◌++◌, ◌∷◌, [], sym, ◌∙◌, ap, subst, arith, refl, inl, inr, List, length, length-append}
 use mathlib.Core.Bool.{true≢false}
 use Rattle.represent.specs.Sought.{matroid_of, cells}
 use Rattle.represent.specs.Filled.{AreCodes}

@@ -1,4 +1,4 @@
-use Rattle.std.proofs.Common.{ℕ, ◌-◌, ◌<◌, length}
+use Rattle.std.proofs.Common.{◌-◌, ◌<◌, length}
 use Rattle.matroid_theory.specs.Rep.{Rep, matrix}
 use Rattle.represent.specs.Sought.{matroid_of, cells}
 use Rattle.represent.specs.Filled.{row_at, column_at}

@@ -15,7 +15,7 @@ pub returns-then-deref-column-ne0 : goal.returns-then-deref-column-ne0
 returns-then-deref-column-ne0 c = (
   λ t. absurd (false≢true t),
   λ h. absurd (c.if-deref-column-ne0.true (
-    ap (λ (xs : List ℕ). slice_index xs (c.loop-column.column * c.args.rank + c.len.result % c.args.rank)) c.deref.ensures.0
-    ∙ zero_there c.args.codes.now.items c.args.rank c.len.result c.loop-column.column c.len.ensures.value
-    (subst (λ n. c.loop-column.column < n / c.args.rank) (c.len-2.ensures.value ∙ sym c.len.ensures.value) c.loop-column-test.true) h)),
+      ap (λ (xs : List ℕ). slice_index xs (c.loop-column.column * c.args.rank + c.len.result % c.args.rank)) c.deref.ensures.0
+      ∙ zero_there c.args.codes.now.items c.args.rank c.len.result c.loop-column.column c.len.ensures.value
+      (subst (λ n. c.loop-column.column < n / c.args.rank) (c.len-2.ensures.value ∙ sym c.len.ensures.value) c.loop-column-test.true) h)),
 )

@@ -1,5 +1,4 @@
 use Rattle.std.proofs.Common.{ℕ, List, sym, subst, refl}
-use Rattle.matroid_theory.specs.Rep.{Rep}
 use Rattle.dual_theory.specs.Represented.{IsLeastOver}
 use Rattle.represent.specs.Sought.{matroid_of}
 use Rattle.represent.specs.Completions.{IsLeastWith, NoneWith}

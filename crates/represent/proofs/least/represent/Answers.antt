@@ -1,4 +1,4 @@
-use Rattle.std.proofs.Common.{◌≡◌, ℕ, sym, subst}
+use Rattle.std.proofs.Common.{ℕ, sym, subst}
 use Rattle.matroid_theory.specs.Minor.{Matroid}
 use Rattle.dual_theory.specs.Represented.{Represents}
 use Rattle.represent.specs.Sought.{HasMatroid}

@@ -1,4 +1,4 @@
-use Rattle.std.proofs.Common.{◌≡◌, ◌+◌, ◌-◌, ◌^◌, ◌<◌, ◌≤◌, ℕ, length, sym, ◌∙◌, ap, subst, arith, refl, inl, inr}
+use Rattle.std.proofs.Common.{◌≡◌, ◌-◌, ◌<◌, ◌≤◌, ℕ, length, sym, ◌∙◌, ap, subst, arith, refl, inl, inr}
 use Rattle.std.proofs.lemmas.Bool.{false≢true, cases_lt}
 use Rattle.matroid_theory.specs.Matrix.{size_below}
 use Rattle.matroid_theory.specs.Matroid.{members}
@@ -27,8 +27,8 @@ returns-then-not-keeps_with c =
     let e : c.len.result - 1 ≡ length c.args.codes.now.items - 1 = ap (λ n. n - 1) c.len.ensures.value in (
       (λ t. absurd (false≢true t)),
       (λ k. absurd (false≢true (sym c.if-not-keeps_with.true ∙ c.keeps_with.ensures.1 (λ later _.
-        each_kept c.args.target.now.order (matroid_of c.args.target.now) c.requires.sought c.args.codes.now.items c.requires.codes c.requires.some c.filled.result c.filled.ensures c.of-matrix.result c.of-matrix.ensures c.place_of-place.result
-        (c.place_of-place.ensures.row ∙ ap (row_at c.args.target.now.rank) e) (c.place_of-place.ensures.column ∙ ap (column_at c.args.target.now.rank) e) k later)))),
+          each_kept c.args.target.now.order (matroid_of c.args.target.now) c.requires.sought c.args.codes.now.items c.requires.codes c.requires.some c.filled.result c.filled.ensures c.of-matrix.result c.of-matrix.ensures c.place_of-place.result
+          (c.place_of-place.ensures.row ∙ ap (row_at c.args.target.now.rank) e) (c.place_of-place.ensures.column ∙ ap (column_at c.args.target.now.rank) e) k later)))),
     )
 
 pub loop-count-preserved : goal.loop-count-preserved
@@ -40,8 +40,8 @@ pub returns-else-not-keeps_with : goal.returns-else-not-keeps_with
 returns-else-not-keeps_with c =
     let e : c.len.result - 1 ≡ length c.args.codes.now.items - 1 = ap (λ n. n - 1) c.len.ensures.value in (
       (λ _. last_kept c.args.target.now.order (matroid_of c.args.target.now) c.requires.sought c.args.codes.now.items c.requires.codes c.requires.some c.filled.result c.filled.ensures c.of-matrix.result c.of-matrix.ensures c.place_of-place.result
-        (c.place_of-place.ensures.row ∙ ap (row_at c.args.target.now.rank) e) (c.place_of-place.ensures.column ∙ ap (column_at c.args.target.now.rank) e)
-        (λ later b.
+          (c.place_of-place.ensures.row ∙ ap (row_at c.args.target.now.rank) e) (c.place_of-place.ensures.column ∙ ap (column_at c.args.target.now.rank) e)
+          (λ later b.
           let n : ℕ = c.place_of-place.result.column - c.args.target.now.rank in
           let m : size_below n (members later) ≤ n = size_most n (members later) in
           let g : c.from-count-end.result ≡ n = c.from-count-end.ensures in

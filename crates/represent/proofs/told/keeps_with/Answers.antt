@@ -1,4 +1,4 @@
-use Rattle.std.proofs.Common.{◌-◌, ◌↔◌, ℕ, subst, IsTrue, rules}
+use Rattle.std.proofs.Common.{◌↔◌, ℕ, subst, IsTrue, rules}
 use Rattle.column_sets.specs.Sets.{IsSetOfSize}
 use Rattle.column_sets.proofs.SetLemmas.{no_set_found}
 use Rattle.represent.specs.Sought.{matroid_of}
