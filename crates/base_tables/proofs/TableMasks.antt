@@ -40,10 +40,13 @@ pub contains_masks : (n : ℕ) (words : List ℕ) (X : ℕ) → Contains (masks_
 unfolding masks_below
 contains_masks n words X = (
   (λ c. (
-    in_range (All-contains (Contains (range_with_len 0 n)) (filter (has words) (range_with_len 0 n)) X (All-filter (has words) (Contains (range_with_len 0 n)) (range_with_len 0 n) (All-contains_itself (range_with_len 0 n))) c),
+    in_range (All-contains (Contains (range_with_len 0 n)) (filter (has words) (range_with_len 0 n)) X
+        (All-filter (has words) (Contains (range_with_len 0 n)) (range_with_len 0 n) (All-contains_itself (range_with_len 0 n))) c),
     All-contains (λ x. has words x ≡ true) (filter (has words) (range_with_len 0 n)) X (filter_passes (has words) (range_with_len 0 n)) c,
   )),
-  (λ w. kept (has words) (range_with_len 0 n) X (X, (let e : length (range_with_len 0 n) ≡ n = length-range_with_len 0 n in let l : X < n = w.0 in omega arith), get_or-range_with_len 0 n X X w.0 ∙ omega arith) w.1),
+  (λ w. kept (has words) (range_with_len 0 n) X
+      (X, (let e : length (range_with_len 0 n) ≡ n = length-range_with_len 0 n in let l : X < n = w.0 in
+      omega arith), get_or-range_with_len 0 n X X w.0 ∙ omega arith) w.1),
 )
   where
     in_range : Contains (range_with_len 0 n) X → X < n
@@ -65,11 +68,13 @@ unfolding masks_below
 no_masks n m = none_kept (has (replicate m 0)) (range_with_len 0 n) (has_none m)
 
 -- one more mask
-pub more_masks : (n : ℕ) (words new : List ℕ) (set : ℕ) → set < n → ((X : ℕ) → has new X ≡ (has words X || (set == X))) → (X : ℕ) → Contains (masks_below n new) X ↔ (Contains (masks_below n words) X ⊎ (set ≡ X))
+pub more_masks : (n : ℕ) (words new : List ℕ) (set : ℕ) → set < n → ((X : ℕ) → has new X ≡ (has words X || (set == X))) → (X : ℕ)
+    → Contains (masks_below n new) X ↔ (Contains (masks_below n words) X ⊎ (set ≡ X))
 more_masks n words new set below e X =
     let a = contains_masks n words X in
     let b = contains_masks n new X in (
-      (λ c. let w = b.0 c in elim (or_cases (has words X) (set == X) (sym (e X) ∙ w.1)) [ inl o ↦ inl (a.1 (w.0, o)) | inr o ↦ inr (eqb-true set X o) ]),
+      (λ c. let w = b.0 c in elim (or_cases (has words X) (set == X) (sym (e X) ∙ w.1)) [ inl o ↦ inl (a.1 (w.0, o)) | inr o ↦
+          inr (eqb-true set X o) ]),
       (λ d. elim d [
         | inl c ↦ (let w = a.0 c in b.1 (w.0, e X ∙ or_left (has words X) (set == X) w.1))
         | inr s ↦ b.1 (subst (λ (x : ℕ). x < n) s below, e X ∙ or_right (has words X) (set == X) (ap (λ x. x == X) s ∙ same_number X))
@@ -77,8 +82,11 @@ more_masks n words new set below e X =
     )
 
 -- so a mask is put into the table
-pub put_mask : (n : ℕ) (words old : List ℕ) → masks_below n words ≡ old → (set word bit : ℕ) → word ≡ set / 64 → bit ≡ set % 64 → word < length words → set < n → (X : ℕ)
+pub put_mask : (n : ℕ) (words old : List ℕ) → masks_below n words ≡ old → (set word bit : ℕ) → word ≡ set / 64 → bit ≡ set % 64
+    → word < length words → set < n → (X : ℕ)
     → Contains (masks_below n (slice_set words word (bit_or (slice_index words word) (1 * 2 ^ bit % 2 ^ 64)))) X ↔ (Contains old X ⊎ (set ≡ X))
 put_mask n words old e set word bit w b l below X =
-    subst (λ (old : List ℕ). Contains (masks_below n (slice_set words word (bit_or (slice_index words word) (1 * 2 ^ bit % 2 ^ 64)))) X ↔ (Contains old X ⊎ (set ≡ X))) e
-    (more_masks n words (slice_set words word (bit_or (slice_index words word) (1 * 2 ^ bit % 2 ^ 64))) set below (has_more words set word bit w b l) X)
+    subst (λ (old : List ℕ). Contains (masks_below n (slice_set words word (bit_or (slice_index words word) (1 * 2 ^ bit % 2 ^ 64)))) X ↔
+        (Contains old X ⊎ (set ≡ X))) e
+    (more_masks n words (slice_set words word (bit_or (slice_index words word) (1 * 2 ^ bit % 2 ^ 64))) set below
+        (has_more words set word bit w b l) X)

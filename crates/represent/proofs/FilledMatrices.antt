@@ -32,8 +32,11 @@ module _ (q : ℕ) (N : Matroid) (s : IsSought q N) where
   pub size_filled : (codes : List ℕ) → size (filled q N codes) ≡ N.size
   size_filled codes = length-map-range_with_len _ 0 N.size
 
-  column_filled : (codes : List ℕ) (k : ℕ) → k < N.size → slice_index_or (map (λ k. map (λ l. entry N.rank codes l k) (range_with_len 0 N.rank)) (range_with_len 0 N.size)) k [] ≡ map (λ l. entry N.rank codes l k) (range_with_len 0 N.rank)
-  column_filled codes k l = get_or-map-range_with_len (λ k. map (λ l. entry N.rank codes l k) (range_with_len 0 N.rank)) 0 N.size k k [] l (omega arith)
+  column_filled : (codes : List ℕ) (k : ℕ) → k < N.size
+      → slice_index_or (map (λ k. map (λ l. entry N.rank codes l k) (range_with_len 0 N.rank)) (range_with_len 0 N.size)) k [] ≡ map
+      (λ l. entry N.rank codes l k) (range_with_len 0 N.rank)
+  column_filled codes k l = get_or-map-range_with_len (λ k. map (λ l. entry N.rank codes l k) (range_with_len 0 N.rank)) 0 N.size k k [] l
+      (omega arith)
 
   pub matrix_filled : (codes : List ℕ) (l k : ℕ) → l < N.rank → k < N.size → matrix (filled q N codes) 0 l k ≡ entry N.rank codes l k
   matrix_filled codes l k m o =
@@ -48,8 +51,10 @@ module _ (q : ℕ) (N : Matroid) (s : IsSought q N) where
 
   pub entry_code : (codes : List ℕ) → AreCodes q N codes → (i j : ℕ) → i < N.rank → j < N.size → entry N.rank codes i j < q
   entry_code codes c i j l m = elim (cases_lt j N.rank) [
-    | inl b ↦ subst (λ (x : ℕ). x < q) (sym (ap (λ b. cond b (unit i j) (slice_index codes ((j - N.rank) * N.rank + i))) (lt-ltb j N.rank b))) (unit_below i j)
-    | inr g ↦ subst (λ (x : ℕ). x < q) (sym (ap (λ b. cond b (unit i j) (slice_index codes ((j - N.rank) * N.rank + i))) (le-ltb j N.rank g))) (code_at ((j - N.rank) * N.rank + i))
+    | inl b ↦ subst (λ (x : ℕ). x < q)
+        (sym (ap (λ b. cond b (unit i j) (slice_index codes ((j - N.rank) * N.rank + i))) (lt-ltb j N.rank b))) (unit_below i j)
+    | inr g ↦ subst (λ (x : ℕ). x < q)
+        (sym (ap (λ b. cond b (unit i j) (slice_index codes ((j - N.rank) * N.rank + i))) (le-ltb j N.rank g))) (code_at ((j - N.rank) * N.rank + i))
   ]
     where
       code_at : (p : ℕ) → slice_index codes p < q
@@ -64,7 +69,8 @@ module _ (q : ℕ) (N : Matroid) (s : IsSought q N) where
           past_end (x ∷ xs) (suc p) g = past_end xs p (omega arith)
 
   -- a column may follow
-  pub column_fits : (codes : List ℕ) → AreCodes q N codes → (j : ℕ) → j < N.size → (v : List ℕ) → v ≡ map (λ i. entry N.rank codes i j) (range_with_len 0 N.rank) → IsProductColumn (q ∷ []) N.rank v
+  pub column_fits : (codes : List ℕ) → AreCodes q N codes → (j : ℕ) → j < N.size → (v : List ℕ)
+      → v ≡ map (λ i. entry N.rank codes i j) (range_with_len 0 N.rank) → IsProductColumn (q ∷ []) N.rank v
   column_fits codes c j l v e = record {
     rows = ap (λ (xs : List ℕ). length xs) e ∙ length-map-range_with_len _ 0 N.rank ∙ omega arith;
     codes = λ i f m o. let z : 0 ≡ f = omega arith in
@@ -85,12 +91,15 @@ module _ (q : ℕ) (N : Matroid) (s : IsSought q N) where
       orders = λ f l. let z : 0 ≡ f = omega arith in subst (λ f. IsOrder (slice_index (q ∷ []) f)) z s.field;
       lengths = λ j l. ap (λ (c : List ℕ). length c) (column_filled codes j (inside l)) ∙ length-map-range_with_len _ 0 N.rank ∙ omega arith;
       codes = λ f i j l m o. let z : 0 ≡ f = omega arith in
-          subst (λ f. matrix (filled q N codes) f i j < slice_index (q ∷ []) f) z (subst (λ (x : ℕ). x < q) (sym (matrix_filled codes i j m (inside o))) (entry_code codes c i j m (inside o)));
+          subst (λ f. matrix (filled q N codes) f i j < slice_index (q ∷ []) f) z
+          (subst (λ (x : ℕ). x < q) (sym (matrix_filled codes i j m (inside o))) (entry_code codes c i j m (inside o)));
     };
     standard = record {
       room = subst (λ (x : ℕ). N.rank ≤ x) (sym (size_filled codes)) s.room;
       units = λ f i j l m o. let z : 0 ≡ f = omega arith in let g : N.rank ≤ N.size = s.room in
-          subst (λ f. matrix (filled q N codes) f i j ≡ unit i j) z (matrix_filled codes i j m (omega arith) ∙ ap (λ b. cond b (unit i j) (slice_index codes ((j - N.rank) * N.rank + i))) (lt-ltb j N.rank o));
+          subst (λ f. matrix (filled q N codes) f i j ≡ unit i j) z
+          (matrix_filled codes i j m (omega arith)
+          ∙ ap (λ b. cond b (unit i j) (slice_index codes ((j - N.rank) * N.rank + i))) (lt-ltb j N.rank o));
     };
   }
     where
@@ -99,7 +108,12 @@ module _ (q : ℕ) (N : Matroid) (s : IsSought q N) where
 
   pub filled_limits : (codes : List ℕ) → AreCodes q N codes → KeepsLimits (filled q N codes)
   filled_limits codes c = record {
-    fields = record { some = omega arith; few = omega arith; fields = λ f l. let z : 0 ≡ f = omega arith in subst (λ f. IsOrder (slice_index (q ∷ []) f)) z s.field };
+    fields = record {
+      some = omega arith;
+      few = omega arith;
+      fields = λ f l. let z : 0 ≡ f = omega arith in
+          subst (λ f. IsOrder (slice_index (q ∷ []) f)) z s.field;
+    };
     rank_positive = s.rank_positive;
     rank_most = s.rank_most;
     size_most = subst (λ (x : ℕ). x ≤ 16) (sym (size_filled codes)) s.size_most;
@@ -126,22 +140,30 @@ module _ (q : ℕ) (N : Matroid) (s : IsSought q N) where
     }
 
     -- the entries filled in before stay
-    pub longer_entry : (l k : ℕ) → l < N.rank → k < N.size → (N.rank ≤ k → (k - N.rank) * N.rank + l < length codes) → matrix (filled q N codes) 0 l k ≡ matrix (filled q N longer) 0 l k
+    pub longer_entry : (l k : ℕ) → l < N.rank → k < N.size → (N.rank ≤ k → (k - N.rank) * N.rank + l < length codes)
+        → matrix (filled q N codes) 0 l k ≡ matrix (filled q N longer) 0 l k
     longer_entry l k m o h =
         matrix_filled codes l k m o
         ∙ elim (cases_lt k N.rank) [
-          | inl b ↦ ap (λ b. cond b (unit l k) (slice_index codes ((k - N.rank) * N.rank + l))) (lt-ltb k N.rank b) ∙ sym (ap (λ b. cond b (unit l k) (slice_index longer ((k - N.rank) * N.rank + l))) (lt-ltb k N.rank b))
-          | inr g ↦ ap (λ b. cond b (unit l k) (slice_index codes ((k - N.rank) * N.rank + l))) (le-ltb k N.rank g) ∙ sym (get_or-append codes (v ∷ []) 0 ((k - N.rank) * N.rank + l) (h g)) ∙ sym (ap (λ b. cond b (unit l k) (slice_index longer ((k - N.rank) * N.rank + l))) (le-ltb k N.rank g))
+          | inl b ↦ ap (λ b. cond b (unit l k) (slice_index codes ((k - N.rank) * N.rank + l))) (lt-ltb k N.rank b)
+              ∙ sym (ap (λ b. cond b (unit l k) (slice_index longer ((k - N.rank) * N.rank + l))) (lt-ltb k N.rank b))
+          | inr g ↦ ap (λ b. cond b (unit l k) (slice_index codes ((k - N.rank) * N.rank + l))) (le-ltb k N.rank g)
+              ∙ sym (get_or-append codes (v ∷ []) 0 ((k - N.rank) * N.rank + l) (h g))
+              ∙ sym (ap (λ b. cond b (unit l k) (slice_index longer ((k - N.rank) * N.rank + l))) (le-ltb k N.rank g))
         ]
         ∙ sym (matrix_filled longer l k m o)
 
     pub longer_agrees : AgreeBefore (filled q N codes) (filled q N longer) (row_at N.rank (length codes)) (column_at N.rank (length codes))
-    longer_agrees l k m o w = longer_entry l k m (subst (λ (x : ℕ). k < x) (size_filled codes) o) (λ g. place_before N.rank s.rank_positive (length codes) l k m g w)
+    longer_agrees l k m o w = longer_entry l k m (subst (λ (x : ℕ). k < x) (size_filled codes) o)
+        (λ g. place_before N.rank s.rank_positive (length codes) l k m g w)
 
     pub longer_last : matrix (filled q N longer) 0 (row_at N.rank (length codes)) (column_at N.rank (length codes)) ≡ v
     longer_last =
-        matrix_filled longer (row_at N.rank (length codes)) (column_at N.rank (length codes)) (row_below_r (length codes)) (column_below (length codes) room)
-        ∙ ap (λ b. cond b (unit (row_at N.rank (length codes)) (column_at N.rank (length codes))) (slice_index longer ((column_at N.rank (length codes) - N.rank) * N.rank + row_at N.rank (length codes)))) (le-ltb (column_at N.rank (length codes)) N.rank (omega arith))
+        matrix_filled longer (row_at N.rank (length codes)) (column_at N.rank (length codes)) (row_below_r (length codes))
+        (column_below (length codes) room)
+        ∙ ap (λ b. cond b (unit (row_at N.rank (length codes)) (column_at N.rank (length codes)))
+        (slice_index longer ((column_at N.rank (length codes) - N.rank) * N.rank + row_at N.rank (length codes))))
+        (le-ltb (column_at N.rank (length codes)) N.rank (omega arith))
         ∙ ap (slice_index longer) (place_is N.rank s.rank_positive (length codes))
         ∙ get_or-append_seam codes v [] 0
 
@@ -151,21 +173,27 @@ module _ (q : ℕ) (N : Matroid) (s : IsSought q N) where
   shapes a b c d = over_same q N (filled q N a) (filled q N b) (filled_over a c) (filled_over b d)
 
   -- matrices that agree as far as an entry both keep the bases there, or neither
-  keeps_over : (a b : List ℕ) → AreCodes q N a → AreCodes q N b → (i j : ℕ) → N.rank ≤ j → j < N.size → AgreeBefore (filled q N a) (filled q N b) (suc i) j
+  keeps_over : (a b : List ℕ) → AreCodes q N a → AreCodes q N b → (i j : ℕ) → N.rank ≤ j → j < N.size
+      → AgreeBefore (filled q N a) (filled q N b) (suc i) j
       → KeepsBasesAt N (filled q N a) i j → KeepsBasesAt N (filled q N b) i j
   keeps_over a b c d i j past below h k X l full told =
       let A = filled_over a c in
       let B = filled_over b d in
       let t = base_told (filled q N a) (filled q N b) A.shaped B.shaped A.standard B.standard (shapes a b c d) (omega arith) i j past
-      (subst (λ (x : ℕ). j < x) (sym (size_filled a)) below) h (members X) (subst (λ (x : ℕ). IsToldAt N.rank x i j (members X)) (sym (size_filled a)) told) in
+      (subst (λ (x : ℕ). j < x) (sym (size_filled a)) below) h (members X)
+      (subst (λ (x : ℕ). IsToldAt N.rank x i j (members X)) (sym (size_filled a)) told) in
       let e = k X l full told in
       ((λ x. t.0 (e.0 x)), (λ y. e.1 (t.1 y)))
 
-  pub kept_longer : (codes : List ℕ) (v : ℕ) → AreCodes q N codes → length codes < cells N → v < q → KeepsBefore q N codes → KeepsLast q N (codes ++ v ∷ []) → KeepsBefore q N (codes ++ v ∷ [])
+  pub kept_longer : (codes : List ℕ) (v : ℕ) → AreCodes q N codes → length codes < cells N → v < q → KeepsBefore q N codes
+      → KeepsLast q N (codes ++ v ∷ []) → KeepsBefore q N (codes ++ v ∷ [])
   kept_longer codes v c room w k last p l =
       let e : length (codes ++ v ∷ []) ≡ suc (length codes) = longer_length codes v c room w in
       elim (cases_lt p (length codes)) [
-        | inl b ↦ keeps_over codes (codes ++ v ∷ []) c (longer_codes codes v c room w) (row_at N.rank p) (column_at N.rank p) (omega arith) (column_below p (omega arith))
-            (λ l k m o h. longer_entry codes v c room w l k m (subst (λ (x : ℕ). k < x) (size_filled codes) o) (λ g. let t : (k - N.rank) * N.rank + l < suc p = place_until N.rank s.rank_positive p l k m g h in omega arith)) (k p b)
-        | inr g ↦ (let z : length (codes ++ v ∷ []) - 1 ≡ p = omega arith in subst (λ p. KeepsBasesAt N (filled q N (codes ++ v ∷ [])) (row_at N.rank p) (column_at N.rank p)) z last)
+        | inl b ↦ keeps_over codes (codes ++ v ∷ []) c (longer_codes codes v c room w) (row_at N.rank p) (column_at N.rank p) (omega arith)
+            (column_below p (omega arith))
+            (λ l k m o h. longer_entry codes v c room w l k m (subst (λ (x : ℕ). k < x) (size_filled codes) o)
+            (λ g. let t : (k - N.rank) * N.rank + l < suc p = place_until N.rank s.rank_positive p l k m g h in omega arith)) (k p b)
+        | inr g ↦ (let z : length (codes ++ v ∷ []) - 1 ≡ p = omega arith in
+            subst (λ p. KeepsBasesAt N (filled q N (codes ++ v ∷ [])) (row_at N.rank p) (column_at N.rank p)) z last)
       ]

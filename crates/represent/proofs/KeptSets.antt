@@ -20,7 +20,8 @@ use Rattle.represent.specs.Kept.{IsWithin, IsToldWith, KeepsWith, KeepsLast}
 use Rattle.represent.proofs.FilledMatrices.{row_below_r, column_below, filled_over, filled_limits}
 use Rattle.represent.proofs.ToldSets.{told_at, told_with}
 
-module _ (q : ℕ) (N : Matroid) (M : Rep) (over : IsStandardOver q N M) (limits : KeepsLimits M) (matrix : FactorColumns) (f : IsFactorOf M 0 matrix.field matrix.columns.items) (place : Place) (w : IsWithin N place) where
+module _ (q : ℕ) (N : Matroid) (M : Rep) (over : IsStandardOver q N M) (limits : KeepsLimits M) (matrix : FactorColumns)
+    (f : IsFactorOf M 0 matrix.field matrix.columns.items) (place : Place) (w : IsWithin N place) where
   pub all_kept : ((later : ℕ) → later < 2 ^ (place.column - N.rank) → KeepsWith N matrix place later) → KeepsBasesAt N M place.row place.column
   all_kept h X below full told =
       let (units, ub, later, lb, t) = told_with N.rank place w.row w.past N.size X w.column below told in
@@ -42,7 +43,8 @@ module _ (q : ℕ) (N : Matroid) (M : Rep) (over : IsStandardOver q N M) (limits
       )
 
 -- so too at the last entry of a list of codes
-module _ (q : ℕ) (N : Matroid) (s : IsSought q N) (codes : List ℕ) (c : AreCodes q N codes) (some : 0 < length codes) (P : Rep) (same : P ≡ filled q N codes)
+module _ (q : ℕ) (N : Matroid) (s : IsSought q N) (codes : List ℕ) (c : AreCodes q N codes) (some : 0 < length codes) (P : Rep)
+    (same : P ≡ filled q N codes)
     (matrix : FactorColumns) (f : IsFactorOf P 0 matrix.field matrix.columns.items) (place : Place) (row : place.row ≡ row_at N.rank (length codes - 1)) (column : place.column ≡ column_at N.rank (length codes - 1)) where
   factor : IsFactorOf (filled q N codes) 0 matrix.field matrix.columns.items
   factor = subst (λ (M : Rep). IsFactorOf M 0 matrix.field matrix.columns.items) same f
@@ -53,7 +55,8 @@ module _ (q : ℕ) (N : Matroid) (s : IsSought q N) (codes : List ℕ) (c : AreC
     size_most = s.size_most;
     row = (let l : row_at N.rank (length codes - 1) < N.rank = row_below_r q N s (length codes - 1) in omega arith);
     past = omega arith;
-    column = (let l : column_at N.rank (length codes - 1) < N.size = column_below q N s (length codes - 1) (let m : length codes ≤ cells N = c.few in omega arith) in omega arith);
+    column = (let l : column_at N.rank (length codes - 1) < N.size =
+        column_below q N s (length codes - 1) (let m : length codes ≤ cells N = c.few in omega arith) in omega arith);
   }
 
   pub last_kept : ((later : ℕ) → later < 2 ^ (place.column - N.rank) → KeepsWith N matrix place later) → KeepsLast q N codes
@@ -65,10 +68,12 @@ module _ (q : ℕ) (N : Matroid) (s : IsSought q N) (codes : List ℕ) (c : AreC
   pub each_kept : KeepsLast q N codes → (later : ℕ) → KeepsWith N matrix place later
   each_kept k =
       kept_each q N (filled q N codes) (filled_over q N s codes c) (filled_limits q N s codes c) matrix factor place within
-      (subst (λ i. KeepsBasesAt N (filled q N codes) i place.column) (sym row) (subst (KeepsBasesAt N (filled q N codes) (row_at N.rank (length codes - 1))) (sym column) k))
+      (subst (λ i. KeepsBasesAt N (filled q N codes) i place.column) (sym row)
+      (subst (KeepsBasesAt N (filled q N codes) (row_at N.rank (length codes - 1))) (sym column) k))
 
 -- a set that is told at a place has as many elements as its mask has ones
-pub told_size : (N : Matroid) (place : Place) (units later X : ℕ) → place.column < N.size → IsToldWith N.rank place units later X → size_below N.size (members X) ≡ count_ones X
+pub told_size : (N : Matroid) (place : Place) (units later X : ℕ) → place.column < N.size → IsToldWith N.rank place units later X
+    → size_below N.size (members X) ≡ count_ones X
 told_size N place units later X l t =
     let m : 2 ^ (place.column + 1) ≤ 2 ^ N.size = pow-le-pow_right (lit< tt) (omega arith) in
     let b : X < 2 ^ (place.column + 1) = t.below in

@@ -4,3 +4,4 @@ mod Completing
 mod ToldSets
 mod KeptSets
 mod Targets
+mod NamedBases

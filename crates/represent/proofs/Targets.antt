@@ -55,7 +55,8 @@ based_first M N shaped standard some h = subst IsBasedFirst (sym same) (record {
         omega arith
 
     front : IsBasis M 0 (members (2 ^ M.rank - 1))
-    front = IsBasis-same M 0 (λ j. nat_lt j M.rank) (members (2 ^ M.rank - 1)) (λ j l. sym (first_members (size M) M.rank standard.room j l)) (units_basis M shaped standard 0 some)
+    front = IsBasis-same M 0 (λ j. nat_lt j M.rank) (members (2 ^ M.rank - 1))
+        (λ j l. sym (first_members (size M) M.rank standard.room j l)) (units_basis M shaped standard 0 some)
 
 pub standard_sought : (q : ℕ) (M : Rep) (N : Matroid) → IsOrder q → KeepsLimits M → IsStandard M → HasMatroid M N → IsSought q N
 standard_sought q M N field k standard h =

@@ -47,7 +47,13 @@ module _ (r : ℕ) (place : Place) (inside : place.row < r) (past : r ≤ place.
 
   -- it is told at the place
   pub told_at : (n units later X : ℕ) → IsToldWith r place units later X → IsToldAt r n place.row place.column (members X)
-  told_at n units later X x = record { last = x.last; within = λ k l _. none_above X (place.column + 1) k x.below (omega arith); lacks = x.lacks; units = x.after }
+  told_at n units later X x = record {
+    last = x.last;
+    within = λ k l _. none_above X (place.column + 1) k x.below (omega arith);
+    lacks =
+        x.lacks;
+    units = x.after;
+  }
 
   -- and each set that is told there is such a set
   pub told_with : (n X : ℕ) → place.column < n → X < 2 ^ n → IsToldAt r n place.row place.column (members X)
@@ -86,7 +92,8 @@ module _ (r : ℕ) (place : Place) (inside : place.row < r) (past : r ≤ place.
 
 -- ---- the mask of such a set
 
-module _ (r : ℕ) (place : Place) (inside : place.row < r) (past : r ≤ place.column) (units later : ℕ) (units_below : units < 2 ^ place.row) (later_below : later < 2 ^ (place.column - r)) where
+module _ (r : ℕ) (place : Place) (inside : place.row < r) (past : r ≤ place.column) (units later : ℕ) (units_below : units < 2 ^ place.row)
+    (later_below : later < 2 ^ (place.column - r)) where
   abbrev Told : ℕ
   Told = bit_or (bit_or (bit_or units (2 ^ r - 2 ^ suc place.row)) (later * 2 ^ r)) (2 ^ place.column)
 
@@ -161,10 +168,12 @@ module _ (r : ℕ) (place : Place) (inside : place.row < r) (past : r ≤ place.
 
   -- as 16 bits hold it
   pub told_value : r ≤ 6 → place.column < 16
-      → IsToldWith r place units later (bit_or (bit_or (bit_or units (1 * 2 ^ r % 65536 - 2 * 2 ^ place.row % 65536)) (later * 2 ^ r % 65536)) (1 * 2 ^ place.column % 65536))
+      → IsToldWith r place units later
+      (bit_or (bit_or (bit_or units (1 * 2 ^ r % 65536 - 2 * 2 ^ place.row % 65536)) (later * 2 ^ r % 65536)) (1 * 2 ^ place.column % 65536))
   told_value few width =
       subst (IsToldWith r place units later)
-      (sym (λ t. bit_or (bit_or (bit_or units (one_shl r 16 (omega arith) t - two_shl place.row (omega arith) t)) (short t)) (one_shl place.column 16 width t)))
+      (sym (λ t. bit_or (bit_or (bit_or units (one_shl r 16 (omega arith) t - two_shl place.row (omega arith) t)) (short t))
+      (one_shl place.column 16 width t)))
       told_mask
     where
       short : later * 2 ^ r % 65536 ≡ later * 2 ^ r

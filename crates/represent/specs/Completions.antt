@@ -11,7 +11,8 @@ CompletesCodes q N codes L = Completes q N (filled q N codes) (row_at N.rank (le
 
 -- these entries are all of the least matrix that begins with the first ones
 abbrev pub IsLeastWith : ℕ → Matroid → List ℕ → List ℕ → Type 0
-IsLeastWith q N codes whole = IsLeastCompletion q N (filled q N codes) (row_at N.rank (length codes)) (column_at N.rank (length codes)) (filled q N whole)
+IsLeastWith q N codes whole =
+    IsLeastCompletion q N (filled q N codes) (row_at N.rank (length codes)) (column_at N.rank (length codes)) (filled q N whole)
 
 -- and there is none
 abbrev pub NoneWith : ℕ → Matroid → List ℕ → Type 0

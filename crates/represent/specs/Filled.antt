@@ -20,7 +20,11 @@ entry r codes l k = if nat_lt k r then unit l k else slice_index codes ((k - r) 
 
 -- the standard matrix with these entries
 abbrev pub filled : ℕ → Matroid → List ℕ → Rep
-filled q N codes = record { factors = q ∷ []; rank = N.rank; columns = map (λ k. map (λ l. entry N.rank codes l k) (range_with_len 0 N.rank)) (range_with_len 0 N.size) }
+filled q N codes = record {
+  factors = q ∷ [];
+  rank = N.rank;
+  columns = map (λ k. map (λ l. entry N.rank codes l k) (range_with_len 0 N.rank)) (range_with_len 0 N.size);
+}
 
 -- codes of the field, no more than there are entries
 pub record AreCodes (q : ℕ) (N : Matroid) (codes : List ℕ) : Type 0 where

@@ -7,9 +7,11 @@
 
 mod fill;
 mod free;
+mod laws;
 mod least;
 mod matrix;
 mod target;
 mod told;
 
+pub use laws::named_matroids_begin_with_base;
 pub use least::{represent, represent_minor};

@@ -53,7 +53,8 @@ fn place_of(rank: u8, place: usize) -> Place
 /// Whether the sets that have so many of the later columns before the place are bases exactly where they should be.
 fn keeps_with(target: &Target, matrix: &FactorColumns, place: Place, count: usize) -> bool
     requires { IsWithin (matroid_of target.now) place }
-    ensures { IsTrue result ↔ ((later : ℕ) → IsSetOfSize (place.column - target.now.rank) count later → KeepsWith (matroid_of target.now) matrix.now place later) }
+    ensures { IsTrue result ↔ ((later : ℕ) → IsSetOfSize (place.column - target.now.rank) count later →
+        KeepsWith (matroid_of target.now) matrix.now place later) }
 {
     let before = usize::from(place.column - target.rank);
     first_of_size(
@@ -89,7 +90,8 @@ fn keeps_set(
     requires place { IsWithin (matroid_of target.now) place }
     requires units { units < 2 ^ place.row }
     requires later { later < 2 ^ (place.column - target.now.rank) }
-    ensures { IsTrue result ↔ ((X : ℕ) → IsToldWith target.now.rank place units later X → KeepsSet (matroid_of target.now) matrix.now X) }
+    ensures { IsTrue result ↔ ((X : ℕ) → IsToldWith target.now.rank place units later X →
+        KeepsSet (matroid_of target.now) matrix.now X) }
 {
     let set = told_set(target.rank, place, units, later);
     set.count_ones() != u32::from(target.rank)

@@ -11,7 +11,8 @@ abbrev IsBasisBelow : Rep → ℕ → ℕ → Type 0
 IsBasisBelow M n X = (X < n) × IsBasis M 0 (members X)
 
 -- one more mask, a basis or not
-with_basis : (M : Rep) (set X : ℕ) (old new : List ℕ) → Contains new X ↔ (Contains old X ⊎ (set ≡ X)) → IsBasis M 0 (members set) → Contains old X ↔ IsBasisBelow M set X → Contains new X ↔ IsBasisBelow M (set + 1) X
+with_basis : (M : Rep) (set X : ℕ) (old new : List ℕ) → Contains new X ↔ (Contains old X ⊎ (set ≡ X)) → IsBasis M 0 (members set)
+    → Contains old X ↔ IsBasisBelow M set X → Contains new X ↔ IsBasisBelow M (set + 1) X
 with_basis M set X old new e s h = (
   (λ c. elim (e.0 c) [
     | inl o ↦ (let w : IsBasisBelow M set X = h.0 o in let l : X < set = w.0 in (omega arith, w.1))
@@ -23,7 +24,8 @@ with_basis M set X old new e s h = (
   ])),
 )
 
-without_basis : (M : Rep) (set X : ℕ) (old : List ℕ) → ¬ (IsBasis M 0 (members set)) → Contains old X ↔ IsBasisBelow M set X → Contains old X ↔ IsBasisBelow M (set + 1) X
+without_basis : (M : Rep) (set X : ℕ) (old : List ℕ) → ¬ (IsBasis M 0 (members set)) → Contains old X ↔ IsBasisBelow M set X
+    → Contains old X ↔ IsBasisBelow M (set + 1) X
 without_basis M set X old out h = (
   (λ c. let w : IsBasisBelow M set X = h.0 c in let l : X < set = w.0 in (omega arith, w.1)),
   (λ w. elim (cases_lt X set) [
@@ -36,9 +38,11 @@ pub loop-set-preserved : goal.loop-set-preserved
 loop-set-preserved c X =
     elim c.if-is_basis.branch [
       | then-is_basis w ↦ subst (λ (t : List ℕ). Contains t X ↔ IsBasisBelow c.args.rep.now (c.loop-set.set + 1) X) (sym w.table-is)
-          (with_basis c.args.rep.now c.loop-set.set X c.loop-set.table w.add.new.self (w.add.ensures X) (c.is_basis.ensures.0 w.if-is_basis.true) (c.loop-set.invariant X))
+          (with_basis c.args.rep.now c.loop-set.set X c.loop-set.table w.add.new.self (w.add.ensures X)
+              (c.is_basis.ensures.0 w.if-is_basis.true) (c.loop-set.invariant X))
       | else-is_basis w ↦ subst (λ (t : List ℕ). Contains t X ↔ IsBasisBelow c.args.rep.now (c.loop-set.set + 1) X) (sym w.table-is)
-          (without_basis c.args.rep.now c.loop-set.set X c.loop-set.table (λ b. false≢true (sym w.if-is_basis.false ∙ c.is_basis.ensures.1 b)) (c.loop-set.invariant X))
+          (without_basis c.args.rep.now c.loop-set.set X c.loop-set.table
+              (λ b. false≢true (sym w.if-is_basis.false ∙ c.is_basis.ensures.1 b)) (c.loop-set.invariant X))
     ]
 
 pub returns : goal.returns

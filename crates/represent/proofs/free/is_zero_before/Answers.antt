@@ -5,11 +5,13 @@ use Rattle.represent.proofs.free.is_zero_before.Goals as goal
 
 -- the entry of the row in one of the columns
 zero_there : (codes : List ℕ) (r n k : ℕ) → n ≡ length codes → k < n / r
-    → ((j : ℕ) → r ≤ j → j < column_at r (length codes) → slice_index codes ((j - r) * r + row_at r (length codes)) ≡ 0) → slice_index codes (k * r + n % r) ≡ 0
+    → ((j : ℕ) → r ≤ j → j < column_at r (length codes) → slice_index codes ((j - r) * r + row_at r (length codes)) ≡ 0)
+    → slice_index codes (k * r + n % r) ≡ 0
 zero_there codes r n k e l h =
     let g : k < length codes / r = subst (λ m. k < m / r) e l in
     let d : r + k - r ≡ k = omega arith in
-    subst (λ m. slice_index codes (k * r + m % r) ≡ 0) (sym e) (subst (λ j. slice_index codes (j * r + length codes % r) ≡ 0) d (h (r + k) (omega arith) (omega arith)))
+    subst (λ m. slice_index codes (k * r + m % r) ≡ 0) (sym e)
+    (subst (λ j. slice_index codes (j * r + length codes % r) ≡ 0) d (h (r + k) (omega arith) (omega arith)))
 
 pub returns-then-deref-column-ne0 : goal.returns-then-deref-column-ne0
 returns-then-deref-column-ne0 c = (

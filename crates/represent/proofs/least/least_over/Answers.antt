@@ -14,4 +14,5 @@ pub returns-clause-found : goal.returns-clause-found
 returns-clause-found c =
     subst (IsLeastOver c.args.target.now.order (matroid_of c.args.target.now)) (sym c.filled.ensures)
     (least_found c.args.target.now.order (matroid_of c.args.target.now) c.requires c.in_ok-codes.codes.items
-    (subst (λ (xs : List ℕ). IsLeastWith c.args.target.now.order (matroid_of c.args.target.now) xs c.in_ok-codes.codes.items) c.new.ensures c.in_ok-codes.ensures.found))
+    (subst (λ (xs : List ℕ). IsLeastWith c.args.target.now.order
+    (matroid_of c.args.target.now) xs c.in_ok-codes.codes.items) c.new.ensures c.in_ok-codes.ensures.found))

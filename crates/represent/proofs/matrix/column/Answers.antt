@@ -5,7 +5,8 @@ use Rattle.represent.specs.Filled.{entry}
 use Rattle.represent.proofs.matrix.column.Goals as goal
 
 -- one more code
-one_more : (f : ℕ → ℕ) (i v : ℕ) (old new : List ℕ) → new ≡ old ++ v ∷ [] → v ≡ f i → old ≡ map f (range_with_len 0 i) → new ≡ map f (range_with_len 0 (i + 1))
+one_more : (f : ℕ → ℕ) (i v : ℕ) (old new : List ℕ) → new ≡ old ++ v ∷ [] → v ≡ f i → old ≡ map f (range_with_len 0 i)
+    → new ≡ map f (range_with_len 0 (i + 1))
 one_more f i v old new e d h = e ∙ (λ t. h t ++ d t ∷ []) ∙ sym (map-range_with_len_more f 0 i i (omega arith))
 
 pub loop-i-preserved : goal.loop-i-preserved

@@ -4,4 +4,8 @@ use Rattle.represent.specs.Filled.{entry}
 use Rattle.represent.proofs.matrix.column.Given as goal
 
 abbrev pub invariant-loop-i : goal.invariant-loop-i
-invariant-loop-i l = record { rows : length l.column.items ≡ l.i; codes : l.column.items ≡ map (λ i. entry l.rank l.codes.items i l.j) (range_with_len 0 l.i) }
+invariant-loop-i l = record {
+  rows : length l.column.items ≡ l.i;
+  codes : l.column.items ≡ map (λ i. entry l.rank l.codes.items i l.j)
+      (range_with_len 0 l.i);
+}

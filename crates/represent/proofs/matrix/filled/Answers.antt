@@ -19,15 +19,19 @@ push_column-requires-clause-room c =
 pub push_column-requires-clause-column : goal.push_column-requires-clause-column
 push_column-requires-clause-column c =
     subst (λ (P : Rep). IsProductColumn P.factors P.rank c.column.result.items) (sym c.loop-j.invariant)
-    (column_fits c.args.target.now.order (matroid_of c.args.target.now) c.requires.sought c.args.codes.now.items c.requires.codes c.loop-j.j c.loop-j-test.true c.column.result.items c.column.ensures)
+    (column_fits c.args.target.now.order
+    (matroid_of c.args.target.now) c.requires.sought c.args.codes.now.items c.requires.codes c.loop-j.j c.loop-j-test.true c.column.result.items c.column.ensures)
 
 -- one more column
-one_more : (q : ℕ) (N : Matroid) (codes : List ℕ) (j : ℕ) (v : List ℕ) (old new : Rep) → new ≡ followed_by old v → v ≡ map (λ i. entry N.rank codes i j) (range_with_len 0 N.rank)
+one_more : (q : ℕ) (N : Matroid) (codes : List ℕ) (j : ℕ) (v : List ℕ) (old new : Rep) → new ≡ followed_by old v
+    → v ≡ map (λ i. entry N.rank codes i j) (range_with_len 0 N.rank)
     → old ≡ filled q (record N { size = j }) codes → new ≡ filled q (record N { size = j + 1 }) codes
 one_more q N codes j v old new e d h =
     e ∙ (λ t. followed_by (h t) (d t))
-    ∙ ap (λ (columns : List (List ℕ)). record { factors = q ∷ []; rank = N.rank; columns = columns }) (sym (map-range_with_len_more (λ k. map (λ i. entry N.rank codes i k) (range_with_len 0 N.rank)) 0 j j (omega arith)))
+    ∙ ap (λ (columns : List (List ℕ)). record { factors = q ∷ []; rank = N.rank; columns = columns })
+    (sym (map-range_with_len_more (λ k. map (λ i. entry N.rank codes i k) (range_with_len 0 N.rank)) 0 j j (omega arith)))
 
 pub loop-j-preserved : goal.loop-j-preserved
 loop-j-preserved c =
-    one_more c.args.target.now.order (matroid_of c.args.target.now) c.args.codes.now.items c.loop-j.j c.column.result.items c.loop-j.rep c.push_column.new.self c.push_column.ensures c.column.ensures c.loop-j.invariant
+    one_more c.args.target.now.order
+    (matroid_of c.args.target.now) c.args.codes.now.items c.loop-j.j c.column.result.items c.loop-j.rep c.push_column.new.self c.push_column.ensures c.column.ensures c.loop-j.invariant

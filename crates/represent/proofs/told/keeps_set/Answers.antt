@@ -13,8 +13,10 @@ pub returns-then-set-from : goal.returns-then-set-from
 returns-then-set-from c =
     let w = c.requires.place in (
       (λ _ X t full.
-          let e : c.told_set-set.result ≡ X = told_once c.args.target.now.rank c.args.place w.row w.past c.args.units c.args.later c.told_set-set.result X c.told_set-set.ensures t in
-          let k : size_below c.args.target.now.size (members X) ≡ count_ones X = told_size (matroid_of c.args.target.now) c.args.place c.args.units c.args.later X w.column t in
+          let e : c.told_set-set.result ≡ X =
+          told_once c.args.target.now.rank c.args.place w.row w.past c.args.units c.args.later c.told_set-set.result X c.told_set-set.ensures t in
+          let k : size_below c.args.target.now.size (members X) ≡ count_ones X =
+          told_size (matroid_of c.args.target.now) c.args.place c.args.units c.args.later X w.column t in
           absurd (c.if-set-from.true ((λ i. count_ones (e i)) ∙ sym k ∙ full ∙ sym c.from.ensures))),
       (λ _. search rules),
     )

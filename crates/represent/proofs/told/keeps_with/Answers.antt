@@ -8,6 +8,8 @@ use Rattle.represent.proofs.told.keeps_with.Goals as goal
 
 pub returns : goal.returns
 returns c =
-    subst (λ (n : ℕ). IsTrue c.is_none.result ↔ ((later : ℕ) → IsSetOfSize n c.args.count later → KeepsWith (matroid_of c.args.target.now) c.args.matrix.now c.args.place later)) c.from-before.ensures
+    subst (λ (n : ℕ). IsTrue c.is_none.result ↔
+    ((later : ℕ) → IsSetOfSize n c.args.count later
+    → KeepsWith (matroid_of c.args.target.now) c.args.matrix.now c.args.place later)) c.from-before.ensures
     (no_set_found (IsSetOfSize c.from-before.result c.args.count) _ (KeepsWith (matroid_of c.args.target.now) c.args.matrix.now c.args.place)
     c.first_of_size.result c.is_none.result c.is_none.ensures (λ X s b e. search (rules, opposite)) c.first_of_size.ensures)
