@@ -109,7 +109,7 @@ same_bit a b l m e = elim (cases_eq a 1) [
   | inr n ↦ elim (cases_eq b 1) [ inl y ↦ absurd (true≢false (sym (same_number 1) ∙ sym (ap (λ z. z == 1) y) ∙ sym e ∙ other_number a 1 n)) | inr o ↦ omega arith ]
 ]
 
-same_mask : (n X Y : ℕ) → X < 2 ^ n → Y < 2 ^ n → ((j : ℕ) → j < n → members X j ≡ members Y j) → X ≡ Y
+pub same_mask : (n X Y : ℕ) → X < 2 ^ n → Y < 2 ^ n → ((j : ℕ) → j < n → members X j ≡ members Y j) → X ≡ Y
 same_mask n X Y l m h = same_from_bits_below n X Y l m (λ j b. same_bit (bit_at X j) (bit_at Y j) (bit_at-lt X j) (bit_at-lt Y j) (h j b))
 
 -- the set of the first r of n numbers has the mask 2^r - 1
@@ -119,7 +119,7 @@ first_mask n r X l b h =
     let s : X ≡ mask n (λ j. nat_lt j r) = same_mask n X (mask n (λ j. nat_lt j r)) b (mask-below n (λ j. nat_lt j r)) (λ j m. h j m ∙ sym (members-mask n (λ j. nat_lt j r) j m)) in
     omega arith
 
-first_members : (n r : ℕ) → r ≤ n → (k : ℕ) → k < n → members (2 ^ r - 1) k ≡ nat_lt k r
+pub first_members : (n r : ℕ) → r ≤ n → (k : ℕ) → k < n → members (2 ^ r - 1) k ≡ nat_lt k r
 first_members n r l k m =
     let e : mask n (λ j. nat_lt j r) + 1 ≡ 2 ^ r = mask_first n r l in
     let s : 2 ^ r - 1 ≡ mask n (λ j. nat_lt j r) = omega arith in

@@ -1,0 +1,2 @@
+mod TableBits
+mod TableMasks

@@ -1,0 +1,7 @@
+mod Places
+mod FilledMatrices
+mod Completing
+mod ToldSets
+mod KeptSets
+mod Targets
+mod NamedBases

@@ -1,0 +1,4 @@
+pub mod Sought
+pub mod Filled
+pub mod Kept
+pub mod Completions

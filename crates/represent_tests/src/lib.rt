@@ -1,0 +1,5 @@
+//! Tests of representations over another field.
+#![tactic(auto)]
+
+#[cfg(test)]
+mod tests;
