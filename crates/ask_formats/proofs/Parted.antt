@@ -36,9 +36,12 @@ module _ (sep : List ℕ) (n : ℕ) where
   pub parted-at : (groups : List (List (List ℕ))) → AreEven n groups → (f j : ℕ) → f < length groups → j < n
       → slice_index_or (parted sep groups) (f * suc n + j) [] ≡ slice_index_or (slice_index_or groups f []) j []
   parted-at [] even f j l m = absurd (omega arith)
-  parted-at (x ∷ []) even zero j l m = refl
+  parted-at (x ∷ []) even zero j l m = let k : zero * suc n + j ≡ j = omega arith in ap (λ (i : ℕ). slice_index_or x i []) k
   parted-at (x ∷ []) even (suc f) j l m = absurd (omega arith)
-  parted-at (x ∷ y ∷ more) even zero j l m = let e : length x ≡ n = even 0 (omega arith) in first_at x (sep ∷ parted sep (y ∷ more)) j (omega arith)
+  parted-at (x ∷ y ∷ more) even zero j l m =
+      let e : length x ≡ n = even 0 (omega arith) in
+      let k : zero * suc n + j ≡ j = omega arith in
+      ap (λ (i : ℕ). slice_index_or (x ++ sep ∷ parted sep (y ∷ more)) i []) k ∙ first_at x (sep ∷ parted sep (y ∷ more)) j (omega arith)
   parted-at (x ∷ y ∷ more) even (suc f) j l m =
       next_at x (parted sep (y ∷ more)) f j (even 0 (omega arith)) ∙ parted-at (y ∷ more) (later n x (y ∷ more) even) f j (omega arith) m
 
@@ -46,7 +49,7 @@ module _ (sep : List ℕ) (n : ℕ) where
   parted-between [] even f l = absurd (omega arith)
   parted-between (x ∷ []) even f l = absurd (omega arith)
   parted-between (x ∷ y ∷ more) even zero l =
-      let k : n ≡ n + 0 = omega arith in
+      let k : zero * suc n + n ≡ n + 0 = omega arith in
       ap (λ (i : ℕ). slice_index_or (x ++ sep ∷ parted sep (y ∷ more)) i []) k ∙ behind_at x (sep ∷ parted sep (y ∷ more)) 0 (even 0 (omega arith))
   parted-between (x ∷ y ∷ more) even (suc f) l =
       next_at x (parted sep (y ∷ more)) f n (even 0 (omega arith)) ∙ parted-between (y ∷ more) (later n x (y ∷ more) even) f (omega arith)

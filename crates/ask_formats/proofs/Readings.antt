@@ -1,5 +1,5 @@
 -- The words of a representation, place by place, and that they tell it.
-use Rattle.std.proofs.Common.{◌≡◌, ◌≢◌, ℕ, zero, suc, ◌+◌, ◌-◌, ◌*◌, ◌<◌, ◌≤◌, refl, sym, ◌∙◌, ap, subst, arith, List, [], ◌∷◌, ◌++◌, map, length, take, drop, inl, inr, ◌×◌}
+use Rattle.std.proofs.Common.{◌≡◌, ◌≢◌, ℕ, zero, suc, ◌+◌, ◌-◌, ◌*◌, ◌<◌, ◌≤◌, refl, sym, ◌∙◌, ap, subst, arith, List, [], ◌∷◌, ◌++◌, map, length, take, drop, inl, inr}
 use Rattle.std.specs.Prelude.{codes, decimal}
 use Rattle.std.specs.List.{range_with_len, slice_index, slice_index_or}
 use Rattle.std.proofs.lemmas.Bool.{cases_lt}
@@ -15,7 +15,7 @@ use Rattle.formats.specs.Statement.{column_word, entry_letter}
 use Rattle.formats.specs.Levels.{columns_of, columns_of_factor}
 use Rattle.formats.proofs.Unique.{order_small, letter_same}
 use Rattle.ask_formats.specs.Question.{field_words, form_words, representation_words, CanBeSpelled}
-use Rattle.ask_formats.specs.Places.{word_at, column_place, AreReadAsFactors, AreReadAsColumns, IsReadAsEntry, IsReadAs}
+use Rattle.ask_formats.specs.Places.{word_at, column_place, IsOrderCount, AreReadAsFactors, AreReadAsColumns, IsReadAsEntry, IsReadAs}
 use Rattle.ask_formats.proofs.Parted.{AreEven, parted-length, parted-at, parted-between, parted-from}
 use Rattle.ask_formats.proofs.Letters.{letter_not_x, word-length, letter-at, word-from}
 
@@ -97,17 +97,21 @@ module _ (M : Rep) (c : CanBeSpelled M) where
   reads : IsReadAs (representation_words M) M
   reads = record {
     orders = record {
+      count = record {
+        some = some_factor;
+        few = c.limits.fields.few;
+        between = λ f l.
+            field_at (f * 2 + 1) (omega arith)
+            ∙ parted-between (codes "x") 1 (order_groups M.factors) (orders_even M.factors) f (subst (λ (n : ℕ). f + 1 < n) (sym (orders_many M.factors)) l);
+        behind = λ _ e.
+            let p : count M * 2 - 1 ≡ column_place (count M) (size M) 0 0 = omega arith in
+            first_not_x (sym (cell_at 0 0 some_factor c.some) ∙ ap (λ (k : ℕ). word_at (representation_words M) k) (sym p) ∙ e);
+      };
       spelled = λ f l.
           let p : f * 2 ≡ f * 2 + 0 = omega arith in
           field_at (f * 2) (omega arith) ∙ ap (λ (k : ℕ). word_at (field_words M.factors) k) p
           ∙ parted-at (codes "x") 1 (order_groups M.factors) (orders_even M.factors) f 0 (subst (λ (n : ℕ). f < n) (sym (orders_many M.factors)) l) (omega arith)
           ∙ ap (λ (g : List (List ℕ)). slice_index_or g 0 []) (order_group M.factors f l);
-      between = λ f l.
-          field_at (f * 2 + 1) (omega arith)
-          ∙ parted-between (codes "x") 1 (order_groups M.factors) (orders_even M.factors) f (subst (λ (n : ℕ). f + 1 < n) (sym (orders_many M.factors)) l);
-      behind = λ _ e.
-          let p : count M * 2 - 1 ≡ column_place (count M) (size M) 0 0 = omega arith in
-          first_not_x (sym (cell_at 0 0 some_factor c.some) ∙ ap (λ (k : ℕ). word_at (representation_words M) k) (sym p) ∙ e);
     };
     layout = record {
       total =
@@ -148,7 +152,7 @@ module _ (M : Rep) (c : CanBeSpelled M) where
         get_or-take fronts words (f * 2 + j) [] (omega arith) ∙ ap (λ (k : ℕ). word_at words k) p ∙ h.orders.spelled f l'
         ∙ sym (ap (λ (k : ℕ). slice_index_or (slice_index_or (order_groups M.factors) f []) k []) z ∙ ap (λ (g : List (List ℕ)). slice_index_or g 0 []) (order_group M.factors f l')))
         (λ f l. let l' : f + 1 < count M = subst (λ (n : ℕ). f + 1 < n) (orders_many M.factors) l in
-        get_or-take fronts words (f * 2 + 1) [] (omega arith) ∙ h.orders.between f l')
+        get_or-take fronts words (f * 2 + 1) [] (omega arith) ∙ h.orders.count.between f l')
 
     back_is : drop fronts words ≡ form_words (columns_of M)
     unfolding fronts
@@ -177,22 +181,21 @@ module _ (M : Rep) (c : CanBeSpelled M) where
 
 module _ (words : List (List ℕ)) where
   -- there can't be more orders than these
-  not_more : (xs ys : List ℕ) → IsFactors xs → IsFactors ys → AreReadAsFactors words xs → AreReadAsFactors words ys → length ys ≤ length xs
-  not_more xs ys p q a b =
-      elim (cases_lt (length xs) (length ys)) [
+  not_more : (m n : ℕ) → IsOrderCount words m → IsOrderCount words n → n ≤ m
+  not_more m n a b =
+      elim (cases_lt m n) [
         | inl l ↦ (
-          let s : 0 < length xs = p.some in
-          let w : length ys ≤ 3 = q.few in
-          let e : (length xs - 1) * 2 + 1 ≡ length xs * 2 - 1 = omega arith in
-          absurd (a.behind (omega arith) (ap (word_at words) (sym e) ∙ b.between (length xs - 1) (omega arith))))
+          let e : (m - 1) * 2 + 1 ≡ m * 2 - 1 = omega (arith, a.some) in
+          absurd (a.behind (omega (arith, b.few)) (ap (word_at words) (sym e) ∙ b.between (m - 1) (omega (arith, a.some)))))
         | inr g ↦ g
       ]
 
+  pub same_count : (m n : ℕ) → IsOrderCount words m → IsOrderCount words n → m ≡ n
+  same_count m n a b = let p : n ≤ m = not_more m n a b in let q : m ≤ n = not_more n m b a in omega arith
+
   pub same_orders : (xs ys : List ℕ) → IsFactors xs → IsFactors ys → AreReadAsFactors words xs → AreReadAsFactors words ys → xs ≡ ys
   same_orders xs ys p q a b =
-      let m : length ys ≤ length xs = not_more xs ys p q a b in
-      let n : length xs ≤ length ys = not_more ys xs q p b a in
-      let e : length xs ≡ length ys = omega arith in
+      let e : length xs ≡ length ys = same_count (length xs) (length ys) a.count b.count in
       ext_get_or 0 xs ys e (λ f l.
       let l' : f < length ys = omega arith in
       let s : slice_index xs f < 14 = order_small (slice_index xs f) (p.fields f l) in

@@ -1,5 +1,5 @@
 -- Which word of a representation stands at which place.
-use Rattle.std.specs.Prelude.{ℕ, suc, ◌+◌, ◌-◌, ◌*◌, ◌<◌, ◌≡◌, ◌≢◌, List, [], length, codes, decimal, slice_index, slice_index_or}
+use Rattle.std.specs.Prelude.{ℕ, suc, ◌+◌, ◌-◌, ◌*◌, ◌<◌, ◌≤◌, ◌≡◌, ◌≢◌, List, [], length, codes, decimal, slice_index, slice_index_or}
 use Rattle.matroid_theory.specs.Rep.{Rep, count, size, matrix}
 use Rattle.formats.specs.Statement.{entry_letter}
 
@@ -7,11 +7,16 @@ use Rattle.formats.specs.Statement.{entry_letter}
 abbrev pub word_at : List (List ℕ) → ℕ → List ℕ
 word_at words k = slice_index_or words k []
 
--- The orders stand at the even places before the columns, with `x` between them and no other behind the last, unless there are three.
+-- so many orders stand at the even places: `x` is between them, and behind the last, unless it is the third, something else
+pub record IsOrderCount (words : List (List ℕ)) (count : ℕ) : Type 0 where
+  pub some : 0 < count
+  pub few : count ≤ 3
+  pub between : (f : ℕ) → f + 1 < count → word_at words (f * 2 + 1) ≡ codes "x"
+  pub behind : count < 3 → word_at words (count * 2 - 1) ≢ codes "x"
+
 pub record AreReadAsFactors (words : List (List ℕ)) (orders : List ℕ) : Type 0 where
+  pub count : IsOrderCount words (length orders)
   pub spelled : (f : ℕ) → f < length orders → word_at words (f * 2) ≡ decimal (slice_index orders f)
-  pub between : (f : ℕ) → f + 1 < length orders → word_at words (f * 2 + 1) ≡ codes "x"
-  pub behind : length orders < 3 → word_at words (length orders * 2 - 1) ≢ codes "x"
 
 -- where column j of factor f stands, for so many factors and columns
 abbrev pub column_place : ℕ → ℕ → ℕ → ℕ → ℕ
