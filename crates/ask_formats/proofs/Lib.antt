@@ -1,0 +1,4 @@
+pub mod Parted
+pub mod Letters
+pub mod Readings
+pub mod Asked

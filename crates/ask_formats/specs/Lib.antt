@@ -1,0 +1,4 @@
+pub mod Question
+pub mod Answer
+pub mod Places
+pub mod Status

@@ -1,0 +1,6 @@
+//! The dual form of a represented matroid.
+#![tactic(auto)]
+
+mod dual;
+
+pub use dual::{dual_of, standard_dual};
