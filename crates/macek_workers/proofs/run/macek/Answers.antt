@@ -51,3 +51,24 @@ returns-in-None-clause-complete_refused g c = λ text why asks wrong source.
     let asked : IsAsked StandsAtMacek words c.in-Ok-Some.asked.workers None false =
     asked_from words _ _ _ c.in-Ok-Some.ensures.reads c.in-Ok-Some.field-0-is sample_is in
     c.list_source.ensures.complete_refused text why (left_known _ text (known_text words c.in-Ok-Some.asked.workers None false asked _ text asks)) wrong source
+
+pub returns-in-Some-clause-no_memory : goal.returns-in-Some-clause-no_memory
+returns-in-Some-clause-no_memory g c = λ same.
+    let words = texts_of c.args.words.now in
+    let sample_is : c.in-Ok-Some.asked.sample ≡ Some c.in-Some.number = rw c.in-Ok-Some.field-0-is at c.in-Some.is in
+    let asked : IsAsked StandsAtMacek words c.in-Ok-Some.asked.workers (Some c.in-Some.number) false =
+    asked_from words _ _ _ c.in-Ok-Some.ensures.reads c.in-Ok-Some.field-0-is sample_is in
+    let (gains, closed) = c.write_listing.ensures.no_memory same in
+    inr (sample_lists words _ c.in-Ok-Some.asked.workers c.in-Some.number c.sample_request-request.result _ _ _ asked c.sample_request-request.ensures
+    (record { written = gains.written; gained = gains.gained; part = (gains.part, closed) }))
+
+pub returns-in-None-clause-no_memory : goal.returns-in-None-clause-no_memory
+returns-in-None-clause-no_memory g c = λ same.
+    let words = texts_of c.args.words.now in
+    let sample_is : c.in-Ok-Some.asked.sample ≡ None = rw c.in-Ok-Some.field-0-is at c.in-None.is in
+    let asked : IsAsked StandsAtMacek words c.in-Ok-Some.asked.workers None false =
+    asked_from words _ _ _ c.in-Ok-Some.ensures.reads c.in-Ok-Some.field-0-is sample_is in
+    elim (c.list_source.ensures.no_memory same) [
+      | inl nothing ↦ inl nothing
+      | inr lists ↦ inr (none_lists words _ c.in-Ok-Some.asked.workers _ _ _ asked lists)
+    ]
