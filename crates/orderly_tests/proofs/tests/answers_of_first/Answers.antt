@@ -29,7 +29,8 @@ of-column-items-requires-clause-room c =
     p.room
 
 pub loop-column-init : goal.loop-column-init
-loop-column-init c = ap (λ (columns : ColumnsAfter). columns.parent) (c.into_iter-column-iterator.ensures.into_iter_gives ∙ c.of-column-items.ensures)
+loop-column-init c = ap (λ (columns : ColumnsAfter). columns.parent) (c.into_iter-column-iterator.ensures.into_iter_gives ∙
+    c.of-column-items.ensures)
 
 pub loop-column-preserved : goal.loop-column-preserved
 loop-column-preserved c = ap (λ (columns : ColumnsAfter). columns.parent) c.in-Some-column.ensures.steps.1 ∙ c.loop-column.invariant

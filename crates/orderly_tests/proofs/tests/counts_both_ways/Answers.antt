@@ -1,11 +1,12 @@
-use Rattle.std.proofs.Common.{◌+◌, ◌≤◌, ℕ, sym, subst, arith}
+use Rattle.std.proofs.Common.{◌≤◌, ℕ, sym, subst, arith}
 use Rattle.level_driver.specs.Grown.{IsLevelOf}
 use Rattle.orderly_tests.proofs.tests.counts_both_ways.Goals as goal
 
 pub loop-init : goal.loop-init
 loop-init g c = record {
   at_least = (let e = c.rank-counter.ensures in omega arith);
-  level = subst (λ (n : ℕ). IsLevelOf c.in_ok-request.request n c.in_ok-level.level.forms) (sym c.rank-counter.ensures) c.in_ok-level.ensures.forms;
+  level = subst (λ (n : ℕ). IsLevelOf c.in_ok-request.request n c.in_ok-level.level.forms) (sym c.rank-counter.ensures)
+      c.in_ok-level.ensures.forms;
 }
 
 pub grow_alone-requires : goal.grow_alone-requires
