@@ -12,7 +12,7 @@ use Rattle.orderly.proofs.level.keep_children.Goals as goal
 pub loop-column-init : goal.loop-column-init
 loop-column-init c =
     let start : c.into_iter-column-iterator.result ≡ record { parent = c.args.parent.now; last = [] } =
-        c.into_iter-column-iterator.ensures.into_iter_gives ∙ c.of-column-items.ensures in
+    c.into_iter-column-iterator.ensures.into_iter_gives ∙ c.of-column-items.ensures in
     record {
       same = ap (λ (columns : ColumnsAfter). columns.parent) start;
       so_far = kept_none c.args.mode (matroids_of c.args.forbidden.now) c.args.forms.now c.args.parent.now c.laws.ensures.fields.some
@@ -34,7 +34,7 @@ loop-column-preserved c =
       so_far = kept_same c.loop-column.column-iterator c.in-Some.column.items steps.0 c.args.mode Ns c.args.forms.now c.loop-column.forms
           c.loop-column.tried c.next.new.self steps.1 progress.2 c.loop-column.invariant.so_far
           (λ avoids. c.in_default.ensures (subst (λ (P : Rep). Avoids Ns (followed_by P c.in-Some.column.items))
-              c.loop-column.invariant.same avoids));
+          c.loop-column.invariant.same avoids));
     }
 
 pub loop-column-preserved-in-Some-candidate : goal.loop-column-preserved-in-Some-candidate
@@ -57,11 +57,11 @@ returns-clause-count c =
     let Ns : List Matroid = matroids_of c.args.forbidden.now in
     subst (λ (P : Rep). IsCount (IsCandidate Ns P) c.loop-column.tried) c.loop-column.invariant.same
     (kept_count c.args.mode Ns c.args.forms.now c.loop-column.forms c.loop-column.column-iterator c.loop-column.tried
-        c.loop-column.invariant.so_far c.in-None.ensures.steps.0)
+    c.loop-column.invariant.so_far c.in-None.ensures.steps.0)
 
 pub returns-clause-forms : goal.returns-clause-forms
 returns-clause-forms c =
     let Ns : List Matroid = matroids_of c.args.forbidden.now in
     subst (λ (P : Rep). AddsKept c.args.mode Ns P c.args.forms.now c.loop-column.forms) c.loop-column.invariant.same
     (kept_all c.args.mode Ns c.args.forms.now c.loop-column.forms c.loop-column.column-iterator c.loop-column.tried
-        c.loop-column.invariant.so_far c.in-None.ensures.steps.0)
+    c.loop-column.invariant.so_far c.in-None.ensures.steps.0)

@@ -33,7 +33,7 @@ pub keep_children-requires : goal.keep_children-requires
 keep_children-requires c =
     let at = in_list c.args.parents.now c.loop-i.i c.in-Some.parent.now c.in-Some.ensures in
     each_parent c.args.request.now (matroids_of c.forbid-forbidden.result.now) c.forbid-forbidden.ensures.given c.laws.ensures.factors
-        c.laws.ensures.limits
+    c.laws.ensures.limits
     c.requires.0 c.args.parents.now c.requires.1 c.in-Some.parent.now (c.loop-i.i, at.0, sym at.1)
 
 pub loop-i-preserved : goal.loop-i-preserved
@@ -46,10 +46,10 @@ loop-i-preserved c =
       so_far = subst (λ (k : ℕ). HasKeptAll c.mode-mode.result Ns (take (c.loop-i.i + 1) parents) (c.loop-i.tried + k)
           c.keep_children.new.forms) (sym c.from.ensures)
           (all_step parents (parents_rise q Ns c.forbid-forbidden.ensures.given c.laws.ensures.factors c.laws.ensures.limits c.requires.0
-              parents c.requires.1)
+          parents c.requires.1)
           (of_one_size q Ns c.forbid-forbidden.ensures.given c.requires.0 parents c.requires.1) c.loop-i.i c.in-Some.parent.now at.0 at.1
           c.mode-mode.result Ns c.loop-i.tried c.in_ok-keep_children.field-0 c.loop-i.forms c.keep_children.new.forms
-              c.loop-i.invariant.so_far
+          c.loop-i.invariant.so_far
           c.in_ok-keep_children.ensures.count c.in_ok-keep_children.ensures.forms);
       few = (let e = c.from.ensures in let f = c.loop-i.invariant.few in omega arith);
     }
