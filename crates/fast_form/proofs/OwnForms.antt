@@ -1,11 +1,11 @@
 -- Which representations are forms: those that are above none that moves take them to, whatever the powers.
-use Rattle.std.proofs.Common.{◌≡◌, ◌≢◌, ◌↔◌, ℕ, ◌+◌, ◌<◌, ◌≤◌, inl, inr, sym, ◌∙◌, arith}
+use Rattle.std.proofs.Common.{◌≡◌, ◌≢◌, ◌↔◌, ℕ, ◌+◌, ◌<◌, inl, inr, sym, ◌∙◌, arith}
 use Rattle.std.specs.Cmp.{IsTotalOrder}
 use Rattle.std.specs.Cmp.Lexicographic.{slice_cmp}
 use Rattle.std.specs.Ordering.{nat_cmp}
 use Rattle.std.specs.declared.cmp.Ordering.TheVariants.{Equal, Greater}
 use Rattle.std.proofs.lemmas.Bool.{cases_lt}
-use Rattle.matroid_theory.specs.declared.Mode.TheVariants.{Linear, Semilinear}
+use Rattle.matroid_theory.specs.declared.Mode.TheVariants.{Linear}
 use Rattle.matroid_theory.specs.Field.{degree}
 use Rattle.matroid_theory.specs.Rep.{Rep, count, order, IsShaped, IsStandard}
 use Rattle.matroid_theory.specs.Matroid.{IsRepresentation}
@@ -15,15 +15,8 @@ use Rattle.matroid_theory.specs.Powers.{IsRaised, AreEquivalentFrom}
 use Rattle.matroid_theory.proofs.Compared.{not_above_trans}
 use Rattle.matroid_theory.proofs.Equivalence.{equivalent-reflexive, equivalent-symmetric, equivalent-transitive}
 use Rattle.matroid_theory.proofs.Levels.{columns_total}
-use Rattle.matroid_theory.proofs.Semilinear.{from-linear, linear-from, from-semilinear, semilinear-from, from_raised, to_raised}
+use Rattle.matroid_theory.proofs.Semilinear.{from_raised, to_raised}
 use Rattle.fast_form.specs.NotAbove.{IsNotAboveClass, IsNotAboveFrom}
-
--- of a standard representation
-pub semilinear_own : (M : Rep) → IsRepresentation M → IsStandard M → IsNotAboveFrom 0 M M ↔ IsForm Semilinear M
-semilinear_own M r s = (
-  λ h. record { representation = r; standard = s; least = λ L u e. h L u (from-semilinear M L e) },
-  λ f L u e. f.least L u (semilinear-from 0 M L e),
-)
 
 -- ---- no powers
 
@@ -48,21 +41,11 @@ form_enough M R N f e = (
 pub above_own : (M R : Rep) → IsShaped R → IsStandard R → rep_cmp M R ≡ Greater → ¬ (IsNotAboveClass M R)
 above_own M R shaped s g h = h R s (equivalent-reflexive Linear R shaped) g
 
--- from the number of factors on no powers are left
-pub no_powers : (f : ℕ) (M R : Rep) → count R ≤ f → IsNotAboveClass M R ↔ IsNotAboveFrom f M R
-no_powers f M R b = (λ h L u e. h L u (linear-from f R L b e), λ h L u e. h L u (from-linear f R L e))
-
 -- ---- the powers of one factor
 
 -- M is above none that moves take R to whose powers are below t in factor f, and 0 in the factors before
 abbrev pub IsNotAboveBelow : ℕ → ℕ → Rep → Rep → Type 0
 IsNotAboveBelow f t M R = (L : Rep) → IsStandard L → (e : AreEquivalentFrom f R L) → e.move.power f < t → rep_cmp M L ≢ Greater
-
-pub no_power : (f : ℕ) (M R : Rep) → IsNotAboveBelow f 0 M R
-no_power f M R L u e b = absurd (omega arith)
-
-pub all_powers : (f t : ℕ) (M R : Rep) → f < count R → degree (order R f) ≤ t → IsNotAboveBelow f t M R → IsNotAboveFrom f M R
-all_powers f t M R l d h L u e = h L u e (let b : e.move.power f < degree (order R f) = e.valid.powers f l in omega arith)
 
 module _ (f t : ℕ) (M R raised : Rep) (s : IsShaped R) (l : f < count R) (d : t < degree (order R f)) (h : IsRaised R f t raised) where
   pub one_power : IsNotAboveBelow f t M R → IsNotAboveFrom (f + 1) M raised → IsNotAboveBelow f (t + 1) M R

@@ -1,6 +1,6 @@
 -- What is known after some of the columns of a parent were tried, and after all of them.
-use Rattle.std.proofs.Common.{◌≡◌, ◌≢◌, ◌⊎◌, ◌↔◌, ℕ, ◌+◌, ◌-◌, ◌<◌, ◌≤◌, List, [], ◌∷◌, ◌++◌, length, get_or, append-nil, append_assoc, inl, inr, refl, sym, ◌∙◌, ap, subst, arith}
-use Rattle.std.specs.List.{Contains, AllPairs}
+use Rattle.std.proofs.Common.{◌≡◌, ◌⊎◌, ◌↔◌, ℕ, ◌+◌, ◌-◌, ◌<◌, ◌≤◌, List, [], ◌∷◌, ◌++◌, length, get_or, append-nil, append_assoc, inl, inr, refl, sym, ◌∙◌, ap, subst, arith}
+use Rattle.std.specs.List.{Contains}
 use Rattle.std.specs.Cmp.Lexicographic.{slice_cmp}
 use Rattle.std.specs.Ordering.{nat_cmp, ordering_reverse}
 use Rattle.std.specs.declared.cmp.Ordering.{Ordering}
@@ -14,12 +14,12 @@ use Rattle.matroid_theory.specs.Rep.{Rep}
 use Rattle.matroid_theory.specs.Order.{rep_cmp, IsForm}
 use Rattle.matroid_theory.specs.Minor.{Matroid}
 use Rattle.matroid_theory.specs.Level.{IsCount, IsRisingList, followed_by}
-use Rattle.extension.specs.Admissible.{IsAdmissible, ColumnsAfter, IsNextColumn, IsLastColumn, value, above_values}
+use Rattle.extension.specs.Admissible.{ColumnsAfter, IsNextColumn, IsLastColumn, value, above_values}
 use Rattle.level_driver.specs.Children.{IsCandidate}
 use Rattle.level_driver.specs.Forbidden.{Avoids}
 use Rattle.level_driver.proofs.Counts.{count_same, count_one, count_both}
 use Rattle.level_driver.proofs.Tried.{IsUpTo, IsTriedUpTo, HasTried, tried_none, one_more, not_yet}
-use Rattle.orderly.specs.Kept.{IsKeptChild, AddsKept, KeepsOwnForm}
+use Rattle.orderly.specs.Kept.{AddsKept, KeepsOwnForm}
 use Rattle.orderly.proofs.Rising.{followed_before}
 
 -- kept, by a column up to the last one
@@ -57,7 +57,8 @@ kept_none mode Ns start P some columns is = record {
     nothing : (v : List ℕ) → IsTriedUpTo Ns columns v → ⊥
     nothing v u = let found = t.complete v u in let c = found.1 in let l = c.1 in absurd (omega arith)
 
-module _ (columns : ColumnsAfter) (v : List ℕ) (next : IsNextColumn columns v) (mode : Mode) (Ns : List Matroid) (start forms : List Rep) (tried : ℕ)
+module _ (columns : ColumnsAfter) (v : List ℕ) (next : IsNextColumn columns v) (mode : Mode) (Ns : List Matroid) (start forms : List Rep)
+    (tried : ℕ)
     (following : ColumnsAfter) (is : following ≡ record { parent = columns.parent; last = v })
     (falls : above_values - value following.last < above_values - value columns.last) (h : HasKept mode Ns start columns tried forms) where
   after : ColumnsAfter
@@ -116,7 +117,8 @@ module _ (columns : ColumnsAfter) (v : List ℕ) (next : IsNextColumn columns v)
     )
 
     count_next : IsCount (IsTriedUpTo Ns (record { parent = columns.parent; last = v })) (tried + 1)
-    count_next = count_both (IsTriedUpTo Ns columns) (λ w. w ≡ v) (IsTriedUpTo Ns (record { parent = columns.parent; last = v })) tried 1 h.count (count_one v)
+    count_next = count_both (IsTriedUpTo Ns columns) (λ w. w ≡ v) (IsTriedUpTo Ns (record { parent = columns.parent; last = v })) tried 1
+        h.count (count_one v)
         (λ w u. not_yet columns v next w u.0) one_more_tried
 
     bound_next : tried + 1 + (above_values - value v) ≤ above_values
@@ -128,7 +130,8 @@ module _ (columns : ColumnsAfter) (v : List ℕ) (next : IsNextColumn columns v)
     child_kept form = record {
       rising = all_pairs_push (λ M N. rep_cmp M N ≡ Less) h.added (followed_by columns.parent v) h.are.rising
           (λ k d l. let e = (h.are.exact (get_or h.added k d)).0 (Contains-get_or h.added k d l) in
-          ap (λ (M : Rep). rep_cmp M (followed_by columns.parent v)) e.is ∙ followed_before columns.parent e.column v (below_next e.column e.tried.0));
+          ap (λ (M : Rep). rep_cmp M (followed_by columns.parent v)) e.is
+          ∙ followed_before columns.parent e.column v (below_next e.column e.tried.0));
       exact = λ N. (
         λ c. elim (Contains-push_cases h.added (followed_by columns.parent v) N c) [
           | inl b ↦ (let k = (h.are.exact N).0 b in record { column = k.column; tried = earlier k.column k.tried; is = k.is; form = k.form })
@@ -144,7 +147,8 @@ module _ (columns : ColumnsAfter) (v : List ℕ) (next : IsNextColumn columns v)
     }
 
     -- where it isn't it is left out
-    child_left : ¬ (IsForm mode (followed_by columns.parent v)) → IsRisingList (IsKeptUpTo mode Ns (record { parent = columns.parent; last = v })) h.added
+    child_left : ¬ (IsForm mode (followed_by columns.parent v)) →
+        IsRisingList (IsKeptUpTo mode Ns (record { parent = columns.parent; last = v })) h.added
     child_left not_form = record {
       rising = h.are.rising;
       exact = λ N. (
@@ -156,21 +160,24 @@ module _ (columns : ColumnsAfter) (v : List ℕ) (next : IsNextColumn columns v)
       );
     }
 
-    pub kept_more : (new : List Rep) → KeepsOwnForm mode (followed_by columns.parent v) forms new → HasKept mode Ns start following (tried + 1) new
+    pub kept_more : (new : List Rep) → KeepsOwnForm mode (followed_by columns.parent v) forms new →
+        HasKept mode Ns start following (tried + 1) new
     kept_more new keeps = subst (λ columns. HasKept mode Ns start columns (tried + 1) new) (sym is) (elim keeps [
       | inl (form, e) ↦ record {
         count = count_next;
         bound = bound_next;
         added = h.added ++ followed_by columns.parent v ∷ [];
-        at_end = e ∙ ap (λ (Ms : List Rep). Ms ++ followed_by columns.parent v ∷ []) h.at_end ∙ append_assoc start h.added (followed_by columns.parent v ∷ []);
+        at_end = e ∙ ap (λ (Ms : List Rep). Ms ++ followed_by columns.parent v ∷ []) h.at_end
+            ∙ append_assoc start h.added (followed_by columns.parent v ∷ []);
         are = child_kept form;
       }
-      | inr (not_form, e) ↦ record { count = count_next; bound = bound_next; added = h.added; at_end = e ∙ h.at_end; are = child_left not_form }
+      | inr (not_form, e) ↦
+          record { count = count_next; bound = bound_next; added = h.added; at_end = e ∙ h.at_end; are = child_left not_form }
     ])
 
 -- where no column comes after the last one, all were tried
-module _ (mode : Mode) (Ns : List Matroid) (start forms : List Rep) (columns : ColumnsAfter) (tried : ℕ) (h : HasKept mode Ns start columns tried forms)
-    (last : IsLastColumn columns) where
+module _ (mode : Mode) (Ns : List Matroid) (start forms : List Rep) (columns : ColumnsAfter) (tried : ℕ)
+    (h : HasKept mode Ns start columns tried forms) (last : IsLastColumn columns) where
   all_up_to : (w : List ℕ) → IsCandidate Ns columns.parent w → IsTriedUpTo Ns columns w
   all_up_to w a = (
     (a.admissible, λ g. last w a.admissible (let t = nat_list_cmp_total in t.antisymm columns.last w ∙ ap ordering_reverse g)),
@@ -190,7 +197,8 @@ module _ (mode : Mode) (Ns : List Matroid) (start forms : List Rep) (columns : C
     are = record {
       rising = h.are.rising;
       exact = λ N. (
-        λ c. (let k = (h.are.exact N).0 c in record { column = k.column; candidate = is_candidate k.column k.tried; is = k.is; form = k.form }),
+        λ c. (let k = (h.are.exact N).0 c in
+            record { column = k.column; candidate = is_candidate k.column k.tried; is = k.is; form = k.form }),
         λ k. (h.are.exact N).1 (record { column = k.column; tried = all_up_to k.column k.candidate; is = k.is; form = k.form }),
       );
     };

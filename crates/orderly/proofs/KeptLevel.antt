@@ -1,11 +1,10 @@
 -- What was kept of all parents is the next level.
-use Rattle.std.proofs.Common.{◌≡◌, ◌↔◌, ℕ, suc, ◌+◌, ◌<◌, ◌≤◌, List, [], map, length, take, sym, ◌∙◌, ap, subst, arith, get_or}
-use Rattle.std.specs.List.{Contains, AllPairs}
-use Rattle.std.specs.declared.cmp.Ordering.TheVariants.{Less}
+use Rattle.std.proofs.Common.{◌≡◌, ◌↔◌, ℕ, suc, ◌+◌, ◌<◌, ◌≤◌, List, [], map, length, take, sym, ◌∙◌, subst, arith, get_or}
+use Rattle.std.specs.List.{Contains}
 use Rattle.std.proofs.lemmas.List.{take_more, take_all}
 use Rattle.matroid_theory.specs.declared.Mode.{Mode}
 use Rattle.matroid_theory.specs.Rep.{Rep, size}
-use Rattle.matroid_theory.specs.Order.{rep_cmp, IsForm}
+use Rattle.matroid_theory.specs.Order.{IsForm}
 use Rattle.matroid_theory.specs.Minor.{Matroid}
 use Rattle.matroid_theory.specs.Level.{Family, IsMember, IsLevelForm, IsLevel, IsTry, IsCount, followed_by}
 use Rattle.matroid_theory.proofs.Followed.{size_followed, shaped_pushed}
@@ -40,8 +39,8 @@ extended_member family n P v h candidate =
 
 -- ---- a level of what the request grows
 
-module _ (q : Request) (family : Family) (grows : Grows q family) (n : ℕ) (parents : List Rep) (level : IsLevel family n parents) (tried : ℕ) (forms : List Rep)
-    (h : HasKeptAll family.mode family.forbidden parents tried forms) where
+module _ (q : Request) (family : Family) (grows : Grows q family) (n : ℕ) (parents : List Rep) (level : IsLevel family n parents)
+    (tried : ℕ) (forms : List Rep) (h : HasKeptAll family.mode family.forbidden parents tried forms) where
   kept_form : (N : Rep) → IsKept family.mode family.forbidden parents N → IsLevelForm family (n + 1) N
   kept_form N k =
       let p = (level.exact k.try.0).0 k.extension.0 in
@@ -71,10 +70,12 @@ module _ (q : Request) (family : Family) (grows : Grows q family) (n : ℕ) (par
   }
 
   kept_tries : IsCount (IsTry family (n + 1)) tried
-  kept_tries = count_same (IsExtension family.forbidden parents) (IsTry family (n + 1)) tried (tries_are q family grows n parents level) h.count
+  kept_tries = count_same (IsExtension family.forbidden parents) (IsTry family (n + 1)) tried (tries_are q family grows n parents level)
+      h.count
 
 -- a level of a request that isn't its last
-module _ (q : Request) (Ns : List Matroid) (given : AreGivenBy (map given_as q.forbid) Ns) (n : ℕ) (parents : List Rep) (h : IsParentLevel q n parents) where
+module _ (q : Request) (Ns : List Matroid) (given : AreGivenBy (map given_as q.forbid) Ns) (n : ℕ) (parents : List Rep)
+    (h : IsParentLevel q n parents) where
   pub of_one_size : (M N : Rep) → Contains parents M → Contains parents N → size M ≡ size N
   of_one_size M N c d =
       let l = h.level (grown_by q Ns) (grows_it q Ns given) in
@@ -99,7 +100,8 @@ module _ (q : Request) (Ns : List Matroid) (given : AreGivenBy (map given_as q.f
 
 -- ---- one candidate
 
-module _ (q : Request) (Ns : List Matroid) (given : AreGivenBy (map given_as q.forbid) Ns) (n : ℕ) (P : Rep) (parent : IsLevelFormOf q n P) where
+module _ (q : Request) (Ns : List Matroid) (given : AreGivenBy (map given_as q.forbid) Ns) (n : ℕ) (P : Rep)
+    (parent : IsLevelFormOf q n P) where
   its_form : IsLevelForm (grown_by q Ns) n P
   its_form = parent (grown_by q Ns) (grows_it q Ns given)
 

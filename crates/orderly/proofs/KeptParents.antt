@@ -1,5 +1,5 @@
 -- What is known after some of the parents were extended.
-use Rattle.std.proofs.Common.{◌≡◌, ◌⊎◌, ◌↔◌, ℕ, ◌+◌, ◌<◌, ◌≤◌, List, [], ◌∷◌, ◌++◌, length, take, inl, inr, sym, ◌∙◌, ap, subst, arith, get_or}
+use Rattle.std.proofs.Common.{◌≡◌, ℕ, ◌+◌, ◌<◌, ◌≤◌, List, [], ◌∷◌, ◌++◌, length, take, inl, inr, sym, ◌∙◌, ap, subst, arith, get_or}
 use Rattle.std.specs.List.{Contains, AllPairs}
 use Rattle.std.specs.declared.cmp.Ordering.TheVariants.{Less}
 use Rattle.std.proofs.lemmas.List.{take_more, take_all, get_or-take, get_or_default, length-take-le}
@@ -13,7 +13,7 @@ use Rattle.matroid_theory.proofs.Levels.{rep_cmp-irreflexive}
 use Rattle.level_driver.specs.Children.{IsCandidate}
 use Rattle.level_driver.proofs.Counts.{count_none, count_both, count_images}
 use Rattle.level_driver.proofs.Tries.{IsExtension, two_kinds}
-use Rattle.orderly.specs.Kept.{IsKeptChild, AddsKept}
+use Rattle.orderly.specs.Kept.{AddsKept}
 use Rattle.orderly.proofs.Rising.{all_pairs_append, before_followed}
 
 -- one of the parents followed by a column, that makes none of the matroids a minor, and a form
@@ -69,12 +69,18 @@ module _ (mode : Mode) (Ns : List Matroid) (parents : List Rep) (P : Rep) (befor
     is_here N k = elim ((two_kinds mode Ns parents P new_one k.try).0 k.extension) [
       | inl e ↦ Contains-append_left forms adds.added N ((h.are.exact N).1 (record { try = k.try; extension = e; is = k.is; form = k.form }))
       | inr (v, a, same) ↦ Contains-append_right forms adds.added N
-          ((adds.are.exact N).1 (record { column = v; candidate = a; is = k.is ∙ ap (λ (t : Rep × List ℕ). followed_by t.0 t.1) (sym same); form = k.form }))
+          ((adds.are.exact N).1 record {
+            column = v;
+            candidate = a;
+            is = k.is ∙ ap (λ (t : Rep × List ℕ). followed_by t.0 t.1) (sym same);
+            form = k.form;
+          })
     ]
 
     all_more : HasKeptAll mode Ns (parents ++ P ∷ []) (tried + k) new
     all_more = record {
-      count = count_both (IsExtension Ns parents) (λ try. (v : List ℕ) × IsCandidate Ns P v × ((P, v) ≡ try)) (IsExtension Ns (parents ++ P ∷ [])) tried k h.count
+      count = count_both (IsExtension Ns parents) (λ try. (v : List ℕ) × IsCandidate Ns P v × ((P, v) ≡ try))
+          (IsExtension Ns (parents ++ P ∷ [])) tried k h.count
           (count_images (λ (v : List ℕ). (P, v)) (IsCandidate Ns P) k (λ v w e. ap (λ t. t.1) e) count)
           (λ try e l. new_one (subst (Contains parents) (sym (ap (λ t. t.0) l.2)) e.0)) (two_kinds mode Ns parents P new_one);
       are = subst (IsRisingList (IsKept mode Ns (parents ++ P ∷ []))) (sym adds.at_end) record {
@@ -84,8 +90,8 @@ module _ (mode : Mode) (Ns : List Matroid) (parents : List Rep) (P : Rep) (befor
     }
 
 -- in a rising list of representations of one size those before a place come before the one there
-module _ (parents : List Rep) (rising : AllPairs (λ M N. rep_cmp M N ≡ Less) parents) (one_size : (M N : Rep) → Contains parents M → Contains parents N → size M ≡ size N)
-    (i : ℕ) (P : Rep) (l : i < length parents) (is : P ≡ get_or parents i P) where
+module _ (parents : List Rep) (rising : AllPairs (λ M N. rep_cmp M N ≡ Less) parents)
+    (one_size : (M N : Rep) → Contains parents M → Contains parents N → size M ≡ size N) (i : ℕ) (P : Rep) (l : i < length parents) (is : P ≡ get_or parents i P) where
   come_before : (M : Rep) → Contains (take i parents) M → ComesBefore P M
   come_before M (k, m, e) =
       let n : length (take i parents) ≡ i = length-take-le i parents (omega arith) in
@@ -101,7 +107,8 @@ module _ (parents : List Rep) (rising : AllPairs (λ M N. rep_cmp M N ≡ Less) 
   pub all_step : (mode : Mode) (Ns : List Matroid) (tried k : ℕ) (forms new : List Rep) → HasKeptAll mode Ns (take i parents) tried forms →
       IsCount (IsCandidate Ns P) k → AddsKept mode Ns P forms new → HasKeptAll mode Ns (take (i + 1) parents) (tried + k) new
   all_step mode Ns tried k forms new h count adds =
-      subst (λ (done : List Rep). HasKeptAll mode Ns done (tried + k) new) (ap (λ (M : Rep). take i parents ++ M ∷ []) is ∙ sym (take_more parents i P l))
+      subst (λ (done : List Rep). HasKeptAll mode Ns done (tried + k) new)
+      (ap (λ (M : Rep). take i parents ++ M ∷ []) is ∙ sym (take_more parents i P l))
       (all_more mode Ns (take i parents) P come_before tried k forms new h count adds)
 
 -- all parents

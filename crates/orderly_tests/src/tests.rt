@@ -1,12 +1,11 @@
-ghost use Rattle.std.specs.Prelude.{◌<◌, length};
-ghost use Rattle.matroid_theory.specs.Rep.{size};
-ghost use Rattle.extension.specs.Admissible.{IsAdmissible};
+ghost use Rattle.std.specs.Prelude.{ℕ};
+ghost use Rattle.level_driver.specs.Grown.{IsParentLevel};
 
 use extension::Columns;
 use level_driver::{FormList, first_level, grow_alone};
 use orderly::{keeps, next_level};
 use product_rep::{ProductColumn, Rep};
-use request_reader::read_request;
+use request_reader::{Request, read_request};
 use std::alloc::Global;
 use std::process::Abort;
 use std::test::Fail;
@@ -17,18 +16,32 @@ fn columns_of_one_parent(rt: HostRuntime) -> Result<(), Fail> {
         .ok()
         .ok_or("refused")?;
     let level = first_level(rt.alloc(), &request)?;
-    let Some(parent) = level.forms.get(0) else {
-        return Err("no form".into());
-    };
-    let mut kept = Vec::new(rt.alloc());
-    if request.rank() < request.size() {
-        for column in Columns::of(parent) {
-            kept.push((text_of(&column), keeps(&request, parent, &column)))?;
-        }
-    }
+    let rank = request.rank();
+    let size = request.size();
+    assert!(rt; rank < size);
+    let answers = answers_of_first(rt.alloc(), &request, &level.forms)?;
     let want = [(11, true), (101, false), (110, false), (111, true)];
-    assert_eq!(rt; kept.as_slice(), &want[..]);
+    assert_eq!(rt; answers.as_slice(), &want[..]);
     Ok(())
+}
+
+// The columns by which the first form can be extended, and whether each is kept.
+fn answers_of_first(
+    alloc: Global,
+    request: &Request,
+    forms: &FormList,
+) -> Result<Vec<(u32, bool)>, Fail>
+    requires { (n : ℕ) × IsParentLevel request.now n forms.now }
+{
+    request.laws();
+    let mut answers = Vec::new(alloc);
+    let Some(parent) = forms.get(0) else {
+        return Ok(answers);
+    };
+    for column in Columns::of(parent) {
+        answers.push((text_of(&column), keeps(request, parent, &column)))?;
+    }
+    Ok(answers)
 }
 
 // The number whose digits in base 10 the codes are.

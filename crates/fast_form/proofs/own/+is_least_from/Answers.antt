@@ -1,10 +1,9 @@
-use Rattle.std.proofs.Common.{◌≡◌, ◌≢◌, ◌+◌, ◌<◌, ◌≤◌, ℕ, true, List, length, slice_index, sym, ◌∙◌, ap, subst, arith, rules}
+use Rattle.std.proofs.Common.{◌≡◌, ◌≢◌, ◌<◌, ◌≤◌, ℕ, true, List, length, slice_index, sym, ◌∙◌, ap, subst, arith, rules}
 use mathlib.Core.Bool.{true≢false}
 use Rattle.matroid_theory.specs.Field.{degree}
 use Rattle.matroid_theory.specs.Rep.{Rep, Shape, count, order}
-use Rattle.matroid_theory.specs.Powers.{IsRaised}
 use Rattle.matroid_theory.proofs.Semilinear.{raised_agrees, raised_standard}
-use Rattle.fast_form.proofs.OwnForms.{no_powers, no_power, all_powers, one_power, not_one_power}
+use Rattle.fast_form.proofs.OwnForms.{one_power, not_one_power}
 use Rattle.fast_form.proofs.own.+is_least_from.Goals as goal
 
 -- there is such a factor

@@ -1,9 +1,7 @@
-use Rattle.std.proofs.Common.{◌≡◌, ◌≢◌, ◌↔◌, Bool, true, false, sym, ◌∙◌, subst}
+use Rattle.std.proofs.Common.{◌≢◌, ◌↔◌, true, false, sym, ◌∙◌}
 use mathlib.Core.Bool.{true≢false}
-use Rattle.std.specs.declared.cmp.Ordering.TheVariants.{Equal, Greater}
 use Rattle.matroid_theory.specs.Rep.{Rep, KeepsLimits}
 use Rattle.matroid_theory.specs.Matroid.{Agrees, IsRepresentation}
-use Rattle.matroid_theory.specs.Order.{rep_cmp}
 use Rattle.fast_form.proofs.OwnForms.{form_enough, equal_own, above_own}
 use Rattle.fast_form.proofs.own.is_least_of.Goals as goal
 

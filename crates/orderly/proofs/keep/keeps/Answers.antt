@@ -19,7 +19,7 @@ pub returns-in-None : goal.returns-in-None
 returns-in-None c = (
   λ e. absurd (true≢false (sym e)),
   λ h. absurd (c.in-None.ensures (
-      let f = kept_own c.args.request.now (matroids_of c.forbid-forbidden.result.now) c.forbid-forbidden.ensures.given (size c.args.parent.now)
-      c.args.parent.now c.requires.parent c.args.column.now.items h in
+      let f = kept_own c.args.request.now (matroids_of c.forbid-forbidden.result.now) c.forbid-forbidden.ensures.given
+      (size c.args.parent.now) c.args.parent.now c.requires.parent c.args.column.now.items h in
       let m = f.member in m.avoids)),
 )

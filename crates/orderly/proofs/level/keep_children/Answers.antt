@@ -1,4 +1,4 @@
-use Rattle.std.proofs.Common.{◌≡◌, List, [], refl, sym, ◌∙◌, subst, ap}
+use Rattle.std.proofs.Common.{◌≡◌, List, [], sym, ◌∙◌, subst, ap}
 use Rattle.matroid_theory.specs.Rep.{Rep}
 use Rattle.matroid_theory.specs.Level.{IsCount, followed_by}
 use Rattle.matroid_theory.specs.Minor.{Matroid}
@@ -11,10 +11,12 @@ use Rattle.orderly.proofs.level.keep_children.Goals as goal
 
 pub loop-column-init : goal.loop-column-init
 loop-column-init c =
-    let start : c.into_iter-column-iterator.result ≡ record { parent = c.args.parent.now; last = [] } = c.into_iter-column-iterator.ensures.into_iter_gives ∙ c.of-column-items.ensures in
+    let start : c.into_iter-column-iterator.result ≡ record { parent = c.args.parent.now; last = [] } =
+    c.into_iter-column-iterator.ensures.into_iter_gives ∙ c.of-column-items.ensures in
     record {
       same = ap (λ (columns : ColumnsAfter). columns.parent) start;
-      so_far = kept_none c.args.mode (matroids_of c.args.forbidden.now) c.args.forms.now c.args.parent.now c.laws.ensures.fields.some c.into_iter-column-iterator.result start;
+      so_far = kept_none c.args.mode (matroids_of c.args.forbidden.now) c.args.forms.now c.args.parent.now c.laws.ensures.fields.some
+          c.into_iter-column-iterator.result start;
     }
 
 pub candidate-requires-clause-column : goal.candidate-requires-clause-column
@@ -29,8 +31,10 @@ loop-column-preserved c =
     let progress = c.in-Some.ensures.goes.on tt in
     record {
       same = ap (λ (columns : ColumnsAfter). columns.parent) steps.1 ∙ c.loop-column.invariant.same;
-      so_far = kept_same c.loop-column.column-iterator c.in-Some.column.items steps.0 c.args.mode Ns c.args.forms.now c.loop-column.forms c.loop-column.tried c.next.new.self steps.1 progress.2 c.loop-column.invariant.so_far
-          (λ avoids. c.in_default.ensures (subst (λ (P : Rep). Avoids Ns (followed_by P c.in-Some.column.items)) c.loop-column.invariant.same avoids));
+      so_far = kept_same c.loop-column.column-iterator c.in-Some.column.items steps.0 c.args.mode Ns c.args.forms.now c.loop-column.forms
+          c.loop-column.tried c.next.new.self steps.1 progress.2 c.loop-column.invariant.so_far
+          (λ avoids. c.in_default.ensures (subst (λ (P : Rep). Avoids Ns (followed_by P c.in-Some.column.items))
+          c.loop-column.invariant.same avoids));
     }
 
 pub loop-column-preserved-in-Some-candidate : goal.loop-column-preserved-in-Some-candidate
@@ -42,7 +46,8 @@ loop-column-preserved-in-Some-candidate c =
     c.in-Some-candidate.ensures.0 ∙ ap (λ (P : Rep). followed_by P c.in-Some.column.items) (sym c.loop-column.invariant.same) in
     record {
       same = ap (λ (columns : ColumnsAfter). columns.parent) steps.1 ∙ c.loop-column.invariant.same;
-      so_far = kept_more c.loop-column.column-iterator c.in-Some.column.items steps.0 c.args.mode Ns c.args.forms.now c.loop-column.forms c.loop-column.tried c.next.new.self steps.1 progress.2 c.loop-column.invariant.so_far
+      so_far = kept_more c.loop-column.column-iterator c.in-Some.column.items steps.0 c.args.mode Ns c.args.forms.now c.loop-column.forms
+          c.loop-column.tried c.next.new.self steps.1 progress.2 c.loop-column.invariant.so_far
           (subst (Avoids Ns) is c.in-Some-candidate.ensures.1)
           c.keep.new.forms (subst (λ (M : Rep). KeepsOwnForm c.args.mode M c.loop-column.forms c.keep.new.forms) is c.in_ok-keep.ensures);
     }
@@ -51,10 +56,12 @@ pub returns-clause-count : goal.returns-clause-count
 returns-clause-count c =
     let Ns : List Matroid = matroids_of c.args.forbidden.now in
     subst (λ (P : Rep). IsCount (IsCandidate Ns P) c.loop-column.tried) c.loop-column.invariant.same
-    (kept_count c.args.mode Ns c.args.forms.now c.loop-column.forms c.loop-column.column-iterator c.loop-column.tried c.loop-column.invariant.so_far c.in-None.ensures.steps.0)
+    (kept_count c.args.mode Ns c.args.forms.now c.loop-column.forms c.loop-column.column-iterator c.loop-column.tried
+    c.loop-column.invariant.so_far c.in-None.ensures.steps.0)
 
 pub returns-clause-forms : goal.returns-clause-forms
 returns-clause-forms c =
     let Ns : List Matroid = matroids_of c.args.forbidden.now in
     subst (λ (P : Rep). AddsKept c.args.mode Ns P c.args.forms.now c.loop-column.forms) c.loop-column.invariant.same
-    (kept_all c.args.mode Ns c.args.forms.now c.loop-column.forms c.loop-column.column-iterator c.loop-column.tried c.loop-column.invariant.so_far c.in-None.ensures.steps.0)
+    (kept_all c.args.mode Ns c.args.forms.now c.loop-column.forms c.loop-column.column-iterator c.loop-column.tried
+    c.loop-column.invariant.so_far c.in-None.ensures.steps.0)

@@ -1,4 +1,4 @@
-use Rattle.std.proofs.Common.{◌≡◌, Some, ℕ, ◌+◌, ◌<◌, ◌≤◌, List, take, length, get_or, sym, ◌∙◌, ap, subst, arith}
+use Rattle.std.proofs.Common.{◌≡◌, Some, ℕ, ◌+◌, ◌<◌, ◌≤◌, List, take, length, get_or, sym, subst, arith}
 use Rattle.std.specs.Prelude.{slice_get}
 use Rattle.std.proofs.lemmas.Option.{slice_get_within, get_or_from_slice_get}
 use Rattle.matroid_theory.specs.declared.Mode.{Mode}
@@ -17,7 +17,10 @@ in_list : (parents : List Rep) (i : ℕ) (P : Rep) → Some P ≡ slice_get pare
 in_list parents i P e = (slice_get_within parents i P (sym e), sym (get_or_from_slice_get parents i P P (sym e)))
 
 pub loop-i-init : goal.loop-i-init
-loop-i-init c = record { so_far = all_none c.mode-mode.result (matroids_of c.forbid-forbidden.result.now) c.new-forms.result c.new-forms.ensures; few = omega arith }
+loop-i-init c = record {
+  so_far = all_none c.mode-mode.result (matroids_of c.forbid-forbidden.result.now) c.new-forms.result c.new-forms.ensures;
+  few = omega arith;
+}
 
 pub unreachable-requires : goal.unreachable-requires
 unreachable-requires c =
@@ -29,7 +32,8 @@ unreachable-requires c =
 pub keep_children-requires : goal.keep_children-requires
 keep_children-requires c =
     let at = in_list c.args.parents.now c.loop-i.i c.in-Some.parent.now c.in-Some.ensures in
-    each_parent c.args.request.now (matroids_of c.forbid-forbidden.result.now) c.forbid-forbidden.ensures.given c.laws.ensures.factors c.laws.ensures.limits
+    each_parent c.args.request.now (matroids_of c.forbid-forbidden.result.now) c.forbid-forbidden.ensures.given c.laws.ensures.factors
+    c.laws.ensures.limits
     c.requires.0 c.args.parents.now c.requires.1 c.in-Some.parent.now (c.loop-i.i, at.0, sym at.1)
 
 pub loop-i-preserved : goal.loop-i-preserved
@@ -39,10 +43,13 @@ loop-i-preserved c =
     let parents : List Rep = c.args.parents.now in
     let at = in_list parents c.loop-i.i c.in-Some.parent.now c.in-Some.ensures in
     record {
-      so_far = subst (λ (k : ℕ). HasKeptAll c.mode-mode.result Ns (take (c.loop-i.i + 1) parents) (c.loop-i.tried + k) c.keep_children.new.forms) (sym c.from.ensures)
-          (all_step parents (parents_rise q Ns c.forbid-forbidden.ensures.given c.laws.ensures.factors c.laws.ensures.limits c.requires.0 parents c.requires.1)
+      so_far = subst (λ (k : ℕ). HasKeptAll c.mode-mode.result Ns (take (c.loop-i.i + 1) parents) (c.loop-i.tried + k)
+          c.keep_children.new.forms) (sym c.from.ensures)
+          (all_step parents (parents_rise q Ns c.forbid-forbidden.ensures.given c.laws.ensures.factors c.laws.ensures.limits c.requires.0
+          parents c.requires.1)
           (of_one_size q Ns c.forbid-forbidden.ensures.given c.requires.0 parents c.requires.1) c.loop-i.i c.in-Some.parent.now at.0 at.1
-          c.mode-mode.result Ns c.loop-i.tried c.in_ok-keep_children.field-0 c.loop-i.forms c.keep_children.new.forms c.loop-i.invariant.so_far
+          c.mode-mode.result Ns c.loop-i.tried c.in_ok-keep_children.field-0 c.loop-i.forms c.keep_children.new.forms
+          c.loop-i.invariant.so_far
           c.in_ok-keep_children.ensures.count c.in_ok-keep_children.ensures.forms);
       few = (let e = c.from.ensures in let f = c.loop-i.invariant.few in omega arith);
     }
