@@ -1,14 +1,14 @@
 -- The first elements of a named matroid are a base of it.
-use Rattle.std.proofs.Common.{◌≡◌, ℕ, zero, suc, ◌+◌, ◌-◌, ◌*◌, ◌^◌, ◌<◌, ◌≤◌, refl, sym, ◌∙◌, ap, subst, arith, Bool, true, false, not, inl, inr, lit<, List, [], ◌∷◌, map, take, length, slice_index}
-use Rattle.std.specs.Bool.{◌==◌, nat_lt}
+use Rattle.std.proofs.Common.{◌≡◌, ℕ, zero, suc, ◌-◌, ◌^◌, ◌<◌, ◌≤◌, refl, sym, ◌∙◌, ap, subst, arith, Bool, true, not, lit<, List, [], ◌∷◌, map, take, length, slice_index}
+use Rattle.std.specs.Bool.{nat_lt}
 use Rattle.std.specs.List.{Contains, list_all, range_with_len, slice_index_or}
-use Rattle.std.proofs.lemmas.Bool.{cases_lt, and_parts, ltb-true, le-ltb, lt-ltb}
+use Rattle.std.proofs.lemmas.Bool.{and_parts, ltb-true}
 use Rattle.std.proofs.lemmas.List.{get_or-take}
 use Rattle.std.proofs.lemmas.List.FromFn.{get_or-map-range_with_len}
 use Rattle.std.proofs.lemmas.Nat.{pow_pos}
 use Rattle.std.proofs.Math.Nat.{pow-le-pow_right}
 use Rattle.matroid_theory.specs.Field.{IsField, plus, times, poly, characteristic, degree, remainder}
-use Rattle.matroid_theory.specs.Matrix.{unit, combination, size_below, AreCoefficients, IsIndependent, IsRankOf}
+use Rattle.matroid_theory.specs.Matrix.{unit, combination, size_below, AreCoefficients, IsIndependent}
 use Rattle.matroid_theory.specs.Matroid.{members}
 use Rattle.matroid_theory.specs.Minor.{Matroid}
 use Rattle.matroid_theory.specs.Given.{Given, AllSets, ColumnsOver, DualOfColumns, elements, column_length, matrix_of_lists, IsColumnBasis, IsGivenBasis, IsGivenBy}
