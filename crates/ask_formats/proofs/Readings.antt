@@ -202,7 +202,7 @@ module _ (words : List (List ℕ)) where
       let t : slice_index ys f < 14 = order_small (slice_index ys f) (q.fields f l') in
       decimal_injective (slice_index xs f) (slice_index ys f) (omega (arith, s)) (omega (arith, t)) (sym (a.spelled f l) ∙ b.spelled f l'))
 
-  cancelled : (c m n : ℕ) → 0 < c → c * m ≡ c * n → m ≡ n
+  pub cancelled : (c m n : ℕ) → 0 < c → c * m ≡ c * n → m ≡ n
   cancelled c m n s e =
       elim (cases_lt m n) [
         | inl l ↦ absurd (let h = less c m n s l in omega arith)
