@@ -4,7 +4,10 @@
 //! followed by the other (Oxley, sections 6.3 and 6.4). So of the columns that the moves carry to each other, one stands for all.
 #![tactic(auto)]
 
+mod built;
+mod ground;
 mod images;
+mod scalings;
 mod search;
 mod several;
 mod single;

@@ -31,6 +31,9 @@ impl Model for Symmetries {
     ghost invariant = { λ s. AreSymmetries (record { parent = s.parent; mode = s.mode; moves = s.moves.items }) };
 }
 
+/// How many moves are kept.
+pub const MOST_MOVES: usize = 32;
+
 /// How often the least image is looked for anew.
 const MOST_ROUNDS: usize = 64;
 
