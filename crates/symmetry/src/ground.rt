@@ -115,7 +115,11 @@ impl Ground {
         for place in 0..18 {
             let factor = place % self.count;
             let field = self.fields[factor];
-            image[place] = sum(field, column[place], product(field, scalars[factor], other[place]));
+            image[place] = sum(
+                field,
+                column[place],
+                product(field, scalars[factor], other[place]),
+            );
         }
         image
     }

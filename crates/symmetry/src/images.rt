@@ -51,7 +51,11 @@ fn raised_code(field: Field, power: u8, code: u8) -> u8
 }
 
 /// For each factor the code that makes the first code of the column that isn't 0 a 1; 1 where all are 0.
-pub(crate) fn lead_scalars(factors: &Factors, rank: usize, column: &ProductColumn) -> ArrayVec<u8, 3>
+pub(crate) fn lead_scalars(
+    factors: &Factors,
+    rank: usize,
+    column: &ProductColumn,
+) -> ArrayVec<u8, 3>
     requires rank { rank ≤ 6 }
     requires column { IsProductColumn factors.now rank column.now.items }
     ensures { AreLeadScalars factors.now rank column.now.items result.items }

@@ -13,11 +13,7 @@ use std::alloc::AllocError;
 type Groups = [usize; 6];
 
 /// Adds moves that scale the rows of one group in one factor, for each group but that of the last row.
-pub fn add_scalings(
-    rep: &Rep,
-    ground: &Ground,
-    found: &mut Symmetries,
-) -> Result<(), AllocError>
+pub fn add_scalings(rep: &Rep, ground: &Ground, found: &mut Symmetries) -> Result<(), AllocError>
     ensures parent { found.new.parent ≡ found.old.parent }
     ensures mode { found.new.mode ≡ found.old.mode }
 {
@@ -102,7 +98,13 @@ fn add_scalings_in(
 }
 
 /// The unit columns, of which those of the group's rows are multiplied in one factor.
-fn scaled_basis(ground: &Ground, groups: &Groups, group: usize, factor: usize, code: u8) -> [Codes; 6]
+fn scaled_basis(
+    ground: &Ground,
+    groups: &Groups,
+    group: usize,
+    factor: usize,
+    code: u8,
+) -> [Codes; 6]
     requires { factor < 3 }
 {
     let mut scalars = [1; 3];

@@ -20,8 +20,8 @@ column_made t v image r c n k ce re e b l h =
     column_of_codes t.shape.factors t.shape.rank image
     (filled t.shape.factors t.shape.rank c n (length image) ce e (subst (λ (r : ℕ). n ≤ r * c) re b) (subst (λ (r : ℕ). r * c ≤ n) re l))
     (λ f i m o.
-        let F : IsField (slice_index t.shape.factors f) = field_laws (slice_index t.shape.factors f) (k.fields.fields f m) in
-        subst (λ (x : ℕ). x < slice_index t.shape.factors f) (sym (codes_made t v image r c n ce re l h f i m o)) (sum_below-code (slice_index t.shape.factors f) F t.shape.rank _))
+    let F : IsField (slice_index t.shape.factors f) = field_laws (slice_index t.shape.factors f) (k.fields.fields f m) in
+    subst (λ (x : ℕ). x < slice_index t.shape.factors f) (sym (codes_made t v image r c n ce re l h f i m o)) (sum_below-code (slice_index t.shape.factors f) F t.shape.rank _))
 
 pub returns-clause-column : goal.returns-clause-column
 returns-clause-column c =
