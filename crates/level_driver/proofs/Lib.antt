@@ -4,6 +4,7 @@ pub mod ColumnLists
 pub mod Counts
 pub mod Earlier
 pub mod KeyLemmas
+pub mod Known
 pub mod MatroidLists
 pub mod MinorsCarried
 pub mod NextLevel

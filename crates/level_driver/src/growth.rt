@@ -11,7 +11,7 @@ ghost use Rattle.level_driver.specs.Grown.{IsLevelOf, AreTriesOf, IsParentLevel}
 
 use crate::forbidden::avoids;
 use crate::found::Found;
-use crate::{FormList, Level};
+use crate::{Children, FormList, Level};
 use extension::Columns;
 use fast_form::least_form_fast;
 use matroid_theory::Mode;
@@ -39,7 +39,7 @@ pub fn grow_alone(alloc: Global, request: &Request, parents: &FormList) -> Resul
     let mut found = Found::new(alloc);
     let mut tried = 0;
     for parent in parents.as_slice() {
-        tried += u128::from(add_children(parent, mode, forbidden, &mut found)?);
+        tried += u128::from(add_children(alloc, parent, mode, forbidden, &mut found)?);
     }
     let forms = found.to_list(alloc, &request.factors(), rank)?;
     Ok(Level { forms, tried })
@@ -48,6 +48,7 @@ pub fn grow_alone(alloc: Global, request: &Request, parents: &FormList) -> Resul
 /// Adds the form of the mode of each representation that the parent and one more column make and that has no forbidden minor. The result
 /// is the number of the columns.
 fn add_children(
+    alloc: Global,
     parent: &Rep,
     mode: Mode,
     forbidden: &[MinorItem],
@@ -58,9 +59,10 @@ fn add_children(
     ensures forms { OnOk result (AddsChildren mode (matroids_of forbidden.now) parent.now found.old found.new) }
 {
     parent.laws();
+    let mut children = Children::of(alloc, parent, mode, forbidden)?;
     let mut tried = 0;
     for column in Columns::of(parent) {
-        if let Some(child) = child(parent, mode, forbidden, &column) {
+        if let Some(child) = children.child(&column)? {
             found.insert(&child)?;
             tried += 1;
         }
@@ -69,8 +71,7 @@ fn add_children(
 }
 
 /// The form of the mode of the class of the parent followed by the column, where that has no forbidden minor, and else none.
-/// All growth reduces by this function.
-pub fn child(
+pub(crate) fn child(
     parent: &Rep,
     mode: Mode,
     forbidden: &[MinorItem],

@@ -11,13 +11,15 @@ mod form_list;
 mod found;
 mod growth;
 mod level;
+mod parent;
 mod shown;
 
 pub use filter::passes;
 pub use forbidden::avoids;
 pub use form_list::FormList;
-pub use growth::{child, grow_alone};
+pub use growth::grow_alone;
 pub use level::{Level, first_level};
+pub use parent::Children;
 pub use shown::listed;
 /// Want of memory.
 pub use std::alloc::AllocError as NoMemory;

@@ -8,7 +8,7 @@ use crate::batches::{add_key, offer_rest};
 use class_store::{KeyBatch, OpenLevel, Pass};
 use extension::Columns;
 use form_key::pack;
-use level_driver::child;
+use level_driver::Children;
 use matroid_theory::Mode;
 use named_matroids::MinorItem;
 use product_rep::Rep;
@@ -36,9 +36,10 @@ pub(crate) fn offer_children<R: Wait + Sync>(
     ensures offered { IfOk result (λ tried. OffersChildren mode (matroids_of forbidden.now) parent.now pass.old pass.new tried) }
 {
     parent.laws();
+    let mut children = Children::of(alloc, parent, mode, forbidden)?;
     let mut tried = 0;
     for column in Columns::of(parent) {
-        if let Some(child) = child(parent, mode, forbidden, &column) {
+        if let Some(child) = children.child(&column)? {
             add_key(rt, alloc, level, pass, batches, pack(alloc, &child)?)?;
             tried += 1;
         }

@@ -1,0 +1,5 @@
+mod Copies
+mod Longer
+mod Places
+mod Supported
+mod Symmetric
