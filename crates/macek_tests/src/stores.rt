@@ -106,12 +106,23 @@ fn a_failed_write_leaves_the_level_that_was_grown(rt: HostRuntime) -> Result<(),
     Ok(())
 }
 
+// The second of two runs through one store, and what that has then.
+fn run_after<R: Threads + Wait + Sync>(
+    rt: &R,
+    alloc: Global,
+    first: Given,
+    given: Given,
+) -> Result<(Ran, Last), NoMemory> {
+    let mut store = ClassStore::new(alloc, STRIPES)?;
+    run(rt, alloc, &mut store, first)?;
+    let ran = run(rt, alloc, &mut store, given)?;
+    let last = last_of(alloc, &store)?;
+    Ok((ran, last))
+}
+
 // A run that grows no level leaves the store with the level of the run before it.
 #[test]
 fn a_run_without_growth_leaves_the_store(rt: HostRuntime) -> Result<(), Fail> {
-    let mut store = ClassStore::new(rt.alloc(), STRIPES)?;
-    let before = run(&rt, rt.alloc(), &mut store, asked(&[], REQUEST))?;
-    assert_eq!(rt; before.report.status, Status::Done);
     for (words, text, read, write, status, levels) in [
         (["x"].as_slice(), REQUEST.as_slice(), 0, 0, Status::Usage, 0),
         (&[], REQUEST, 1, 0, Status::ReadFault, 0),
@@ -133,11 +144,11 @@ fn a_run_without_growth_leaves_the_store(rt: HostRuntime) -> Result<(), Fail> {
             read,
             write,
         };
-        let ran = run(&rt, rt.alloc(), &mut store, given)?;
+        let (ran, last) = run_after(&rt, rt.alloc(), asked(&[], REQUEST), given)?;
         assert_eq!(rt; ran.report.status, status);
         assert_eq!(rt; ran.report.levels, levels);
         assert!(rt; ran.held.is_empty() || levels == 1 || write > 0);
-        assert!(rt; is_of_size(&last_of(rt.alloc(), &store)?, 7));
+        assert!(rt; is_of_size(&last, 7));
     }
     Ok(())
 }

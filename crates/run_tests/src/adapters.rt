@@ -101,7 +101,12 @@ fn reads_a_byte_at_a_time(rt: HostRuntime) -> Result<(), Fail> {
 #[test]
 fn each_failed_read_is_a_fault(rt: HostRuntime) -> Result<(), Fail> {
     let alloc = rt.alloc();
-    for (failing, left) in [(1, TEXT.as_slice()), (3, &TEXT[2..]), (22, b"\n"), (23, b"")] {
+    for (failing, left) in [
+        (1, TEXT.as_slice()),
+        (3, b"eld 3\nrank 2\nsize 2\n"),
+        (22, b"\n"),
+        (23, b""),
+    ] {
         let mut source = ReadFrom::new(SlowReader {
             left: TEXT,
             calls: 0,
