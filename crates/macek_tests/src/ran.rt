@@ -1,5 +1,5 @@
 // Runs over memory.
-ghost use Rattle.std.specs.Prelude.{◌≡◌, ◌→◌, length};
+ghost use Rattle.std.specs.Prelude.{◌≡◌, length};
 
 use class_store::{ClassStore, NoMemory};
 use macek_run::{Report, macek_alone};
