@@ -133,21 +133,33 @@ impl Gate for CountingGate {
     }
 }
 
+// How often so many workers ask the gate before parent 0, parent 1 and any other parent.
+fn asked_by<R: Threads + Wait + Sync>(
+    rt: &R,
+    alloc: Global,
+    workers: usize,
+) -> Result<[u64; 3], Fail>
+    requires { (0 < workers) × (workers ≤ 64) }
+{
+    let gate = CountingGate {
+        first: AtomicU64::new(0),
+        second: AtomicU64::new(0),
+        others: AtomicU64::new(0),
+    };
+    counts(rt, alloc, "rank 3\nfield 2\nsize 7\n", workers, &gate)?;
+    Ok([
+        gate.first.load(Ordering::SeqCst),
+        gate.second.load(Ordering::SeqCst),
+        gate.others.load(Ordering::SeqCst),
+    ])
+}
+
 // The levels of sizes 3 to 6 have 1, 2, 1 and 1 forms.
 #[test]
 fn the_gate_is_asked_before_each_parent(rt: HostRuntime) -> Result<(), Fail> {
-    for workers in [1, 2, 5] {
-        let gate = CountingGate {
-            first: AtomicU64::new(0),
-            second: AtomicU64::new(0),
-            others: AtomicU64::new(0),
-        };
-        let found = counts(&rt, rt.alloc(), "rank 3\nfield 2\nsize 7\n", workers, &gate)?;
-        assert_eq!(rt; found.as_slice(), &FANO[..]);
-        assert_eq!(rt; gate.first.load(Ordering::SeqCst), 4, "by {workers} workers");
-        assert_eq!(rt; gate.second.load(Ordering::SeqCst), 1, "by {workers} workers");
-        assert_eq!(rt; gate.others.load(Ordering::SeqCst), 0, "by {workers} workers");
-    }
+    assert_eq!(rt; asked_by(&rt, rt.alloc(), 1)?, [4, 1, 0]);
+    assert_eq!(rt; asked_by(&rt, rt.alloc(), 2)?, [4, 1, 0]);
+    assert_eq!(rt; asked_by(&rt, rt.alloc(), 5)?, [4, 1, 0]);
     Ok(())
 }
 
@@ -165,7 +177,10 @@ fn answers_in_turn<R: Wait + Sync>(
     ensures { IfOk result (λ r. length r.2 ≡ store.now.stripes) }
 {
     let (level, mut passes) = store.open_level(alloc, 2)?;
-    let (Some(mut second), Some(mut first)) = (passes.pop(), passes.pop()) else {
+    let Some(mut second) = passes.pop() else {
+        unreachable!()
+    };
+    let Some(mut first) = passes.pop() else {
         unreachable!()
     };
     let mut shifts = fill(alloc, parents.len() as u64, 2)?;
