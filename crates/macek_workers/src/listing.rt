@@ -1,5 +1,5 @@
 // The listing of a request, level by level, where each level is grown by workers.
-ghost use Rattle.std.specs.Prelude.{◌≡◌, ◌++◌, ◌⊎◌, ◌<◌, ◌≤◌, OnOk, IfErr};
+ghost use Rattle.std.specs.Prelude.{◌≡◌, ◌++◌, ◌⊎◌, ◌<◌, ◌≤◌, OnOk, IfErr, length};
 ghost use Rattle.outside.specs.Causes.{Rose};
 ghost use Rattle.formats.specs.Listing.{level_count, end_text as the_end};
 ghost use Rattle.formats.specs.Levels.{IsListing, IsListingUpTo, IsListingCutOff};
@@ -44,6 +44,7 @@ fn write_levels<R: Threads + Wait + Sync, K: Sink, G: Gate + Sync>(
     ensures err { IfErr result (λ cut. Gains (K.held sink.old) (K.held sink.new) (IsLess cut.why request.now cut.whole)) }
     ensures rose { IfErr result (λ cut. cut.why ≡ Stop.Failed → Rose (K.faults sink.old) (K.faults sink.new)) }
     ensures stripes { store.new.stripes ≡ store.old.stripes }
+    ensures width { length store.old.last ≡ store.old.stripes → length store.new.last ≡ store.new.stripes }
     ensures closed { OnOk result (HasClosed request.now request.now.size store.old store.new) }
     ensures leaves { IfErr result (λ cut. LeavesStore cut.why request.now cut.whole store.old store.new) }
 {
@@ -100,6 +101,7 @@ pub fn write_listing<R: Threads + Wait + Sync, K: Sink, G: Gate + Sync>(
         Gains (K.held sink.old) (K.held sink.new) (IsListingUpTo request.now result.levels)
         × HasClosedSome request.now result.levels store.old store.new }
     ensures stripes { store.new.stripes ≡ store.old.stripes }
+    ensures width { length store.old.last ≡ store.old.stripes → length store.new.last ≡ store.new.stripes }
     ensures only { (result.status ≡ Status.Done) ⊎ (result.status ≡ Status.WriteFault) ⊎ (result.status ≡ Status.NoMemory) }
 {
     request.laws();

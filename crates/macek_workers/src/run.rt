@@ -1,5 +1,5 @@
 // The run of `macek`, from its words to its report.
-ghost use Rattle.std.specs.Prelude.{◌≡◌, ◌≢◌, ◌⊎◌, ◌<◌, ◌≤◌, ℕ, List, Some, IfSome, unwrap_or};
+ghost use Rattle.std.specs.Prelude.{◌≡◌, ◌≢◌, ◌⊎◌, ◌<◌, ◌≤◌, ℕ, List, Some, IfSome, length, unwrap_or};
 ghost use Rattle.std.specs.Io.KnownBytes.{IsAtEnd};
 ghost use Rattle.outside.specs.Causes.{Rose};
 ghost use Rattle.outside.specs.Bytes.{TakesAtMost};
@@ -93,9 +93,10 @@ pub fn macek<R: Threads + Wait + Sync, S: Source, K: Sink, G: Gate + Sync>(
         × (NameSample StandsAtMacek (texts_of words.now) ⊎ IsAtEnd (S.left source.new))
         × (S.faults source.new ≡ S.faults source.old) × (K.faults sink.new ≡ K.faults sink.old) }
 
-    // However a run ends, the store keeps its number of stripes, and no more of the source is taken than one byte past the
-    // longest text.
+    // However a run ends, the store keeps its number of stripes, and the level that was closed last has as many. No more of the
+    // source is taken than one byte past the longest text.
     ensures stripes { store.new.stripes ≡ store.old.stripes }
+    ensures width { length store.old.last ≡ store.old.stripes → length store.new.last ≡ store.new.stripes }
     ensures takes { TakesAtMost 65537 (S.left source.old) (S.left source.new) }
 
     // Nothing else is answered to an accepted request, nor to another text.
@@ -160,6 +161,7 @@ fn list_source<R: Threads + Wait + Sync, S: Source, K: Sink, G: Gate + Sync>(
         × (S.faults source.new ≡ S.faults source.old) × (K.faults sink.new ≡ K.faults sink.old) }
 
     ensures stripes { store.new.stripes ≡ store.old.stripes }
+    ensures width { length store.old.last ≡ store.old.stripes → length store.new.last ≡ store.new.stripes }
     ensures takes { TakesAtMost 65537 (S.left source.old) (S.left source.new) }
 
     ensures complete { (text : List ℕ) (q : Asked) → S.left source.old ≡ Some text → StandsFor text q →

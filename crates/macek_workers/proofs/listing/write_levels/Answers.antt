@@ -26,6 +26,7 @@ loop-size-init g c = record {
   kept = c.in_default-write_level.ensures.kept;
   closed = none_closed c.args.request.now c.rank-rank.result c.args.store.now (let e = c.rank-rank.ensures in omega arith);
   stripes = refl;
+  width = λ wide. wide;
 }
 
 pub write_level-requires-in-loop-size-clause-forms :
@@ -58,6 +59,7 @@ loop-size-preserved g c =
       kept = c.in_default-write_level-2.ensures.kept ∙ c.loop-size.invariant.kept;
       closed = more_closed c.args.request.now c.loop-size.size c.args.store.now c.grow.new.store (omega arith) (c.in-Ok-grow.ensures.holds c.loop-size.size h);
       stripes = c.grow.ensures.stripes ∙ c.loop-size.invariant.stripes;
+      width = λ wide. c.in-Ok-grow.ensures.width;
     }
 
 pub returns-clause-closed : goal.returns-clause-closed

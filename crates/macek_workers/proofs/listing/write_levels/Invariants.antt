@@ -1,4 +1,4 @@
-use Rattle.std.proofs.Common.{◌≡◌}
+use Rattle.std.proofs.Common.{◌≡◌, length}
 use Rattle.level_driver.specs.Grown.{IsLevelOf}
 use Rattle.macek_run.proofs.Begun.{HaveBegun}
 use Rattle.macek_workers.specs.Stored.{HasClosed}
@@ -12,4 +12,5 @@ invariant-loop-size g l = record {
   kept : g.K.Sink.faults l.sink ≡ g.K.Sink.faults l.fn.sink;
   closed : HasClosed l.request l.size l.fn.store l.store;
   stripes : l.store.stripes ≡ l.fn.store.stripes;
+  width : length l.fn.store.last ≡ l.fn.store.stripes → length l.store.last ≡ l.store.stripes;
 }

@@ -1,17 +1,12 @@
 use Rattle.std.proofs.Common.{◌+◌, arith}
-use Rattle.workers_tests.proofs.tests.the_first_takes_all.Goals as goal
+use Rattle.workers_tests.proofs.tests.answers_at_size_five.Goals as goal
 
 pub answers_in_turn-requires-after_bounds : goal.answers_in_turn-requires-after_bounds
-answers_in_turn-requires-after_bounds g c κs = (
+answers_in_turn-requires-after_bounds g c κs within = (
   c.in_ok-request.request.rank + 1,
   record {
     at_least = omega arith;
-    before = (
-        let r = c.rank-then-rank-size.ensures in
-        let s = c.size-then-rank-size.ensures in
-        let l = c.if-rank-size-2.true in
-        omega arith
-        );
+    before = (let r = c.rank.ensures in let s = c.size.ensures in let l = c.if-rank-size.true in omega arith);
     level = c.in_ok-level.ensures.forms c.in_ok-request.request.rank
         record {
           at_least = omega arith;
