@@ -11,9 +11,9 @@ from dataclasses import dataclass
 from fields import LETTERS
 
 NUMBER = "(0|[1-9][0-9]*)"
-COLUMNS = "( [0-9a-c]{1,6})+"
-MINOR = rf"(U{NUMBER},{NUMBER}|F7|F7\*|F7-|K4|K5|matrix (2|3|4|5|7|8|9|11|13){COLUMNS})"
-FILTERS = ("filter connected", "filter 3conn", "filter cosimple", "filter distinct", f"filter has {MINOR}")
+ORDERS = {"1": "2 3 4 5 7 8 9".split(), "2": "2 3 4 5 7 8 9 11 13".split()}
+NAMES = ("F7", "F7*", "F7-", "K4", "K5")
+FILTERS = ("filter connected", "filter 3conn", "filter cosimple", "filter distinct")
 LEVEL = re.compile(f"level {NUMBER} classes {NUMBER} listed {NUMBER} tried {NUMBER}")
 
 
@@ -67,12 +67,11 @@ class Lines:
             self.fail(f"this is not {wanted}")
         return found
 
-    def next_while(self, pattern):
-        """The next lines, as long as they are like a pattern."""
-        start = self.taken
-        while self.taken < len(self.lines) and re.fullmatch(pattern, self.lines[self.taken]):
-            self.taken += 1
-        return self.lines[start : self.taken]
+    def skip(self, is_wanted):
+        """Passes over the next line where it is as wanted, and says whether it was."""
+        found = self.taken < len(self.lines) and is_wanted(self.lines[self.taken])
+        self.taken += int(found)
+        return found
 
 
 def read_listing(text):
@@ -96,28 +95,48 @@ def read_listing(text):
 def read_head(lines):
     """The orders, the rank and the size of a listing, from the lines of its head."""
     lines.next_like("macek listing 1", "the line 'macek listing 1' with which a listing begins")
-    version = lines.next_like("version ([12])", "a line 'version 1' or 'version 2'").group(1)
-    order = "(?:[2345789]|11|13)" if version == "2" else "[2345789]"
-    fields = lines.next_like(f"field ({order}(?: x {order}){{0,2}})", "a line 'field' with one to three orders").group(1)
+    orders = ORDERS[lines.next_like("version ([12])", "a line 'version 1' or 'version 2'").group(1)]
+    fields = lines.next_like("field (.*)", "a line 'field'").group(1).split(" x ")
+    if len(fields) > 3 or not set(fields) <= set(orders):
+        lines.fail("these are not one to three orders of fields")
     rank = int(lines.next_like("rank ([1-6])", "a line 'rank' with a rank from 1 to 6").group(1))
     size = int(lines.next_like(f"size {NUMBER}", "a line 'size'").group(1))
     if not rank <= size <= 16:
         lines.fail("the size is not from the rank to 16")
-    read_options(lines)
+    skip_options(lines, orders)
     if lines.next_like("print (forms|counts)", "a line of the head in its place").group(1) == "counts":
         lines.fail("this listing has counts alone; a request with 'print forms' lists the forms")
-    return tuple(int(order) for order in fields.split(" x ")), rank, size
+    return tuple(int(order) for order in fields), rank, size
 
 
-def read_options(lines):
+def skip_options(lines, orders):
     """Passes over the lines of the head that a request may lack."""
-    if len(lines.next_while("equivalence semilinear")) > 1:
-        lines.fail("this line stands twice")
-    if len(lines.next_while(f"forbid {MINOR}")) > 8:
-        lines.fail("more than eight lines 'forbid'")
-    for pattern in FILTERS:
-        if len(lines.next_while(pattern)) > 1:
-            lines.fail("this filter stands twice")
+    lines.skip(lambda line: line == "equivalence semilinear")
+    for _ in range(8):
+        lines.skip(lambda line: names_minor(line, "forbid ", orders))
+    for wanted in FILTERS:
+        lines.skip(lambda line: line == wanted)
+    lines.skip(lambda line: names_minor(line, "filter has ", orders))
+
+
+def names_minor(line, start, orders):
+    """Whether a line has a start and goes on with the name of a matroid of up to 10 elements, or with a matrix."""
+    name = line.removeprefix(start)
+    uniform = re.fullmatch(f"U{NUMBER},{NUMBER}", name)
+    if not line.startswith(start):
+        return False
+    if uniform:
+        rank, size = (int(number) for number in uniform.groups())
+        return rank <= size and 1 <= size <= 10
+    return name in NAMES or is_matrix(name.split(" "), orders)
+
+
+def is_matrix(words, orders):
+    """Whether words are `matrix`, an order, and one to ten columns of codes below it, with one to six rows."""
+    if words[0] != "matrix" or not 3 <= len(words) <= 12 or words[1] not in orders:
+        return False
+    letters, rows = LETTERS[: int(words[1])], len(words[2])
+    return 1 <= rows <= 6 and all(re.fullmatch(f"[{letters}]{{{rows}}}", word) for word in words[2:])
 
 
 def read_level(lines, orders, rank, size):

@@ -1,5 +1,6 @@
 """What the scripts that write code for other programs have in common."""
 
+import signal
 import sys
 
 from fields import field
@@ -56,6 +57,7 @@ def run(name, lines_of):
     except (BadListing, OSError) as fault:
         print(f"{name}: {fault}", file=sys.stderr)
         sys.exit(1)
+    signal.signal(signal.SIGPIPE, signal.SIG_DFL)
     sys.stdout.writelines(line + "\n" for line in lines_of(listing))
 
 
