@@ -185,8 +185,8 @@ module _ (words : List (List ℕ)) where
   not_more m n a b =
       elim (cases_lt m n) [
         | inl l ↦ (
-          let e : (m - 1) * 2 + 1 ≡ m * 2 - 1 = omega (arith, a.some) in
-          absurd (a.behind (omega (arith, b.few)) (ap (word_at words) (sym e) ∙ b.between (m - 1) (omega (arith, a.some)))))
+            let e : (m - 1) * 2 + 1 ≡ m * 2 - 1 = omega (arith, a.some) in
+            absurd (a.behind (omega (arith, b.few)) (ap (word_at words) (sym e) ∙ b.between (m - 1) (omega (arith, a.some)))))
         | inr g ↦ g
       ]
 

@@ -44,9 +44,12 @@ contains_masks n words X = (
         (All-filter (has words) (Contains (range_with_len 0 n)) (range_with_len 0 n) (All-contains_itself (range_with_len 0 n))) c),
     All-contains (λ x. has words x ≡ true) (filter (has words) (range_with_len 0 n)) X (filter_passes (has words) (range_with_len 0 n)) c,
   )),
-  (λ w. kept (has words) (range_with_len 0 n) X
-      (X, (let e : length (range_with_len 0 n) ≡ n = length-range_with_len 0 n in let l : X < n = w.0 in
-      omega arith), get_or-range_with_len 0 n X X w.0 ∙ omega arith) w.1),
+  (λ w. kept (has words) (range_with_len 0 n) X (
+    X,
+    (let e : length (range_with_len 0 n) ≡ n = length-range_with_len 0 n in let l : X < n = w.0 in
+        omega arith),
+    get_or-range_with_len 0 n X X w.0 ∙ omega arith,
+  ) w.1),
 )
   where
     in_range : Contains (range_with_len 0 n) X → X < n
@@ -73,8 +76,11 @@ pub more_masks : (n : ℕ) (words new : List ℕ) (set : ℕ) → set < n → ((
 more_masks n words new set below e X =
     let a = contains_masks n words X in
     let b = contains_masks n new X in (
-      (λ c. let w = b.0 c in elim (or_cases (has words X) (set == X) (sym (e X) ∙ w.1)) [ inl o ↦ inl (a.1 (w.0, o)) | inr o ↦
-          inr (eqb-true set X o) ]),
+      (λ c. let w = b.0 c in elim (or_cases (has words X) (set == X) (sym (e X) ∙ w.1)) [
+        | inl o ↦ inl (a.1 (w.0, o))
+        | inr o ↦
+            inr (eqb-true set X o)
+      ]),
       (λ d. elim d [
         | inl c ↦ (let w = a.0 c in b.1 (w.0, e X ∙ or_left (has words X) (set == X) w.1))
         | inr s ↦ b.1 (subst (λ (x : ℕ). x < n) s below, e X ∙ or_right (has words X) (set == X) (ap (λ x. x == X) s ∙ same_number X))
@@ -87,6 +93,6 @@ pub put_mask : (n : ℕ) (words old : List ℕ) → masks_below n words ≡ old 
     → Contains (masks_below n (slice_set words word (bit_or (slice_index words word) (1 * 2 ^ bit % 2 ^ 64)))) X ↔ (Contains old X ⊎ (set ≡ X))
 put_mask n words old e set word bit w b l below X =
     subst (λ (old : List ℕ). Contains (masks_below n (slice_set words word (bit_or (slice_index words word) (1 * 2 ^ bit % 2 ^ 64)))) X ↔
-        (Contains old X ⊎ (set ≡ X))) e
+    (Contains old X ⊎ (set ≡ X))) e
     (more_masks n words (slice_set words word (bit_or (slice_index words word) (1 * 2 ^ bit % 2 ^ 64))) set below
-        (has_more words set word bit w b l) X)
+    (has_more words set word bit w b l) X)

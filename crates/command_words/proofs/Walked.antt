@@ -213,7 +213,7 @@ stand_by waiting h = record { held = h; waiting = waiting; position = 1; is_trai
 -- the use is put last, after what stood open
 use_after : (u : Use) (values : List Text) (us : List Use) (pend : Pend)
     → ((before : List Use) → has (option_of u) before ≡ false
-      → used (rule_for (option_of u)) values (map row_for before) ≡ map row_for (before ++ u ∷ []))
+    → used (rule_for (option_of u)) values (map row_for before) ≡ map row_for (before ++ u ∷ []))
     → or_else (settle_kinds us pend) (clash (has (option_of u) (settle_uses us pend))) ≡ []
     → stand_by idle (rows_only (used (rule_for (option_of u)) values (settled rules (held us pend)).rows))
     ≡ stands (settle_uses us pend ++ u ∷ []) Resting

@@ -51,7 +51,11 @@ fn is_of_size(last: &Last, size: u8) -> bool {
     let keys = keys_at(size);
     entries
         && last.keys.len() == keys.len()
-        && last.keys.iter().zip(keys).all(|(key, want)| key.as_slice() == *want)
+        && last
+            .keys
+            .iter()
+            .zip(keys)
+            .all(|(key, want)| key.as_slice() == *want)
 }
 
 // A run in a store of its own, and what the store then has.

@@ -39,10 +39,10 @@ loop-set-preserved c X =
     elim c.if-is_basis.branch [
       | then-is_basis w ↦ subst (λ (t : List ℕ). Contains t X ↔ IsBasisBelow c.args.rep.now (c.loop-set.set + 1) X) (sym w.table-is)
           (with_basis c.args.rep.now c.loop-set.set X c.loop-set.table w.add.new.self (w.add.ensures X)
-              (c.is_basis.ensures.0 w.if-is_basis.true) (c.loop-set.invariant X))
+          (c.is_basis.ensures.0 w.if-is_basis.true) (c.loop-set.invariant X))
       | else-is_basis w ↦ subst (λ (t : List ℕ). Contains t X ↔ IsBasisBelow c.args.rep.now (c.loop-set.set + 1) X) (sym w.table-is)
           (without_basis c.args.rep.now c.loop-set.set X c.loop-set.table
-              (λ b. false≢true (sym w.if-is_basis.false ∙ c.is_basis.ensures.1 b)) (c.loop-set.invariant X))
+          (λ b. false≢true (sym w.if-is_basis.false ∙ c.is_basis.ensures.1 b)) (c.loop-set.invariant X))
     ]
 
 pub returns : goal.returns

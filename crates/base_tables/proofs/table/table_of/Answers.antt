@@ -20,9 +20,9 @@ with_mask before set X old new e h = (
 pub loop-mask-preserved : goal.loop-mask-preserved
 loop-mask-preserved c X =
     subst (λ (xs : List ℕ). Contains c.add.new.self X ↔ Contains xs X)
-        (sym (take_more c.args.masks.now c.loop-mask.mask-index 0 c.loop-mask-test.true))
+    (sym (take_more c.args.masks.now c.loop-mask.mask-index 0 c.loop-mask-test.true))
     (with_mask (take c.loop-mask.mask-index c.args.masks.now)
-        (slice_index c.args.masks.now c.loop-mask.mask-index) X c.loop-mask.table c.add.new.self (c.add.ensures X) (c.loop-mask.invariant X))
+    (slice_index c.args.masks.now c.loop-mask.mask-index) X c.loop-mask.table c.add.new.self (c.add.ensures X) (c.loop-mask.invariant X))
 
 pub returns : goal.returns
 returns c =
