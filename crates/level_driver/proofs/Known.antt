@@ -1,7 +1,7 @@
 -- The answer to a column is the answer to each column that is carried to it.
 use Rattle.std.proofs.Common.{◌≡◌, ◌<◌, List, [], ◌∷◌, ◌++◌, Option, Some, None, ℕ, refl, sym, subst}
 use Rattle.std.specs.Prelude.{IsSome, IsNone, IfSome}
-use Rattle.std.specs.List.{All, Contains}
+use Rattle.std.specs.List.{Contains}
 use Rattle.std.proofs.lemmas.List.Elements.{All-contains, All-push, All-same}
 use Rattle.matroid_theory.specs.Rep.{Rep, count}
 use Rattle.matroid_theory.specs.Move.{AreEquivalent}
@@ -10,7 +10,7 @@ use Rattle.matroid_theory.specs.Level.{followed_by}
 use Rattle.matroid_theory.proofs.Equivalence.{equivalent-symmetric, equivalent-transitive}
 use Rattle.symmetry.specs.Symmetric.{MovesOf}
 use Rattle.level_driver.specs.declared.parent.Leader.{Leader}
-use Rattle.level_driver.specs.Known.{ChildrenOf, IsAnswer, IsChildOf, KeepsAnswers}
+use Rattle.level_driver.specs.Known.{ChildrenOf, IsAnswer, KeepsAnswers}
 use Rattle.level_driver.specs.Forbidden.{Avoids}
 use Rattle.level_driver.proofs.MinorsCarried.{avoids_over}
 

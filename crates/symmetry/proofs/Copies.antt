@@ -1,5 +1,5 @@
 -- What is kept of a move beside it, where the move is changed.
-use Rattle.std.proofs.Common.{◌≡◌, ◌≢◌, ℕ, ◌+◌, ◌*◌, ◌<◌, List, length, inl, inr, refl, sym, ◌∙◌, ap, subst, arith, slice_index, slice_set}
+use Rattle.std.proofs.Common.{◌≡◌, ℕ, ◌+◌, ◌*◌, ◌<◌, List, length, inl, inr, sym, ◌∙◌, ap, subst, slice_index, slice_set}
 use Rattle.std.proofs.lemmas.Bool.{cases_eq}
 use Rattle.std.proofs.lemmas.List.{get_or-set_same, get_or-set_other, length-set}
 use Rattle.matroid_theory.specs.Field.{IsField, times, raised}

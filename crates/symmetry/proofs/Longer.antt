@@ -1,7 +1,7 @@
 -- A move that takes a representation to itself, with one more column.
-use Rattle.std.proofs.Common.{◌≡◌, ◌≢◌, ℕ, zero, suc, ◌+◌, ◌*◌, ◌<◌, ◌≤◌, refl, sym, ◌∙◌, ap, subst, arith, List, length, inl, inr, slice_index}
+use Rattle.std.proofs.Common.{◌≡◌, ◌≢◌, ℕ, suc, ◌+◌, ◌*◌, ◌<◌, sym, ◌∙◌, ap, subst, arith, List, inl, inr, slice_index}
 use Rattle.std.proofs.lemmas.Bool.{cases_lt}
-use Rattle.matroid_theory.specs.Field.{IsField, times, raised}
+use Rattle.matroid_theory.specs.Field.{times, raised}
 use Rattle.matroid_theory.specs.Matrix.{combination}
 use Rattle.matroid_theory.specs.Rep.{Rep, shape, count, size, order, matrix, IsShaped, IsProductColumn}
 use Rattle.matroid_theory.specs.declared.Mode.{Mode}

@@ -1,5 +1,5 @@
 -- A column by which a standard representation stays simple and its factors agree is normalised where its first codes are 1.
-use Rattle.std.proofs.Common.{◌≡◌, ◌≢◌, ℕ, zero, suc, ◌+◌, ◌*◌, ◌<◌, ◌≤◌, sym, ◌∙◌, ap, subst, arith, List, length, inl, inr, ◌⊎◌, slice_index}
+use Rattle.std.proofs.Common.{◌≡◌, ◌≢◌, ℕ, zero, suc, ◌+◌, ◌*◌, ◌<◌, sym, ◌∙◌, ap, subst, arith, List, inl, inr, ◌⊎◌, slice_index}
 use Rattle.std.specs.Bool.{◌==◌}
 use Rattle.std.specs.Prelude.{◌||◌}
 use Rattle.std.proofs.lemmas.Bool.{cases_lt, cases_eq}

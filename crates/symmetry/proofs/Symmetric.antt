@@ -1,5 +1,5 @@
 -- The image of a column under a move that takes a representation to itself.
-use Rattle.std.proofs.Common.{◌≡◌, ◌≢◌, ℕ, ◌*◌, ◌+◌, ◌<◌, List, length, sym, ◌∙◌, ap, subst, slice_index, arith, inl, inr}
+use Rattle.std.proofs.Common.{◌≡◌, ℕ, ◌<◌, List, length, sym, ◌∙◌, ap, subst, slice_index, arith, inl, inr}
 use Rattle.std.proofs.lemmas.Bool.{cases_eq}
 use Rattle.matroid_theory.specs.declared.Mode.{Mode}
 use Rattle.matroid_theory.specs.declared.Mode.TheVariants.{Semilinear}
@@ -9,7 +9,7 @@ use Rattle.matroid_theory.specs.Move.{Move, MoveTable, IsMove, TakesTo, AreEquiv
 use Rattle.matroid_theory.specs.Level.{followed_by}
 use Rattle.matroid_theory.proofs.Frobenius.{times_nonzero}
 use Rattle.matroid_theory.proofs.Sums.{times_zero}
-use Rattle.symmetry.specs.Images.{code_at, mapped, IsLeadScalar, AreLeadScalars, HasLeadOnes}
+use Rattle.symmetry.specs.Images.{code_at, mapped, AreLeadScalars, HasLeadOnes}
 use Rattle.symmetry.specs.Symmetric.{IsSymmetry}
 use Rattle.symmetry.proofs.Longer.{equivalent_images}
 

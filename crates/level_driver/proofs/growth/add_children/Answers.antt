@@ -1,4 +1,4 @@
-use Rattle.std.proofs.Common.{◌≡◌, ◌<◌, List, [], Option, Some, None, refl, sym, ◌∙◌, subst, ap}
+use Rattle.std.proofs.Common.{◌≡◌, ◌<◌, List, [], None, sym, ◌∙◌, subst, ap}
 use Rattle.matroid_theory.specs.Rep.{Rep, size, IsProductColumn}
 use Rattle.matroid_theory.specs.Matroid.{Agrees}
 use Rattle.matroid_theory.specs.Level.{IsCount, followed_by}

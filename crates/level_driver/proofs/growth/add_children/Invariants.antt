@@ -1,6 +1,5 @@
 use Rattle.std.proofs.Common.{◌≡◌}
 use Rattle.level_driver.specs.Forbidden.{matroids_of}
-use Rattle.level_driver.specs.Known.{ChildrenOf}
 use Rattle.level_driver.proofs.Tried.{HasTried}
 use Rattle.level_driver.proofs.growth.add_children.Given as goal
 

@@ -1,4 +1,4 @@
-use Rattle.std.proofs.Common.{ℕ, List, ◌≡◌, ◌+◌, ◌*◌, ◌<◌, ◌≤◌, ◌%◌, ◌/◌, ◌∙◌, sym, ap, subst, slice_index, length, arith}
+use Rattle.std.proofs.Common.{ℕ, List, ◌≡◌, ◌+◌, ◌*◌, ◌<◌, ◌≤◌, ◌%◌, ◌/◌, ◌∙◌, sym, ap, subst, slice_index, length}
 use Rattle.matroid_theory.specs.Field.{times, IsField, IsFactors}
 use Rattle.matroid_theory.proofs.FieldLaws.{field_laws}
 use Rattle.symmetry.specs.Images.{code_at}

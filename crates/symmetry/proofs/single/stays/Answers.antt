@@ -1,4 +1,4 @@
-use Rattle.std.proofs.Common.{◌≡◌, sym, ◌∙◌, subst}
+use Rattle.std.proofs.Common.{sym, subst}
 use Rattle.matroid_theory.specs.Move.{TakesTo, move_of}
 use Rattle.matroid_theory.proofs.Levels.{rep_cmp-equal}
 use Rattle.symmetry.proofs.single.stays.Goals as goal

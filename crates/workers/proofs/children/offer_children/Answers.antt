@@ -25,16 +25,16 @@ loop-column-init g c =
     }
 
 pub child-requires-clause-room : goal.child-requires-clause-room
-child-requires-clause-room g c κs within = subst (λ (k : ChildrenOf). size k.parent < 16) (sym c.loop-column.invariant.children) c.requires.parent.room
+child-requires-clause-room g c = subst (λ (k : ChildrenOf). size k.parent < 16) (sym c.loop-column.invariant.children) c.requires.parent.room
 
 pub child-requires-clause-column : goal.child-requires-clause-column
-child-requires-clause-column g c κs within =
+child-requires-clause-column g c =
     let n : IsNextColumn c.loop-column.column-iterator c.in-Some.column.items = c.in-Some.ensures.steps.0 in
     subst (λ (k : ChildrenOf). IsProductColumn k.parent.factors k.parent.rank c.in-Some.column.items) (sym c.loop-column.invariant.children)
     (subst (λ (P : Rep). IsProductColumn P.factors P.rank c.in-Some.column.items) c.loop-column.invariant.parent n.admissible.normalised.is_column)
 
 pub child-requires-clause-agrees : goal.child-requires-clause-agrees
-child-requires-clause-agrees g c κs within =
+child-requires-clause-agrees g c =
     let n : IsNextColumn c.loop-column.column-iterator c.in-Some.column.items = c.in-Some.ensures.steps.0 in
     subst (λ (k : ChildrenOf). Agrees (followed_by k.parent c.in-Some.column.items)) (sym c.loop-column.invariant.children)
     (subst (λ (P : Rep). Agrees (followed_by P c.in-Some.column.items)) c.loop-column.invariant.parent n.admissible.agrees)

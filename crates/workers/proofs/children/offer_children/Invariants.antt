@@ -1,6 +1,5 @@
 use Rattle.std.proofs.Common.{◌≡◌}
 use Rattle.level_driver.specs.Forbidden.{matroids_of}
-use Rattle.level_driver.specs.Known.{ChildrenOf}
 use Rattle.workers.specs.Offered.{AreGathered, IsSamePass}
 use Rattle.workers.proofs.ChildKeys.{HasOffered}
 use Rattle.workers.proofs.children.offer_children.Given as goal

@@ -1,7 +1,6 @@
-use Rattle.std.proofs.Common.{◌≡◌, ◌<◌, ◌+◌, ◌*◌, ℕ, List, length, sym, ◌∙◌, ap, subst, slice_index}
+use Rattle.std.proofs.Common.{◌≡◌, ◌<◌, ℕ, List, length, subst, slice_index}
 use Rattle.matroid_theory.specs.Field.{times}
 use Rattle.matroid_theory.specs.Rep.{Rep, order, count, IsProductColumn}
-use Rattle.matroid_theory.specs.Move.{MoveTable}
 use Rattle.matroid_theory.proofs.FieldLaws.{field_laws}
 use Rattle.symmetry.specs.Images.{code_at, AreLeadScalars}
 use Rattle.symmetry.proofs.Symmetric.{column_of_shape, image_equivalent, image_ones}

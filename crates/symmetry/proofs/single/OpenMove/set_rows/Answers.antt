@@ -1,4 +1,4 @@
-use Rattle.std.proofs.Common.{◌≡◌, ◌<◌, ◌+◌, ◌*◌, ℕ, List, length, sym, ◌∙◌, subst}
+use Rattle.std.proofs.Common.{◌<◌, ◌+◌, ◌*◌, ℕ, List, length, sym, ◌∙◌, subst}
 use Rattle.matroid_theory.specs.Move.{MoveTable, row_place}
 use Rattle.product_rep.proofs.EntryLemmas.{set_in_place}
 use Rattle.symmetry.proofs.Copies.{row_room, rows_copied}
