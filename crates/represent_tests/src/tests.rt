@@ -67,12 +67,7 @@ fn names_without_a_matrix(rt: HostRuntime) -> Result<(), Fail> {
 // The cycle matroid of K4 by a matrix over GF(2), and then over GF(3).
 #[test]
 fn form_over_another_field(rt: HostRuntime) -> Result<(), Fail> {
-    let mut rep = Rep::unit(Factors::of(&[2]).ok_or("no factors")?, 3);
-    for codes in [[0, 1, 1], [1, 0, 1], [1, 1, 0]] {
-        let mut column = ProductColumn::new();
-        column.try_extend_from_slice(&codes)?;
-        rep.push_column(&column);
-    }
+    let rep = unit_and!([2], 3, [0, 1, 1], [1, 0, 1], [1, 1, 0]);
     if !agree(&rep) {
         return Err("no basis".into());
     }
