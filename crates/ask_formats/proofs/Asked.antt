@@ -1,6 +1,6 @@
 -- What may be asked about can be spelled.
-use Rattle.std.proofs.Common.{ℕ, ◌<◌, ◌≤◌, arith}
-use Rattle.matroid_theory.specs.Rep.{Rep, size}
+use Rattle.std.proofs.Common.{arith}
+use Rattle.matroid_theory.specs.Rep.{Rep}
 use Rattle.ask_formats.specs.Question.{MayBeNamed, MayAskDual, CanBeSpelled}
 
 pub spelled_named : (M : Rep) → MayBeNamed M → CanBeSpelled M

@@ -1,17 +1,16 @@
 -- The words of a representation, place by place, and that they tell it.
-use Rattle.std.proofs.Common.{◌≡◌, ◌≢◌, ℕ, zero, suc, ◌+◌, ◌-◌, ◌*◌, ◌<◌, ◌≤◌, refl, sym, ◌∙◌, ap, subst, arith, List, [], ◌∷◌, ◌++◌, map, length, take, drop, inl, inr}
+use Rattle.std.proofs.Common.{◌≡◌, ◌≢◌, ℕ, zero, suc, ◌+◌, ◌-◌, ◌*◌, ◌<◌, ◌≤◌, sym, ◌∙◌, ap, subst, arith, List, [], ◌∷◌, ◌++◌, map, length, take, drop, inl, inr}
 use Rattle.std.specs.Prelude.{codes, decimal}
-use Rattle.std.specs.List.{range_with_len, slice_index, slice_index_or}
+use Rattle.std.specs.List.{slice_index, slice_index_or}
 use Rattle.std.proofs.lemmas.Bool.{cases_lt}
 use Rattle.std.proofs.lemmas.Fmt.{decimal_injective}
 use Rattle.std.proofs.lemmas.List.{ext_get_or, get_or-map, length-map, get_or_append_left, get_or-append-add, get_or-take, get_or-drop, length-take-le, length-drop, take-append-drop}
 use Rattle.std.proofs.lemmas.List.FromFn.{get_or-map-range_with_len, length-map-range_with_len}
 use Rattle.std.proofs.Common.{length-append}
-use Rattle.matroid_theory.specs.Field.{IsOrder, IsFactors}
-use Rattle.matroid_theory.specs.Rep.{Rep, count, size, shape, matrix, order, column_of, KeepsLimits}
+use Rattle.matroid_theory.specs.Field.{IsFactors}
+use Rattle.matroid_theory.specs.Rep.{Rep, count, size, matrix, order, column_of}
 use Rattle.matroid_theory.proofs.First.{same_codes}
-use Rattle.formats.specs.Lines.{parted}
-use Rattle.formats.specs.Statement.{column_word, entry_letter}
+use Rattle.formats.specs.Statement.{column_word}
 use Rattle.formats.specs.Levels.{columns_of, columns_of_factor}
 use Rattle.formats.proofs.Unique.{order_small, letter_same}
 use Rattle.ask_formats.specs.Question.{field_words, form_words, representation_words, CanBeSpelled}

@@ -1,7 +1,7 @@
-use Rattle.std.proofs.Common.{◌≡◌, ◌∙◌, ℕ, List, ◌∷◌, refl, sym, ap, subst}
+use Rattle.std.proofs.Common.{◌≡◌, ◌∙◌, ℕ, List, ◌∷◌, refl, sym, ap}
 use Rattle.std.specs.Prelude.{codes}
 use Rattle.matroid_theory.specs.Rep.{Rep}
-use Rattle.ask_formats.specs.Question.{Question, Dual, Asks, MayAskDual, CanBeSpelled, representation_words}
+use Rattle.ask_formats.specs.Question.{Question, Dual, Asks, CanBeSpelled, representation_words}
 use Rattle.ask_formats.proofs.Readings.{read_as, read_same}
 use Rattle.ask_formats.proofs.Asked.{spelled_dual}
 use Rattle.ask_formats.proofs.laws.one_question.Goals as goal

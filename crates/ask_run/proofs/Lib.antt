@@ -1,0 +1,4 @@
+mod Answered
+mod Orders
+mod Columns
+mod Found
