@@ -71,11 +71,7 @@ fn a_sink_that_fails(rt: HostRuntime) -> Result<(), Fail> {
 fn texts_and_numbers(rt: HostRuntime) -> Result<(), Fail> {
     for (status, text, number) in [
         (AskStatus::Done, b"".as_slice(), 0),
-        (
-            AskStatus::Usage,
-            b"macek_ask: usage: dual FIELD FORM\n",
-            2,
-        ),
+        (AskStatus::Usage, b"macek_ask: usage: dual FIELD FORM\n", 2),
         (
             AskStatus::WriteFault,
             b"macek_ask: the answer could not be written\n",

@@ -37,7 +37,9 @@ fn dual_forms_of_dual_forms(rt: HostRuntime) -> Result<(), Fail> {
         let mut forms = 0;
         for line in text.lines() {
             // The unit form has no dual form, since a dual form has a row.
-            let is_form = line.starts_with('1') && !line.ends_with("0 001") && !line.ends_with("0 01");
+            let is_form = line.starts_with('1')
+                && !line.ends_with("0 001")
+                && !line.ends_with("0 01");
             if is_form {
                 let dual = dual_line(&rt, alloc, field, line)?;
                 let again = dual_line(&rt, alloc, field, &dual)?;
