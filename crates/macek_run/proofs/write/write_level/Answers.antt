@@ -1,4 +1,4 @@
-use Rattle.std.proofs.Common.{◌∙◌, ap, length, map, arith}
+use Rattle.std.proofs.Common.{◌∙◌, ap, length, arith}
 use Rattle.std.specs.Io.KnownBytes.{Appends}
 use Rattle.outside.specs.Bytes.{AppendsFront}
 use Rattle.macek_run.proofs.Entries.{tells}
