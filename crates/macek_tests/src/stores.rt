@@ -1,6 +1,6 @@
 // What the store holds after a run.
-use crate::ran::{Given, Last, Ran, STRIPES, asked, last_of, run};
-use class_store::{ClassStore, NoMemory};
+use crate::ran::{Given, Last, Ran, asked, last_of, new_store, run};
+use class_store::NoMemory;
 use formats::{Refusal, Status};
 use std::alloc::Global;
 use std::sync::Wait;
@@ -51,7 +51,11 @@ fn is_of_size(last: &Last, size: u8) -> bool {
     let keys = keys_at(size);
     entries
         && last.keys.len() == keys.len()
-        && last.keys.iter().zip(keys).all(|(key, want)| key.as_slice() == *want)
+        && last
+            .keys
+            .iter()
+            .zip(keys)
+            .all(|(key, want)| key.as_slice() == *want)
 }
 
 // A run in a store of its own, and what the store then has.
@@ -60,7 +64,7 @@ fn run_anew<R: Threads + Wait + Sync>(
     alloc: Global,
     given: Given,
 ) -> Result<(Ran, Last), NoMemory> {
-    let mut store = ClassStore::new(alloc, STRIPES)?;
+    let mut store = new_store(alloc)?;
     let ran = run(rt, alloc, &mut store, given)?;
     let last = last_of(alloc, &store)?;
     Ok((ran, last))
@@ -113,7 +117,7 @@ fn run_after<R: Threads + Wait + Sync>(
     first: Given,
     given: Given,
 ) -> Result<(Ran, Last), NoMemory> {
-    let mut store = ClassStore::new(alloc, STRIPES)?;
+    let mut store = new_store(alloc)?;
     run(rt, alloc, &mut store, first)?;
     let ran = run(rt, alloc, &mut store, given)?;
     let last = last_of(alloc, &store)?;

@@ -112,7 +112,10 @@ fn each_failed_read_is_a_fault(rt: HostRuntime) -> Result<(), Fail> {
             calls: 0,
             failing,
         });
-        assert!(rt; matches!(take(alloc, &mut source, 100), Err(TakeFault::Failed)), "at {failing}");
+        assert!(rt;
+            matches!(take(alloc, &mut source, 100), Err(TakeFault::Failed)),
+            "at {failing}"
+        );
         gives(&rt, alloc, &mut source, left)?;
     }
     Ok(())

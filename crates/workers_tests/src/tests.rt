@@ -188,8 +188,19 @@ fn answers_in_turn<R: Wait + Sync>(
     let (Some(later), Some(sooner)) = (shifts.pop(), shifts.pop()) else {
         unreachable!()
     };
-    let a = answer(rt, alloc, request, parents, &level, &mut first, sooner, &stop)?;
-    let b = answer(rt, alloc, request, parents, &level, &mut second, later, &stop)?;
+    let a = answer(
+        rt, alloc, request, parents, &level, &mut first, sooner, &stop,
+    )?;
+    let b = answer(
+        rt,
+        alloc,
+        request,
+        parents,
+        &level,
+        &mut second,
+        later,
+        &stop,
+    )?;
     passes.push(first)?;
     passes.push(second)?;
     Ok((a, b, level.close(rt, passes)))
@@ -231,9 +242,7 @@ fn answers_at_size_five<R: Wait + Sync>(
     if request.rank() + 1 < request.size() {
         let first = first_level(alloc, &request)?;
         let level = grow_alone(alloc, &request, &first.forms)?;
-        return Ok(answers_in_turn(
-            rt, alloc, &request, &level.forms, store, stopped,
-        ));
+        return Ok(answers_in_turn(rt, alloc, &request, &level.forms, store, stopped));
     }
     Err(Fail::new("another size"))
 }
