@@ -1,6 +1,5 @@
 // The listings of runs with workers.
-use crate::ran::{STRIPES, asked, run, run_alone};
-use class_store::ClassStore;
+use crate::ran::{asked, new_store, run, run_alone};
 use formats::Status;
 use std::test::*;
 
@@ -24,7 +23,7 @@ fn workers_write_what_one_thread_writes(rt: HostRuntime) -> Result<(), Fail> {
             &["--workers", "2"],
             &["--workers", "3"],
         ] {
-            let mut store = ClassStore::new(rt.alloc(), STRIPES)?;
+            let mut store = new_store(rt.alloc())?;
             let ran = run(&rt, rt.alloc(), &mut store, asked(words, text))?;
             assert_eq!(rt; ran.report, alone.report, "at {text:?}");
             assert_eq!(rt; ran.held.as_slice(), alone.held.as_slice(), "at {text:?}");
@@ -42,7 +41,7 @@ fn workers_list_a_sample(rt: HostRuntime) -> Result<(), Fail> {
         &["--sample=4", "--workers", "3"],
         &["--workers=1", "--sample", "4"],
     ] {
-        let mut store = ClassStore::new(rt.alloc(), STRIPES)?;
+        let mut store = new_store(rt.alloc())?;
         let ran = run(&rt, rt.alloc(), &mut store, asked(words, b"no request\n"))?;
         assert_eq!(rt; ran.report, alone.report);
         assert_eq!(rt; ran.held.as_slice(), alone.held.as_slice());

@@ -1,5 +1,5 @@
 // Runs over memory.
-ghost use Rattle.std.specs.Prelude.{◌≡◌, length};
+ghost use Rattle.std.specs.Prelude.{◌≡◌, IfOk, length};
 
 use class_store::{ClassStore, NoMemory};
 use macek_run::{Report, macek_alone};
@@ -39,6 +39,13 @@ pub struct Ran {
     pub refused: bool,
 }
 
+/// A store of these tests, through which nothing went yet.
+pub fn new_store(alloc: Global) -> Result<ClassStore, NoMemory>
+    ensures { IfOk result (λ store. (store.stripes ≡ STRIPES) × (length store.last ≡ STRIPES)) }
+{
+    ClassStore::new(alloc, STRIPES)
+}
+
 /// A run with workers through this store.
 pub fn run<R: Threads + Wait + Sync>(
     rt: &R,
@@ -46,8 +53,10 @@ pub fn run<R: Threads + Wait + Sync>(
     store: &mut ClassStore,
     given: Given,
 ) -> Result<Ran, NoMemory>
-    ensures stripes { store.new.stripes ≡ store.old.stripes }
-    ensures width { length store.old.last ≡ store.old.stripes → length store.new.last ≡ store.new.stripes }
+    requires stripes { store.old.stripes ≡ STRIPES }
+    requires width { length store.old.last ≡ STRIPES }
+    ensures stripes { store.new.stripes ≡ STRIPES }
+    ensures width { length store.new.last ≡ STRIPES }
 {
     let words = owned(alloc, given.words)?;
     let (mut source, mut sink) = ends(alloc, given)?;

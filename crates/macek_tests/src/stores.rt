@@ -1,6 +1,6 @@
 // What the store holds after a run.
-use crate::ran::{Given, Last, Ran, STRIPES, asked, last_of, run};
-use class_store::{ClassStore, NoMemory};
+use crate::ran::{Given, Last, Ran, asked, last_of, new_store, run};
+use class_store::NoMemory;
 use formats::{Refusal, Status};
 use std::alloc::Global;
 use std::sync::Wait;
@@ -64,7 +64,7 @@ fn run_anew<R: Threads + Wait + Sync>(
     alloc: Global,
     given: Given,
 ) -> Result<(Ran, Last), NoMemory> {
-    let mut store = ClassStore::new(alloc, STRIPES)?;
+    let mut store = new_store(alloc)?;
     let ran = run(rt, alloc, &mut store, given)?;
     let last = last_of(alloc, &store)?;
     Ok((ran, last))
@@ -117,7 +117,7 @@ fn run_after<R: Threads + Wait + Sync>(
     first: Given,
     given: Given,
 ) -> Result<(Ran, Last), NoMemory> {
-    let mut store = ClassStore::new(alloc, STRIPES)?;
+    let mut store = new_store(alloc)?;
     run(rt, alloc, &mut store, first)?;
     let ran = run(rt, alloc, &mut store, given)?;
     let last = last_of(alloc, &store)?;

@@ -1,6 +1,5 @@
 // The words of runs with workers.
-use crate::ran::{Given, STRIPES, asked, run};
-use class_store::ClassStore;
+use crate::ran::{Given, asked, new_store, run};
 use formats::Status;
 use std::test::*;
 
@@ -28,7 +27,7 @@ fn no_other_words_are_taken(rt: HostRuntime) -> Result<(), Fail> {
             read: 1,
             write: 0,
         };
-        let mut store = ClassStore::new(rt.alloc(), STRIPES)?;
+        let mut store = new_store(rt.alloc())?;
         let ran = run(&rt, rt.alloc(), &mut store, given)?;
         assert_eq!(rt; ran.report.status, Status::Usage, "at {words:?}");
         assert_eq!(rt; ran.report.levels, 0);
@@ -40,12 +39,12 @@ fn no_other_words_are_taken(rt: HostRuntime) -> Result<(), Fail> {
 #[test]
 fn one_to_64_workers_are_taken(rt: HostRuntime) -> Result<(), Fail> {
     for words in [
-        [].as_slice(),
-        &["--workers=2"],
+        ["--workers=2"].as_slice(),
         &["--workers", "1"],
         &["--workers", "64"],
+        &[],
     ] {
-        let mut store = ClassStore::new(rt.alloc(), STRIPES)?;
+        let mut store = new_store(rt.alloc())?;
         let ran = run(&rt, rt.alloc(), &mut store, asked(words, REQUEST))?;
         assert_eq!(rt; ran.report.status, Status::Done, "at {words:?}");
         assert_eq!(rt; ran.report.levels, 2);
