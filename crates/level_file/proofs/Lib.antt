@@ -1,0 +1,7 @@
+mod Meeting
+mod FormLines
+mod GrownLevels
+mod TextLevels
+mod WholeHeads
+mod Faulty
+mod KnownLevels

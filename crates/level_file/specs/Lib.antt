@@ -1,0 +1,4 @@
+pub mod Compared
+pub mod Heads
+pub mod Grown
+pub mod Started

@@ -1,0 +1,58 @@
+// Levels in a list.
+ghost use Rattle.std.specs.Prelude.{◌≡◌, [], ◌∷◌, ◌++◌, length, slice_get, OnOk, OnErr};
+ghost use Rattle.std.specs.Option.{option_copied};
+
+use level_driver::Level;
+use std::alloc::{AllocError, Global};
+use std::marker::Model;
+
+/// The levels of a request, one for each size from its rank up. Contracts see a list of levels.
+#[derive(Drop)]
+pub struct LevelList {
+    levels: Vec<Level>,
+}
+
+impl Model for LevelList {
+    ghost use Rattle.std.specs.Prelude.{List};
+    ghost use Rattle.level_driver.specs.declared.level.Level.{Level};
+
+    ghost Value = { List Level };
+
+    ghost view = { λ s. s.levels.items };
+}
+
+impl LevelList {
+    /// The list of no level. It takes no memory.
+    pub(crate) fn new(alloc: Global) -> LevelList
+        ensures { result ≡ [] }
+    {
+        LevelList {
+            levels: Vec::new(alloc),
+        }
+    }
+
+    /// The number of levels.
+    pub fn len(&self) -> usize
+        ensures { result ≡ length self.now }
+    {
+        self.levels.len()
+    }
+
+    /// Level `i`, counted from 0, where there are so many: that of the size that is `i` above the rank.
+    pub fn get(&self, i: usize) -> Option<&Level>
+        ensures { option_copied result ≡ slice_get self.now i }
+    {
+        self.levels.get(i)
+    }
+
+    /// Adds a level at the end. Where there was no memory, the list is as it was, and the level is dropped.
+    pub(crate) fn push(&mut self, level: Level) -> Result<(), AllocError>
+        ensures pushed { OnOk result (self.new ≡ self.old ++ level ∷ []) }
+        ensures unchanged { OnErr result (self.new ≡ self.old) }
+    {
+        match self.levels.push(level) {
+            Ok(()) => Ok(()),
+            Err(_) => Err(AllocError),
+        }
+    }
+}

@@ -1,0 +1,13 @@
+//! Reads a listing, whole or cut off, by growing its levels anew and comparing each piece with the text. Nothing in the text
+//! is trusted.
+#![tactic(auto)]
+
+mod compare;
+mod head;
+mod level_list;
+mod levels;
+mod read;
+
+pub use level_list::LevelList;
+pub use read::{Start, StartFault, read_level};
+pub use resume_formats::LevelFault;

@@ -1,0 +1,5 @@
+pub mod FrontLemmas
+pub mod HeadLemmas
+pub mod FaultLemmas
+pub mod LevelTexts
+pub mod WholeSizes

@@ -1,0 +1,5 @@
+pub mod Fronts
+pub mod Cut
+pub mod Fault
+pub mod Resumed
+pub mod Status
