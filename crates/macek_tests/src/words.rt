@@ -1,5 +1,5 @@
 // The words of runs with workers.
-use crate::ran::{Given, asked, new_store, run};
+use crate::ran::{Given, new_store, run};
 use formats::Status;
 use std::test::*;
 
@@ -32,22 +32,6 @@ fn no_other_words_are_taken(rt: HostRuntime) -> Result<(), Fail> {
         assert_eq!(rt; ran.report.status, Status::Usage, "at {words:?}");
         assert_eq!(rt; ran.report.levels, 0);
         assert_eq!(rt; ran.held.len(), 0);
-    }
-    Ok(())
-}
-
-#[test]
-fn one_to_64_workers_are_taken(rt: HostRuntime) -> Result<(), Fail> {
-    for words in [
-        ["--workers=2"].as_slice(),
-        &["--workers", "1"],
-        &["--workers", "64"],
-        &[],
-    ] {
-        let mut store = new_store(rt.alloc())?;
-        let ran = run(&rt, rt.alloc(), &mut store, asked(words, REQUEST))?;
-        assert_eq!(rt; ran.report.status, Status::Done, "at {words:?}");
-        assert_eq!(rt; ran.report.levels, 2);
     }
     Ok(())
 }
