@@ -24,7 +24,8 @@ module _ (M : Rep) (f j : ℕ) where
       ∙ ap entry_letter (get_or-map-range_with_len (λ i. matrix M f i j) 0 M.rank i i 0 l (omega arith))
 
   -- a word with these letters is that of the column
-  pub word-from : (word : List ℕ) → length word ≡ M.rank → ((i : ℕ) → i < M.rank → slice_index word i ≡ entry_letter (matrix M f i j)) → word ≡ column_word (column_of M f j)
+  pub word-from : (word : List ℕ) → length word ≡ M.rank →
+      ((i : ℕ) → i < M.rank → slice_index word i ≡ entry_letter (matrix M f i j)) → word ≡ column_word (column_of M f j)
   word-from word e h =
       ext_get_or 0 word (column_word (column_of M f j)) (e ∙ sym word-length)
       (λ i l. let l' = subst (λ (n : ℕ). i < n) e l in h i l' ∙ sym (letter-at i l'))

@@ -45,7 +45,8 @@ module _ (sep : List ℕ) (n : ℕ) where
   parted-at (x ∷ y ∷ more) even (suc f) j l m =
       next_at x (parted sep (y ∷ more)) f j (even 0 (omega arith)) ∙ parted-at (y ∷ more) (later n x (y ∷ more) even) f j (omega arith) m
 
-  pub parted-between : (groups : List (List (List ℕ))) → AreEven n groups → (f : ℕ) → f + 1 < length groups → slice_index_or (parted sep groups) (f * suc n + n) [] ≡ sep
+  pub parted-between : (groups : List (List (List ℕ))) → AreEven n groups → (f : ℕ) → f + 1 < length groups →
+      slice_index_or (parted sep groups) (f * suc n + n) [] ≡ sep
   parted-between [] even f l = absurd (omega arith)
   parted-between (x ∷ []) even f l = absurd (omega arith)
   parted-between (x ∷ y ∷ more) even zero l =
@@ -59,7 +60,8 @@ module _ (sep : List ℕ) (n : ℕ) where
       → ((f j : ℕ) → f < length groups → j < n → slice_index_or words (f * suc n + j) [] ≡ slice_index_or (slice_index_or groups f []) j [])
       → ((f : ℕ) → f + 1 < length groups → slice_index_or words (f * suc n + n) [] ≡ sep) → words ≡ parted sep groups
   parted-from groups words some even total cells between =
-      ext_get_or [] words (parted sep groups) (let h : length (parted sep groups) + 1 ≡ length groups * suc n = parted-length groups some even in omega arith) same
+      ext_get_or [] words (parted sep groups)
+      (let h : length (parted sep groups) + 1 ≡ length groups * suc n = parted-length groups some even in omega arith) same
     where
       place : (k : ℕ) → (f : ℕ) × (j : ℕ) × (k ≡ f * suc n + j) × (j ≤ n)
       place zero = (0, 0, omega arith, omega arith)
@@ -99,5 +101,6 @@ module _ (sep : List ℕ) (n : ℕ) where
           not_last f k e b l =
               elim (cases_lt (f + 1) (length groups)) [
                 | inl c ↦ c
-                | inr g ↦ (let s : length groups ≡ suc f = omega arith in let t : length groups * suc n ≡ suc f * suc n = ap (λ (c : ℕ). c * suc n) s in absurd (omega arith))
+                | inr g ↦ (let s : length groups ≡ suc f = omega arith in
+                    let t : length groups * suc n ≡ suc f * suc n = ap (λ (c : ℕ). c * suc n) s in absurd (omega arith))
               ]

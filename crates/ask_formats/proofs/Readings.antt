@@ -68,7 +68,8 @@ module _ (M : Rep) (c : CanBeSpelled M) where
       ∙ ap (λ (n : ℕ). n * suc (size M)) (columns_many M)
 
   field_at : (k : ℕ) → k < count M * 2 - 1 → word_at (representation_words M) k ≡ word_at (field_words M.factors) k
-  field_at k l = get_or_append_left (field_words M.factors) (form_words (columns_of M)) [] k (let h : length (field_words M.factors) + 1 ≡ count M * 2 = field_long in omega arith)
+  field_at k l = get_or_append_left (field_words M.factors) (form_words (columns_of M)) [] k
+      (let h : length (field_words M.factors) + 1 ≡ count M * 2 = field_long in omega arith)
 
   form_at : (k : ℕ) → word_at (representation_words M) (count M * 2 - 1 + k) ≡ word_at (form_words (columns_of M)) k
   form_at k =
@@ -109,7 +110,8 @@ module _ (M : Rep) (c : CanBeSpelled M) where
       spelled = λ f l.
           let p : f * 2 ≡ f * 2 + 0 = omega arith in
           field_at (f * 2) (omega arith) ∙ ap (λ (k : ℕ). word_at (field_words M.factors) k) p
-          ∙ parted-at (codes "x") 1 (order_groups M.factors) (orders_even M.factors) f 0 (subst (λ (n : ℕ). f < n) (sym (orders_many M.factors)) l) (omega arith)
+          ∙ parted-at (codes "x") 1 (order_groups M.factors) (orders_even M.factors) f 0
+          (subst (λ (n : ℕ). f < n) (sym (orders_many M.factors)) l) (omega arith)
           ∙ ap (λ (g : List (List ℕ)). slice_index_or g 0 []) (order_group M.factors f l);
     };
     layout = record {
@@ -142,20 +144,24 @@ module _ (M : Rep) (c : CanBeSpelled M) where
 
     front_is : take fronts words ≡ field_words M.factors
     unfolding fronts
-    front_is = parted-from (codes "x") 1 (order_groups M.factors) (take fronts words) (subst (λ (n : ℕ). 0 < n) (sym (orders_many M.factors)) some_factor) (orders_even M.factors)
-        (let e : length (take fronts words) ≡ fronts = length-take-le fronts words long in let m = orders_many M.factors in let s : 0 < count M = some_factor in omega arith)
+    front_is = parted-from (codes "x") 1 (order_groups M.factors) (take fronts words)
+        (subst (λ (n : ℕ). 0 < n) (sym (orders_many M.factors)) some_factor) (orders_even M.factors)
+        (let e : length (take fronts words) ≡ fronts = length-take-le fronts words long in let m = orders_many M.factors in
+        let s : 0 < count M = some_factor in omega arith)
         (λ f j l m.
         let l' : f < count M = subst (λ (n : ℕ). f < n) (orders_many M.factors) l in
         let z : j ≡ 0 = omega arith in
         let p : f * 2 + j ≡ f * 2 = omega arith in
         get_or-take fronts words (f * 2 + j) [] (omega arith) ∙ ap (λ (k : ℕ). word_at words k) p ∙ h.orders.spelled f l'
-        ∙ sym (ap (λ (k : ℕ). slice_index_or (slice_index_or (order_groups M.factors) f []) k []) z ∙ ap (λ (g : List (List ℕ)). slice_index_or g 0 []) (order_group M.factors f l')))
+        ∙ sym (ap (λ (k : ℕ). slice_index_or (slice_index_or (order_groups M.factors) f []) k []) z
+        ∙ ap (λ (g : List (List ℕ)). slice_index_or g 0 []) (order_group M.factors f l')))
         (λ f l. let l' : f + 1 < count M = subst (λ (n : ℕ). f + 1 < n) (orders_many M.factors) l in
         get_or-take fronts words (f * 2 + 1) [] (omega arith) ∙ h.orders.count.between f l')
 
     back_is : drop fronts words ≡ form_words (columns_of M)
     unfolding fronts
-    back_is = parted-from (codes "|") (size M) (column_groups M) (drop fronts words) (subst (λ (n : ℕ). 0 < n) (sym (columns_many M)) some_factor) (columns_even M)
+    back_is = parted-from (codes "|") (size M) (column_groups M) (drop fronts words)
+        (subst (λ (n : ℕ). 0 < n) (sym (columns_many M)) some_factor) (columns_even M)
         (let e : length (drop fronts words) ≡ length words - fronts = length-drop fronts words in
         let t : length words + 2 ≡ count M * 2 + count M * suc (size M) = h.layout.total in
         let s : 0 < count M = some_factor in
@@ -163,7 +169,8 @@ module _ (M : Rep) (c : CanBeSpelled M) where
         (let q : length (drop fronts words) + 1 ≡ count M * suc (size M) = omega arith in q) ∙ sym (ap (λ (n : ℕ). n * suc (size M)) (columns_many M)))
         (λ f j l m. let l' : f < count M = subst (λ (n : ℕ). f < n) (columns_many M) l in
         get_or-drop fronts words (f * suc (size M) + j) []
-        ∙ word-from M f j (word_at words (column_place (count M) (size M) f j)) (let E = h.entries f 0 j l' c.limits.rank_positive m in E.rows) (λ i k. let E = h.entries f i j l' k m in E.letter)
+        ∙ word-from M f j (word_at words (column_place (count M) (size M) f j))
+        (let E = h.entries f 0 j l' c.limits.rank_positive m in E.rows) (λ i k. let E = h.entries f i j l' k m in E.letter)
         ∙ sym (column_cell M f j l' m))
         (λ f l. get_or-drop fronts words (f * suc (size M) + size M) [] ∙ h.layout.between f (subst (λ (n : ℕ). f + 1 < n) (columns_many M) l))
 

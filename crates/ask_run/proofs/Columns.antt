@@ -59,7 +59,8 @@ column_follows words orders layout j xs P fe re e h =
     }))
 
 -- one more column
-pub next_entries : (words : List (List ℕ)) (orders : List ℕ) (layout : Layout) (P : Rep) (j : ℕ) (xs : List ℕ) → P.factors ≡ orders → length orders ≡ layout.factors
+pub next_entries : (words : List (List ℕ)) (orders : List ℕ) (layout : Layout) (P : Rep) (j : ℕ) (xs : List ℕ) →
+    P.factors ≡ orders → length orders ≡ layout.factors
     → size P ≡ j → IsColumnOf words orders layout j xs
     → ((f i k : ℕ) → f < layout.factors → i < layout.rows → k < j → HasEntry words layout f i k (matrix P f i k))
     → (f i k : ℕ) → f < layout.factors → i < layout.rows → k < j + 1 → HasEntry words layout f i k (matrix (followed_by P xs) f i k)

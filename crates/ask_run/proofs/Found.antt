@@ -35,7 +35,8 @@ module _ (words : List (List ℕ)) (M : Rep) (can : CanBeSpelled M) (spelled : w
     layout_read factors e = subst (λ (n : ℕ). AreReadAsColumns words n (size M) M.rank) (ap (λ (fs : List ℕ). length fs) factors_same ∙ sym e) read.layout
 
     -- and no entry is missing
-    pub no_lack : (layout : Layout) → IsLayout words layout → layout.factors ≡ length orders → (j : ℕ) → j < layout.columns → LacksEntry words orders layout j → ⊥
+    pub no_lack : (layout : Layout) → IsLayout words layout → layout.factors ≡ length orders → (j : ℕ) → j < layout.columns →
+        LacksEntry words orders layout j → ⊥
     no_lack layout is e j l lack =
         let n : count M ≡ layout.factors = ap (λ (fs : List ℕ). length fs) factors_same ∙ sym e in
         let both = same_layout words layout.factors (size M) layout.columns M.rank layout.rows is.some
@@ -51,7 +52,8 @@ module _ (words : List (List ℕ)) (M : Rep) (can : CanBeSpelled M) (spelled : w
         (subst (λ (n : ℕ). IsReadAsEntry words (count M) (size M) n f i j (matrix M f i j)) both.1 (read.entries f i j f' i' j'))))
 
 -- the matrices that are read are spelled
-module _ (words : List (List ℕ)) (orders : List ℕ) (layout : Layout) (M : Rep) (limits : KeepsLimits M) (h : AreReadAsFactors words orders) (is : IsLayout words layout)
+module _ (words : List (List ℕ)) (orders : List ℕ) (layout : Layout) (M : Rep) (limits : KeepsLimits M)
+    (h : AreReadAsFactors words orders) (is : IsLayout words layout)
     (e : layout.factors ≡ length orders) (are : AreMatricesOf words orders layout M) where
   factors_are : M.factors ≡ orders
   factors_are = ap (λ (S : Shape). S.factors) are.shape_is
@@ -89,7 +91,8 @@ pub only_one : (words : List (List ℕ)) (M N : Rep) → CanBeSpelled M → CanB
 only_one words M N c d p q = read_same words M N c d (read_as M c words p) (read_as N d words q)
 
 -- which may be named where it is standard and its factors agree
-pub named_alone : (words : List (List ℕ)) (M N : Rep) → CanBeSpelled N → words ≡ representation_words N → MayBeNamed M → words ≡ representation_words M → IsStandard N × Agrees N
+pub named_alone : (words : List (List ℕ)) (M N : Rep) → CanBeSpelled N → words ≡ representation_words N → MayBeNamed M →
+    words ≡ representation_words M → IsStandard N × Agrees N
 named_alone words M N d q may p =
     let e : M ≡ N = only_one words M N (spelled_named M may) d p q in
     (subst IsStandard e may.standard, subst Agrees e may.agrees)

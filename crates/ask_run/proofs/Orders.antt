@@ -44,7 +44,8 @@ module _ (words : List (List ℕ)) where
 
   pub one_more : (orders items : List ℕ) (q f : ℕ) → AreSpelled orders → length orders ≡ f → IsOrder q → word_at words (f * 2) ≡ decimal q
       → items ≡ orders ++ q ∷ [] → AreSpelled items
-  one_more orders items q f h n o w e = subst AreSpelled (sym e) (record { fields = λ k l. fields k (cases_lt k f) l; spelled = λ k l. spelled k (cases_lt k f) l })
+  one_more orders items q f h n o w e =
+      subst AreSpelled (sym e) (record { fields = λ k l. fields k (cases_lt k f) l; spelled = λ k l. spelled k (cases_lt k f) l })
     where
       at_end : (k : ℕ) → k < length (orders ++ q ∷ []) → f ≤ k → k ≡ length orders
       at_end k l g = omega (arith, length-append orders (q ∷ []))
@@ -66,7 +67,8 @@ module _ (words : List (List ℕ)) where
   read_factors orders n h e c = record { count = subst (IsOrderCount words) (sym e) c; spelled = h.spelled }
 
   -- the factors of these orders are found
-  pub found_factors : {A : Type 0} (view : A → List ℕ) (o : Option A) (orders : List ℕ) (No : Type 0) → (IsFactors orders → IsSome o) → IfSome o (λ a. view a ≡ orders)
+  pub found_factors : {A : Type 0} (view : A → List ℕ) (o : Option A) (orders : List ℕ) (No : Type 0) →
+      (IsFactors orders → IsSome o) → IfSome o (λ a. view a ≡ orders)
       → IsFactors orders → AreReadAsFactors words orders → MatchOption o No (λ a. AreReadAsFactors words (view a))
   found_factors view None orders No some e are is = let h = some are in cc (h)
   found_factors view (Some a) orders No some e are is = subst (AreReadAsFactors words) (sym e) is

@@ -19,7 +19,8 @@ use Rattle.base_iso.specs.Started.{AreLabels, IsImage, CarriesBases, CarriesLast
 use Rattle.base_iso.proofs.Inverses.{is_mask, no_member}
 
 -- the images of bases under an isomorphism that begins with the labels are bases
-pub images_are_bases : (M N : Matroid) (p u : ℕ → ℕ) → AreIsomorphicBy M N p u → (labels : List ℕ) → AreLabels M.size labels → Begins labels p → CarriesBases M N labels
+pub images_are_bases : (M N : Matroid) (p u : ℕ → ℕ) → AreIsomorphicBy M N p u → (labels : List ℕ) → AreLabels M.size labels →
+    Begins labels p → CarriesBases M N labels
 images_are_bases M N p u h labels g s X Y l m y =
     (h.bases X Y mask_x (is_mask M.size Y beyond) agrees).0 m
   where
@@ -60,11 +61,15 @@ pub is_old : (labels v : List ℕ) (x : ℕ) (r : Bool) → v ≡ labels → IsA
 is_old labels v x r e a t = subst (λ (xs : List ℕ). Contains xs x) e ((contains_is v x r a).0 t)
 
 -- whether bases are carried, under the names that the code has for the lists
-pub carried_named : (xs ys as_ bs labels : List ℕ) (r : Bool) → xs ≡ as_ → ys ≡ bs → ((r ≡ true) ↔ CarriesLast xs ys labels) → ((r ≡ true) ↔ CarriesLast as_ bs labels)
-carried_named xs ys as_ bs labels r d e h = subst (λ (xs : List ℕ). (r ≡ true) ↔ CarriesLast xs bs labels) d (subst (λ (zs : List ℕ). (r ≡ true) ↔ CarriesLast xs zs labels) e h)
+pub carried_named : (xs ys as_ bs labels : List ℕ) (r : Bool) → xs ≡ as_ → ys ≡ bs → ((r ≡ true) ↔ CarriesLast xs ys labels) →
+    ((r ≡ true) ↔ CarriesLast as_ bs labels)
+carried_named xs ys as_ bs labels r d e h = subst (λ (xs : List ℕ). (r ≡ true) ↔ CarriesLast xs bs labels) d
+    (subst (λ (zs : List ℕ). (r ≡ true) ↔ CarriesLast xs zs labels) e h)
 
-pub count_named : (xs ys as_ bs labels : List ℕ) (r : Bool) → xs ≡ as_ → ys ≡ bs → ((r ≡ true) ↔ KeepsCount xs ys labels) → ((r ≡ true) ↔ KeepsCount as_ bs labels)
-count_named xs ys as_ bs labels r d e h = subst (λ (xs : List ℕ). (r ≡ true) ↔ KeepsCount xs bs labels) d (subst (λ (zs : List ℕ). (r ≡ true) ↔ KeepsCount xs zs labels) e h)
+pub count_named : (xs ys as_ bs labels : List ℕ) (r : Bool) → xs ≡ as_ → ys ≡ bs → ((r ≡ true) ↔ KeepsCount xs ys labels) →
+    ((r ≡ true) ↔ KeepsCount as_ bs labels)
+count_named xs ys as_ bs labels r d e h = subst (λ (xs : List ℕ). (r ≡ true) ↔ KeepsCount xs bs labels) d
+    (subst (λ (zs : List ℕ). (r ≡ true) ↔ KeepsCount xs zs labels) e h)
 
 module _ (labels longer : List ℕ) (j : ℕ) (e : longer ≡ labels ++ j ∷ []) where
   pub longer-length : length longer ≡ length labels + 1
@@ -97,10 +102,13 @@ module _ (labels longer : List ℕ) (j : ℕ) (e : longer ≡ labels ++ j ∷ []
   image_before X Y l y = record {
     labelled = λ i m. ap (members Y) (sym (longer-before i m)) ∙ y.labelled i (let s : length longer ≡ length labels + 1 = longer-length in omega arith);
     others = λ k o. elim (cases_eq j k) [
-      | inl w ↦ ap (members Y) (sym w ∙ sym longer-last) ∙ y.labelled (length labels) (let s : length longer ≡ length labels + 1 = longer-length in omega arith) ∙ no_member (length labels) X (length labels) l (omega arith)
+      | inl w ↦ ap (members Y) (sym w ∙ sym longer-last)
+          ∙ y.labelled (length labels) (let s : length longer ≡ length labels + 1 = longer-length in omega arith)
+          ∙ no_member (length labels) X (length labels) l (omega arith)
       | inr w ↦ y.others k (λ i m q. elim (cases_lt i (length labels)) [
         | inl b ↦ o i b (sym (longer-before i b) ∙ q)
-        | inr b ↦ (let s : length longer ≡ length labels + 1 = longer-length in let c : length labels ≡ i = omega arith in w (sym longer-last ∙ ap (slice_index longer) c ∙ q))
+        | inr b ↦ (let s : length longer ≡ length labels + 1 = longer-length in let c : length labels ≡ i = omega arith in
+            w (sym longer-last ∙ ap (slice_index longer) c ∙ q))
       ])
     ];
   }
@@ -123,7 +131,8 @@ none_carried M N a labels e = subst (CarriesBases M N) (sym e) none
     none : CarriesBases M N []
     none X Y l m y =
         let x : X ≡ 0 = omega arith in
-        let r : size_below M.size (members 0) ≡ M.rank = All-contains (λ X. size_below M.size (members X) ≡ M.rank) M.bases 0 a.of_rank (subst (Contains M.bases) x m) in
+        let r : size_below M.size (members 0) ≡ M.rank =
+        All-contains (λ X. size_below M.size (members X) ≡ M.rank) M.bases 0 a.of_rank (subst (Contains M.bases) x m) in
         let z : size_below M.size (members 0) ≡ 0 = none_in M.size in
         let p : 0 < M.rank = a.rank_positive in
         absurd (omega arith)

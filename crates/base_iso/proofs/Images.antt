@@ -52,7 +52,8 @@ module _ (labels : List ℕ) (i set image : ℕ) (h : AreLabels 16 labels) (l : 
   one_out t = record {
     labelled = λ k b. elim (cases_lt k i) [
       | inl s ↦ m.labelled k s
-      | inr s ↦ (let e : i ≡ k = omega arith in subst (λ k. members image (slice_index labels k) ≡ members set k) e (m.others (slice_index labels i) (λ k s. h.apart k i s l) ∙ sym t))
+      | inr s ↦ (let e : i ≡ k = omega arith in
+          subst (λ k. members image (slice_index labels k) ≡ members set k) e (m.others (slice_index labels i) (λ k s. h.apart k i s l) ∙ sym t))
     ];
     others = λ j o. m.others j (λ k b. o k (omega arith));
   }

@@ -42,11 +42,13 @@ count_most (x ∷ xs) ys d P Q f g i =
     elim (cases_Bool (P x)) [
       | inl t ↦ passing (λ zs. count_most xs zs (rest_apart x xs d) P Q f) t (g x (here x xs) t)
       | inr o ↦ (let e : count_by P (x ∷ xs) ≡ 0 + count_by P xs = count_no P x xs o in
-          let r : count_by P xs ≤ count_by Q ys = count_most xs ys (rest_apart x xs d) P Q f (λ z m. g z (there x z xs m)) (λ z w m n. i z w (there x z xs m) (there x w xs n)) in
+          let r : count_by P xs ≤ count_by Q ys = count_most xs ys (rest_apart x xs d) P Q f (λ z m. g z (there x z xs m))
+          (λ z w m n. i z w (there x z xs m) (there x w xs n)) in
           omega arith)
     ]
   where
-    passing : ((zs : List ℕ) → ((z : ℕ) → Contains xs z → P z ≡ true → Contains zs (f z) × (Q (f z) ≡ true)) → ((z w : ℕ) → Contains xs z → Contains xs w → f z ≡ f w → z ≡ w) → count_by P xs ≤ count_by Q zs)
+    passing : ((zs : List ℕ) → ((z : ℕ) → Contains xs z → P z ≡ true → Contains zs (f z) × (Q (f z) ≡ true)) →
+        ((z w : ℕ) → Contains xs z → Contains xs w → f z ≡ f w → z ≡ w) → count_by P xs ≤ count_by Q zs)
         → P x ≡ true → Contains ys (f x) × (Q (f x) ≡ true) → count_by P (x ∷ xs) ≤ count_by Q ys
     passing most t ((k, l, e), q) =
         let r : count_by P xs ≤ count_by Q (remove ys k) = most (remove ys k) keep (λ z w m n. i z w (there x z xs m) (there x w xs n)) in
@@ -62,7 +64,9 @@ count_most (x ∷ xs) ys d P Q f g i =
           where
             in_keep : (z : ℕ) → Contains xs z → Contains ys (f z) → Contains (remove ys k) (f z)
             in_keep z m (j, b, o) = (in_remove ys k j (f z) l b (sym o)
-                (λ w. first_apart x z xs d m (i x z (here x xs) (there x z xs m) (sym e ∙ get_or_default ys k (f x) (f z) l ∙ ap (λ n. slice_index_or ys n (f z)) (sym w) ∙ o)))).1
+                (λ w. first_apart x z xs d m
+                (i x z (here x xs) (there x z xs m)
+                (sym e ∙ get_or_default ys k (f x) (f z) l ∙ ap (λ n. slice_index_or ys n (f z)) (sym w) ∙ o)))).1
 
 -- all pass
 pub count_all : (xs : List ℕ) → count_by (λ _. true) xs ≡ length xs

@@ -30,7 +30,11 @@ is_mask n X h = subst (λ x. x < 2 ^ n) (sym (same_from_bits X (mask n (members 
   where
     bit : (j : ℕ) → bit_at X j ≡ bit_at (mask n (members X)) j
     bit j = same_bit (bit_at X j) (bit_at (mask n (members X)) j) (bit_at-lt X j) (bit_at-lt (mask n (members X)) j)
-        (elim (cases_lt j n) [ inl b ↦ sym (members-mask n (members X) j b) | inr g ↦ h j g ∙ sym (no_member n (mask n (members X)) j (mask-below n (members X)) g) ])
+        (elim (cases_lt j n) [
+          | inl b ↦ sym (members-mask n (members X) j b)
+          | inr g ↦
+              h j g ∙ sym (no_member n (mask n (members X)) j (mask-below n (members X)) g)
+        ])
 
 module _ (n : ℕ) (p u : ℕ → ℕ) (v : ArePermutation n p u) where
   -- the image of a mask
@@ -52,7 +56,8 @@ pub inverse_isomorphism : (M N : Matroid) (p u : ℕ → ℕ) → AreIsomorphicB
 inverse_isomorphism M N p u h = record {
   ranks = sym h.ranks;
   sizes = sym h.sizes;
-  labels = subst (λ (n : ℕ). ArePermutation n u p) (sym h.sizes) (let v = h.labels in record { below = v.inverse_below; inverse_below = v.below; there = v.back; back = v.there });
+  labels = subst (λ (n : ℕ). ArePermutation n u p) (sym h.sizes)
+      (let v = h.labels in record { below = v.inverse_below; inverse_below = v.below; there = v.back; back = v.there });
   bases = λ X Y l m e. let b = h.bases Y X (subst (λ (n : ℕ). Y < 2 ^ n) h.sizes m) (subst (λ (n : ℕ). X < 2 ^ n) h.sizes l)
       (λ j k. let v = h.labels in sym (e (p j) (subst (λ (n : ℕ). p j < n) (sym h.sizes) (v.below j k))) ∙ ap (members Y) (v.there j k)) in (b.1, b.0);
 }

@@ -19,10 +19,15 @@ use Rattle.base_iso.proofs.Inverses.{relabelled, relabelled-below, relabelled-me
 
 -- the bases that pass P go one to one to bases that pass Q, where sets that pass P go to sets that pass Q
 pub passing_most : (M N : Matroid) (p u : ℕ → ℕ) → AreIsomorphicBy M N p u → IsBaseList M → (P Q : ℕ → Bool)
-    → ((X Y : ℕ) → X < 2 ^ M.size → Y < 2 ^ M.size → ((j : ℕ) → j < M.size → members Y (p j) ≡ members X j) → P X ≡ true → Q Y ≡ true) → count_by P M.bases ≤ count_by Q N.bases
+    → ((X Y : ℕ) → X < 2 ^ M.size → Y < 2 ^ M.size → ((j : ℕ) → j < M.size → members Y (p j) ≡ members X j) → P X ≡ true →
+    Q Y ≡ true) → count_by P M.bases ≤ count_by Q N.bases
 passing_most M N p u h a P Q g =
     count_most M.bases N.bases (rising_apart M.bases a.rising) P Q f
-    (λ X m y. ((h.bases X (f X) (below X m) (relabelled-below M.size p u h.labels X) (relabelled-members M.size p u h.labels X)).0 m, g X (f X) (below X m) (relabelled-below M.size p u h.labels X) (relabelled-members M.size p u h.labels X) y))
+    (λ X m y. (
+      (h.bases X (f X) (below X m) (relabelled-below M.size p u h.labels X) (relabelled-members M.size p u h.labels X)).0
+          m,
+      g X (f X) (below X m) (relabelled-below M.size p u h.labels X) (relabelled-members M.size p u h.labels X) y,
+    ))
     (λ X Y m o e. relabelled_apart M.size p u h.labels X Y (below X m) (below Y o) e)
   where
     f : ℕ → ℕ
@@ -35,10 +40,13 @@ module _ (M N : Matroid) (p u : ℕ → ℕ) (h : AreIsomorphicBy M N p u) (a : 
   -- equally many bases hold two elements and their labels
   pub pair_kept : (i j : ℕ) → i < M.size → j < M.size → pair_count M.bases i j ≡ pair_count N.bases (p i) (p j)
   pair_kept i j l m =
-      let there : pair_count M.bases i j ≤ pair_count N.bases (p i) (p j) = passing_most M N p u h a (λ X. members X i && members X j) (λ Y. members Y (p i) && members Y (p j))
+      let there : pair_count M.bases i j ≤ pair_count N.bases (p i) (p j) =
+      passing_most M N p u h a (λ X. members X i && members X j) (λ Y. members Y (p i) && members Y (p j))
       (λ X Y _ _ e t. let s = and_parts (members X i) (members X j) t in and_from (members Y (p i)) (members Y (p j)) (e i l ∙ s.0) (e j m ∙ s.1)) in
-      let back : pair_count N.bases (p i) (p j) ≤ pair_count M.bases i j = passing_most N M u p (inverse_isomorphism M N p u h) b (λ Y. members Y (p i) && members Y (p j)) (λ X. members X i && members X j)
-      (λ Y X _ _ e t. let s = and_parts (members Y (p i)) (members Y (p j)) t in and_from (members X i) (members X j) (came Y X e i l ∙ s.0) (came Y X e j m ∙ s.1)) in
+      let back : pair_count N.bases (p i) (p j) ≤ pair_count M.bases i j = passing_most N M u p (inverse_isomorphism M N p u h) b
+      (λ Y. members Y (p i) && members Y (p j)) (λ X. members X i && members X j)
+      (λ Y X _ _ e t. let s = and_parts (members Y (p i)) (members Y (p j)) t in
+      and_from (members X i) (members X j) (came Y X e i l ∙ s.0) (came Y X e j m ∙ s.1)) in
       omega arith
     where
       came : (Y X : ℕ) → ((j : ℕ) → j < N.size → members X (u j) ≡ members Y j) → (i : ℕ) → i < M.size → members X i ≡ members Y (p i)
@@ -47,7 +55,8 @@ module _ (M N : Matroid) (p u : ℕ → ℕ) (h : AreIsomorphicBy M N p u) (a : 
   number_kept : length N.bases ≡ length M.bases
   number_kept =
       let there : count_by (λ _. true) M.bases ≤ count_by (λ _. true) N.bases = passing_most M N p u h a (λ _. true) (λ _. true) (λ X Y _ _ e t. refl) in
-      let back : count_by (λ _. true) N.bases ≤ count_by (λ _. true) M.bases = passing_most N M u p (inverse_isomorphism M N p u h) b (λ _. true) (λ _. true) (λ Y X _ _ e t. refl) in
+      let back : count_by (λ _. true) N.bases ≤ count_by (λ _. true) M.bases =
+      passing_most N M u p (inverse_isomorphism M N p u h) b (λ _. true) (λ _. true) (λ Y X _ _ e t. refl) in
       let s : count_by (λ _. true) M.bases ≡ length M.bases = count_all M.bases in
       let t : count_by (λ _. true) N.bases ≡ length N.bases = count_all N.bases in
       omega arith
@@ -69,12 +78,14 @@ count_places P (x ∷ xs) =
     ∙ ap (λ n. size_below n (λ i. P (slice_index (x ∷ xs) i))) (let e : suc (length xs) ≡ length (x ∷ xs) = omega arith in e)
 
 -- equally many elements of each degree
-pub degrees_kept : (M N : Matroid) (p u : ℕ → ℕ) → AreIsomorphicBy M N p u → IsBaseList M → IsBaseList N → (xs ys : List ℕ) → AreDegrees M xs → AreDegrees N ys → (d : ℕ)
+pub degrees_kept : (M N : Matroid) (p u : ℕ → ℕ) → AreIsomorphicBy M N p u → IsBaseList M → IsBaseList N → (xs ys : List ℕ) →
+    AreDegrees M xs → AreDegrees N ys → (d : ℕ)
     → count_by (λ x. x == d) xs ≡ count_by (λ x. x == d) ys
 degrees_kept M N p u h a b xs ys s t d =
     count_places (λ x. x == d) xs
     ∙ ap (λ n. size_below n (λ i. slice_index xs i == d)) s.elements
-    ∙ size-same M.size (λ i. slice_index xs i == d) (λ i. slice_index ys (p i) == d) (λ i l. ap (λ x. x == d) (s.counted i l ∙ pair_kept M N p u h a b i i l l ∙ sym (t.counted (p i) (below i l))))
+    ∙ size-same M.size (λ i. slice_index xs i == d) (λ i. slice_index ys (p i) == d)
+    (λ i l. ap (λ x. x == d) (s.counted i l ∙ pair_kept M N p u h a b i i l l ∙ sym (t.counted (p i) (below i l))))
     ∙ size_relabelled M.size p u h.labels (λ j. slice_index ys j == d)
     ∙ ap (λ n. size_below n (λ i. slice_index ys i == d)) (sym h.sizes ∙ sym t.elements)
     ∙ sym (count_places (λ x. x == d) ys)
@@ -83,7 +94,8 @@ degrees_kept M N p u h a b xs ys s t d =
     below i l = let v = h.labels in subst (λ (n : ℕ). p i < n) (sym h.sizes) (v.below i l)
 
 -- an isomorphism that gives the first elements these labels keeps the pair counts of the last one
-pub last_counts_kept : (M N : Matroid) (p u : ℕ → ℕ) → AreIsomorphicBy M N p u → IsBaseList M → IsBaseList N → (rows sows : List (ArrayVec ℕ)) → ArePairCounts M rows → ArePairCounts N sows
+pub last_counts_kept : (M N : Matroid) (p u : ℕ → ℕ) → AreIsomorphicBy M N p u → IsBaseList M → IsBaseList N →
+    (rows sows : List (ArrayVec ℕ)) → ArePairCounts M rows → ArePairCounts N sows
     → (labels : List ℕ) → 0 < length labels → length labels ≤ M.size → Begins labels p → KeepsLastCounts rows sows labels
 last_counts_kept M N p u h a b rows sows r s labels some few g i l =
     let k : length labels - 1 < length labels = omega arith in

@@ -83,7 +83,8 @@ module _ (n : ℕ) (labels : List ℕ) (h : AreLabels n labels) where
 
       below : (z : ℕ) → Contains (j ∷ labels) z → Contains (upto n) z
       below z (zero, a, e) = in_upto n z (subst (λ x. x < n) e l)
-      below z (suc k, a, e) = (let b : k < length labels = omega arith in in_upto n z (subst (λ x. x < n) (sym (get_or_default labels k z 0 b) ∙ e) (h.below k b)))
+      below z (suc k, a, e) = (let b : k < length labels = omega arith in
+          in_upto n z (subst (λ x. x < n) (sym (get_or_default labels k z 0 b) ∙ e) (h.below k b)))
 
       too_many : ((i : ℕ) → i < length labels → slice_index labels i ≢ j) → ⊥
       too_many o =
@@ -96,6 +97,7 @@ module _ (n : ℕ) (labels : List ℕ) (h : AreLabels n labels) where
   labels_permute s = record {
     below = λ j l. h.below j (omega arith);
     inverse_below = λ j l. let b : place labels j < length labels = (place_at labels j (all_stand s j l)).0 in omega arith;
-    there = λ j l. let a = place_at labels (slice_index labels j) (all_stand s (slice_index labels j) (h.below j (omega arith))) in same_place (place labels (slice_index labels j)) j a.0 (omega arith) a.1;
+    there = λ j l. let a = place_at labels (slice_index labels j) (all_stand s (slice_index labels j) (h.below j (omega arith))) in
+        same_place (place labels (slice_index labels j)) j a.0 (omega arith) a.1;
     back = λ j l. (place_at labels j (all_stand s j l)).1;
   }

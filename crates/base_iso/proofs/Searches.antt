@@ -16,10 +16,12 @@ rising xs h i j l m = elim (cases_lt i j) [
 ]
 
 -- whether a search in a rising list finds a number is whether it stands there
-pub search_finds : (xs : List ℕ) (x : ℕ) (r : Result ℕ ℕ) → IsStrictlyIncreasing xs → IsBinarySearchResult (λ y. nat_cmp y x) xs r → (is_ok r ≡ true) ↔ Contains xs x
+pub search_finds : (xs : List ℕ) (x : ℕ) (r : Result ℕ ℕ) → IsStrictlyIncreasing xs → IsBinarySearchResult (λ y. nat_cmp y x) xs r →
+    (is_ok r ≡ true) ↔ Contains xs x
 search_finds xs x r h s = at r (searched xs x r s (rising xs h))
   where
-    at : (r : Result ℕ ℕ) → MatchResult r (λ i. (i < length xs) × (get_or xs i 0 ≡ x)) (λ i. (i ≤ length xs) × ((k : ℕ) → k < i → get_or xs k 0 < x) × ((k : ℕ) → i ≤ k → k < length xs → x < get_or xs k 0))
+    at : (r : Result ℕ ℕ) → MatchResult r (λ i. (i < length xs) × (get_or xs i 0 ≡ x))
+        (λ i. (i ≤ length xs) × ((k : ℕ) → k < i → get_or xs k 0 < x) × ((k : ℕ) → i ≤ k → k < length xs → x < get_or xs k 0))
         → (is_ok r ≡ true) ↔ Contains xs x
     at (Ok i) (l, e) = ((λ _. (i, l, get_or_default xs i x 0 l ∙ e)), λ _. refl)
     at (Err i) (l, low, high) = (
@@ -42,7 +44,8 @@ pub part-at : (xs : List ℕ) (i j k : ℕ) → i + k < j → j ≤ length xs �
 part-at xs i j k l m = grind (arith, common_steps)
 
 -- the part of a list between the places of two numbers has what lies between them
-pub in_part : (xs : List ℕ) (i j low high X : ℕ) → j ≤ length xs → ((k : ℕ) → k < i → slice_index xs k < low) → ((k : ℕ) → j ≤ k → k < length xs → high ≤ slice_index xs k)
+pub in_part : (xs : List ℕ) (i j low high X : ℕ) → j ≤ length xs → ((k : ℕ) → k < i → slice_index xs k < low) →
+    ((k : ℕ) → j ≤ k → k < length xs → high ≤ slice_index xs k)
     → low ≤ X → X < high → Contains xs X → Contains (take (j - i) (drop i xs)) X
 in_part xs i j low high X m below from l h (k, b, e) =
     let d : slice_index xs k ≡ X = get_or_default xs k 0 X b ∙ e in
@@ -54,7 +57,8 @@ in_part xs i j low high X m below from l h (k, b, e) =
     (k - i, omega arith, get_or_default (take (j - i) (drop i xs)) (k - i) X 0 (omega arith) ∙ a ∙ ap (slice_index xs) s ∙ d)
 
 -- and nothing else
-pub from_part : (xs : List ℕ) (i j k : ℕ) → j ≤ length xs → k < length (take (j - i) (drop i xs)) → (i + k < j) × (slice_index (take (j - i) (drop i xs)) k ≡ slice_index xs (i + k))
+pub from_part : (xs : List ℕ) (i j k : ℕ) → j ≤ length xs → k < length (take (j - i) (drop i xs)) →
+    (i + k < j) × (slice_index (take (j - i) (drop i xs)) k ≡ slice_index xs (i + k))
 from_part xs i j k m l =
     let n : length (take (j - i) (drop i xs)) ≤ j - i = omega (arith, length-take (j - i) (drop i xs)) in
     let b : i + k < j = omega arith in

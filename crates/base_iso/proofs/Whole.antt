@@ -14,7 +14,8 @@ use Rattle.base_iso.proofs.Injections.{count_most, count_all, rising_apart}
 use Rattle.base_iso.proofs.Places.{place, labels_permute, stands}
 use Rattle.base_iso.proofs.Inverses.{relabelled, relabelled-below, relabelled-members, relabelled_apart, same_mask, no_member}
 
-module _ (M N : Matroid) (a : IsBaseList M) (s : AreAlike M N) (labels : List ℕ) (h : AreLabels M.size labels) (full : length labels ≡ M.size) (c : CarriesBases M N labels) where
+module _ (M N : Matroid) (a : IsBaseList M) (s : AreAlike M N) (labels : List ℕ) (h : AreLabels M.size labels)
+    (full : length labels ≡ M.size) (c : CarriesBases M N labels) where
   v : ArePermutation M.size (slice_index labels) (place labels)
   v = labels_permute M.size labels h full
 
@@ -39,7 +40,8 @@ module _ (M N : Matroid) (a : IsBaseList M) (s : AreAlike M N) (labels : List �
       (image_by X (f X) (relabelled-below M.size (slice_index labels) (place labels) v X) (relabelled-members M.size (slice_index labels) (place labels) v X))
 
   -- a set whose image is a base is one, since there are no more bases than those
-  back : (X Y : ℕ) → X < 2 ^ M.size → Y < 2 ^ M.size → ((j : ℕ) → j < M.size → members Y (slice_index labels j) ≡ members X j) → Contains N.bases Y → Contains M.bases X
+  back : (X Y : ℕ) → X < 2 ^ M.size → Y < 2 ^ M.size → ((j : ℕ) → j < M.size → members Y (slice_index labels j) ≡ members X j) →
+      Contains N.bases Y → Contains M.bases X
   unfolding f
   back X Y l m e o = elim (stands M.bases X) [
     | inl y ↦ y
@@ -48,7 +50,9 @@ module _ (M N : Matroid) (a : IsBaseList M) (s : AreAlike M N) (labels : List �
     where
       is_image : f X ≡ Y
       is_image = same_mask M.size (f X) Y (relabelled-below M.size (slice_index labels) (place labels) v X) m
-          (λ j k. ap (members (f X)) (sym (v.back j k)) ∙ relabelled-members M.size (slice_index labels) (place labels) v X (place labels j) (v.inverse_below j k) ∙ sym (e (place labels j) (v.inverse_below j k)) ∙ ap (members Y) (v.back j k))
+          (λ j k. ap (members (f X)) (sym (v.back j k))
+          ∙ relabelled-members M.size (slice_index labels) (place labels) v X (place labels j) (v.inverse_below j k)
+          ∙ sym (e (place labels j) (v.inverse_below j k)) ∙ ap (members Y) (v.back j k))
 
       mask_of : (Z : ℕ) → Contains (X ∷ M.bases) Z → Z < 2 ^ M.size
       mask_of Z (zero, k, q) = subst (λ Z. Z < 2 ^ M.size) q l

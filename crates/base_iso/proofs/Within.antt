@@ -37,7 +37,9 @@ is_part Y W h = same_from_bits (bit_or Y W) W (λ i. bit_at_or Y W i ∙ bit i)
           | inr f ↦ (let n : bit_at Y i ≢ 1 = eqb-false (bit_at Y i) 1 (h i f) in omega arith)
         ]
 
-module _ (n : ℕ) (p u : ℕ → ℕ) (v : ArePermutation n p u) (small : n ≤ 16) (labels : List ℕ) (g : AreLabels n labels) (s : Begins labels p) (W : ℕ) (w : IsImage labels (2 ^ 16 - 1) W) (X Y : ℕ) (x : X < 2 ^ n) (y : Y < 2 ^ n) (e : (j : ℕ) → j < n → members Y (p j) ≡ members X j) where
+module _ (n : ℕ) (p u : ℕ → ℕ) (v : ArePermutation n p u) (small : n ≤ 16) (labels : List ℕ) (g : AreLabels n labels)
+    (s : Begins labels p) (W : ℕ) (w : IsImage labels (2 ^ 16 - 1) W) (X Y : ℕ) (x : X < 2 ^ n) (y : Y < 2 ^ n)
+    (e : (j : ℕ) → j < n → members Y (p j) ≡ members X j) where
   labelled : (j : ℕ) → j < length labels → members W (p j) ≡ true
   labelled j l = let f : length labels ≤ n = g.few in ap (members W) (s j l) ∙ w.labelled j l ∙ ap (λ x. x == 1) (bit_at_ones 16 j (omega arith))
 
@@ -65,14 +67,16 @@ module _ (n : ℕ) (p u : ℕ → ℕ) (v : ArePermutation n p u) (small : n ≤
     | inr b ↦ no_member n X j x b
   ])
 
-pub count_kept : (M N : Matroid) (p u : ℕ → ℕ) → AreIsomorphicBy M N p u → IsBaseList M → IsBaseList N → (labels : List ℕ) → AreLabels M.size labels → Begins labels p → KeepsCount M.bases N.bases labels
+pub count_kept : (M N : Matroid) (p u : ℕ → ℕ) → AreIsomorphicBy M N p u → IsBaseList M → IsBaseList N → (labels : List ℕ) →
+    AreLabels M.size labels → Begins labels p → KeepsCount M.bases N.bases labels
 count_kept M N p u h a b labels g s W w =
     let there : count_by (λ X. nat_lt X (2 ^ length labels)) M.bases ≤ count_by (λ Y. bit_or Y W == W) N.bases =
     passing_most M N p u h a (λ X. nat_lt X (2 ^ length labels)) (λ Y. bit_or Y W == W)
     (λ X Y x y e t. eq-eqb (bit_or Y W) W (to_labels M.size p u h.labels a.size_most labels g s W w X Y x y e (ltb-true X (2 ^ length labels) t))) in
     let back : count_by (λ Y. bit_or Y W == W) N.bases ≤ count_by (λ X. nat_lt X (2 ^ length labels)) M.bases =
     passing_most N M u p (inverse_isomorphism M N p u h) b (λ Y. bit_or Y W == W) (λ X. nat_lt X (2 ^ length labels))
-    (λ Y X y x e t. lt-ltb X (2 ^ length labels) (from_labels M.size p u h.labels a.size_most labels g s W w X Y (narrow X x) (narrow Y y) (came Y X e) (eqb-true (bit_or Y W) W t))) in
+    (λ Y X y x e t. lt-ltb X (2 ^ length labels)
+    (from_labels M.size p u h.labels a.size_most labels g s W w X Y (narrow X x) (narrow Y y) (came Y X e) (eqb-true (bit_or Y W) W t))) in
     omega arith
   where
     narrow : (X : ℕ) → X < 2 ^ N.size → X < 2 ^ M.size

@@ -19,10 +19,12 @@ use Rattle.bases.specs.FactorColumns.{IsFactorOf}
 
 module _ (M : Rep) (k : KeepsLimits M) (f q : ℕ) (columns : List (ArrayVec ℕ)) (h : IsFactorOf M f q columns) where
   rows_at : (j : ℕ) → j < length columns → length (column columns j) ≡ M.rank
-  rows_at j l = ap (λ (xs : List ℕ). length xs) (h.same j (let e : length columns ≡ size M = h.count in omega arith)) ∙ length-map-range_with_len (λ i. matrix M f i j) 0 M.rank
+  rows_at j l = ap (λ (xs : List ℕ). length xs) (h.same j (let e : length columns ≡ size M = h.count in omega arith))
+      ∙ length-map-range_with_len (λ i. matrix M f i j) 0 M.rank
 
   entry_at : (i j : ℕ) → i < M.rank → j < size M → matrix_of columns i j ≡ matrix M f i j
-  entry_at i j m o = ap (λ (xs : List ℕ). slice_index xs i) (h.same j o) ∙ get_or-map-range_with_len (λ i. matrix M f i j) 0 M.rank i i 0 m (let e : 0 + i ≡ i = omega arith in e)
+  entry_at i j m o = ap (λ (xs : List ℕ). slice_index xs i) (h.same j o)
+      ∙ get_or-map-range_with_len (λ i. matrix M f i j) 0 M.rank i i 0 m (let e : 0 + i ≡ i = omega arith in e)
 
   rows_or_none : (length columns ≡ 0) ⊎ (height columns ≡ M.rank)
   rows_or_none = elim (cases_lt 0 (length columns)) [ inl b ↦ inr (rows_at 0 b) | inr g ↦ inl (omega arith) ]
@@ -33,7 +35,8 @@ module _ (M : Rep) (k : KeepsLimits M) (f q : ℕ) (columns : List (ArrayVec ℕ
     below = λ i o.
         (let b : j < size M = (let e : length columns ≡ size M = h.count in omega arith) in
         let m : i < M.rank = subst (λ (r : ℕ). i < r) (rows_at 0 (omega arith)) o in
-        subst (λ (q : ℕ). matrix_of columns i j < q) (sym h.order) (subst (λ (x : ℕ). x < order M f) (sym (entry_at i j m b)) (k.shaped.codes f i j h.below m b)));
+        subst (λ (q : ℕ). matrix_of columns i j < q) (sym h.order)
+        (subst (λ (x : ℕ). x < order M f) (sym (entry_at i j m b)) (k.shaped.codes f i j h.below m b)));
   }
 
   -- independent columns are an independent set of the factor
@@ -50,7 +53,8 @@ module _ (M : Rep) (k : KeepsLimits M) (f q : ℕ) (columns : List (ArrayVec ℕ
   )
 
   -- columns picked out of the factor's, under another name of their list
-  pub picked_same : (v : List (ArrayVec ℕ)) → v ≡ columns → (S : ℕ → Bool) (w : List (ArrayVec ℕ)) → ArePicked (column v) (length v) S w → ArePicked (column_of M f) (size M) S w
+  pub picked_same : (v : List (ArrayVec ℕ)) → v ≡ columns → (S : ℕ → Bool) (w : List (ArrayVec ℕ)) →
+      ArePicked (column v) (length v) S w → ArePicked (column_of M f) (size M) S w
   picked_same v e S w d =
       (let p : ArePicked (column columns) (length columns) S w = subst (λ (v : List (ArrayVec ℕ)). ArePicked (column v) (length v) S w) e d in record {
         count = p.count ∙ ap (λ n. size_below n S) h.count;
@@ -89,23 +93,35 @@ abbrev Alike : ℕ → List (ArrayVec ℕ) → ℕ → List (ArrayVec ℕ) → �
 Alike p columns q others n r = (X : ℕ) → IsSetOfSize n r X → (IsIndependentSet p columns (members X) ↔ IsIndependentSet q others (members X))
 
 -- two factors have the same bases where each set of rank many columns is independent in both or in none
-pub same_bases : (M : Rep) (k : KeepsLimits M) (f g p q : ℕ) (columns others : List (ArrayVec ℕ)) → IsFactorOf M f p columns → IsFactorOf M g q others → (n r : ℕ) (b : Bool) → n ≡ size M → r ≡ M.rank
+pub same_bases : (M : Rep) (k : KeepsLimits M) (f g p q : ℕ) (columns others : List (ArrayVec ℕ)) → IsFactorOf M f p columns →
+    IsFactorOf M g q others → (n r : ℕ) (b : Bool) → n ≡ size M → r ≡ M.rank
     → (IsTrue b ↔ Alike p columns q others n r) → IsTrue b ↔ ((S : ℕ → Bool) → (IsBasis M f S ↔ IsBasis M g S))
 same_bases M k f g p q columns others x y n r b ne re d = (
   (λ t. by_masks (size M) (λ S. IsBasis M f S ↔ IsBasis M g S) move (λ X l. (
-    (λ c. record { full = c.full; independent = (independent_same M k g q others y (members X)).0 ((there t X l c.full).0 ((independent_same M k f p columns x (members X)).1 c.independent)) }),
-    (λ c. record { full = c.full; independent = (independent_same M k f p columns x (members X)).0 ((there t X l c.full).1 ((independent_same M k g q others y (members X)).1 c.independent)) }),
+    (λ c. record {
+      full = c.full;
+      independent = (independent_same M k g q others y (members X)).0
+          ((there t X l c.full).0 ((independent_same M k f p columns x (members X)).1 c.independent));
+    }),
+    (λ c. record {
+      full = c.full;
+      independent = (independent_same M k f p columns x (members X)).0
+          ((there t X l c.full).1 ((independent_same M k g q others y (members X)).1 c.independent));
+    }),
   ))),
   (λ h. at_rank.1 (λ X s. (
-    (λ i. (independent_same M k g q others y (members X)).1 (((h (members X)).0 (record { full = s.elements; independent = (independent_same M k f p columns x (members X)).0 i })).independent)),
-    (λ i. (independent_same M k f p columns x (members X)).1 (((h (members X)).1 (record { full = s.elements; independent = (independent_same M k g q others y (members X)).0 i })).independent)),
+    (λ i. (independent_same M k g q others y (members X)).1
+        (((h (members X)).0 (record { full = s.elements; independent = (independent_same M k f p columns x (members X)).0 i })).independent)),
+    (λ i. (independent_same M k f p columns x (members X)).1
+        (((h (members X)).1 (record { full = s.elements; independent = (independent_same M k g q others y (members X)).0 i })).independent)),
   ))),
 )
   where
     at_rank : IsTrue b ↔ Alike p columns q others (size M) M.rank
     at_rank = subst (λ (n : ℕ). IsTrue b ↔ Alike p columns q others n M.rank) ne (subst (λ (r : ℕ). IsTrue b ↔ Alike p columns q others n r) re d)
 
-    there : IsTrue b → (X : ℕ) → X < 2 ^ size M → size_below (size M) (members X) ≡ M.rank → IsIndependentSet p columns (members X) ↔ IsIndependentSet q others (members X)
+    there : IsTrue b → (X : ℕ) → X < 2 ^ size M → size_below (size M) (members X) ≡ M.rank →
+        IsIndependentSet p columns (members X) ↔ IsIndependentSet q others (members X)
     there t X l e = at_rank.0 t X (record { below = l; elements = e })
 
     move : (S T : ℕ → Bool) → ((j : ℕ) → j < size M → S j ≡ T j) → (IsBasis M f S ↔ IsBasis M g S) → IsBasis M f T ↔ IsBasis M g T
@@ -115,7 +131,8 @@ same_bases M k f g p q columns others x y n r b ne re d = (
     )
 
 -- the bases of the first factor's columns, under other names of the order, the rank and the list
-pub bases_are : (M : Rep) (k : KeepsLimits M) (p q r : ℕ) (v columns : List (ArrayVec ℕ)) (masks : List ℕ) → IsFactorOf M 0 q columns → p ≡ q → r ≡ M.rank → v ≡ columns
+pub bases_are : (M : Rep) (k : KeepsLimits M) (p q r : ℕ) (v columns : List (ArrayVec ℕ)) (masks : List ℕ) →
+    IsFactorOf M 0 q columns → p ≡ q → r ≡ M.rank → v ≡ columns
     → AreMasks (length v) (λ X. IsBasisOfColumns p r v (members X)) masks → AreBases M masks
 bases_are M k p q r v columns masks h pe re ve d = record {
   rising = d.rising;

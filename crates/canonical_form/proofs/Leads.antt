@@ -19,7 +19,8 @@ abbrev pub Leads : Rep → List ℕ → ℕ → ℕ → Type 0
 Leads M v f s = (i : ℕ) → i < M.rank → AreZerosBefore M v f i → slice_index v (i * count M + f) ≢ 0 → times (order M f) s (slice_index v (i * count M + f)) ≡ 1
 
 -- the first code that isn't 0 stands at one row
-pub leads_by_first : (M : Rep) (v : List ℕ) (f j q s x : ℕ) → IsOrder (order M f) → q ≡ order M f → x ≡ slice_index v (j * count M + f) → x ≢ 0 → AreZerosBefore M v f j → times q x s ≡ 1 → Leads M v f s
+pub leads_by_first : (M : Rep) (v : List ℕ) (f j q s x : ℕ) → IsOrder (order M f) → q ≡ order M f →
+    x ≡ slice_index v (j * count M + f) → x ≢ 0 → AreZerosBefore M v f j → times q x s ≡ 1 → Leads M v f s
 leads_by_first M v f j q s x o e d n z t i l z' n' =
     elim (cases_lt i j) [
       | inl b ↦ absurd (n' (z i b))
@@ -36,7 +37,8 @@ leads_by_first M v f j q s x o e d n z t i l z' n' =
 -- what the products of the scalars with the codes are made of
 pub record AreProducts (M : Rep) (scalars c products : List ℕ) : Type 0 where
   pub column : IsProductColumn M.factors M.rank products
-  pub entries : (i f : ℕ) → i < M.rank → f < count M → slice_index products (i * count M + f) ≡ times (order M f) (slice_index scalars (i * count M + f)) (slice_index c (i * count M + f))
+  pub entries : (i f : ℕ) → i < M.rank → f < count M →
+      slice_index products (i * count M + f) ≡ times (order M f) (slice_index scalars (i * count M + f)) (slice_index c (i * count M + f))
 
 -- a scale for each factor that makes its first code 1
 pub record AreScales (M : Rep) (n : ℕ) (v scales : List ℕ) : Type 0 where
@@ -46,8 +48,11 @@ pub record AreScales (M : Rep) (n : ℕ) (v scales : List ℕ) : Type 0 where
   pub leads : (f : ℕ) → f < n → Leads M v f (slice_index scales f)
 
 -- the products, scaled
-pub scaled_is : (M : Rep) (scalars c products scales v : List ℕ) → ((f : ℕ) → f < count M → IsOrder (order M f)) → AreProducts M scalars c products → AreScales M (count M) products scales → length v ≡ M.rank * count M
-    → ((i f : ℕ) → i < M.rank → f < count M → slice_index v (i * count M + f) ≡ times (order M f) (slice_index scales f) (slice_index products (i * count M + f))) → IsScaled M scalars c v
+pub scaled_is : (M : Rep) (scalars c products scales v : List ℕ) → ((f : ℕ) → f < count M → IsOrder (order M f)) →
+    AreProducts M scalars c products → AreScales M (count M) products scales → length v ≡ M.rank * count M
+    → ((i f : ℕ) → i < M.rank → f < count M →
+    slice_index v (i * count M + f) ≡ times (order M f) (slice_index scales f) (slice_index products (i * count M + f))) →
+    IsScaled M scalars c v
 scaled_is M scalars c products scales v o p s l e = record {
   column = record {
     rows = l;
@@ -62,13 +67,15 @@ scaled_is M scalars c products scales v o p s l e = record {
       ∙ s.leads f k i m
       (λ j b. (let m' : j < M.rank = omega arith in elim (cases_eq (slice_index products (j * count M + f)) 0) [
         | inl y ↦ y
-        | inr y ↦ absurd (times_nonzero (order M f) (field_laws (order M f) (o f k)) (slice_index scales f) (slice_index products (j * count M + f)) (s.codes f k) (p.column.codes j f m' k) (s.nonzero f k) y (sym (e j f m' k) ∙ z j b))
+        | inr y ↦ absurd (times_nonzero (order M f) (field_laws (order M f) (o f k)) (slice_index scales f)
+            (slice_index products (j * count M + f)) (s.codes f k) (p.column.codes j f m' k) (s.nonzero f k) y (sym (e j f m' k) ∙ z j b))
       ]))
       (λ y. n (e i f m k ∙ ap (times (order M f) (slice_index scales f)) y ∙ times_zero (order M f) (field_laws (order M f) (o f k)) (slice_index scales f)));
 }
 
 -- a scale of one more factor
-pub more_scales : (M : Rep) (n s : ℕ) (v xs ys : List ℕ) → AreScales M n v xs → ys ≡ xs ++ s ∷ [] → s < order M n → s ≢ 0 → Leads M v n s → AreScales M (n + 1) v ys
+pub more_scales : (M : Rep) (n s : ℕ) (v xs ys : List ℕ) → AreScales M n v xs → ys ≡ xs ++ s ∷ [] → s < order M n → s ≢ 0 →
+    Leads M v n s → AreScales M (n + 1) v ys
 more_scales M n s v xs ys h e c z l = record {
   numbers = ap (λ (w : List ℕ). length w) e ∙ length-append xs (s ∷ []) ∙ ap (λ (m : ℕ). m + 1) h.numbers;
   codes = one_more_item (λ f x. x < order M f) xs ys s 0 n h.numbers e h.codes c;

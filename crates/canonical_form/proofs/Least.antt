@@ -114,7 +114,9 @@ module _ (M : Rep) (basis scalars : List ℕ) (rep : KeepsLimits M) (b : IsOrder
     unfolding labels
     others_most =
         subst (λ n. length others ≤ n) (length-map-range_with_len (λ j. m.label j) M.rank (size M - M.rank))
-        (distinct_length others labels (λ i j d l k e. (let n : slice_index_or others i d < slice_index_or others j d = AllPairs-from_increasing others are.rising i j d l k in absurd (omega arith))) is_label)
+        (distinct_length others labels
+        (λ i j d l k e. (let n : slice_index_or others i d < slice_index_or others j d =
+        AllPairs-from_increasing others are.rising i j d l k in absurd (omega arith))) is_label)
 
     -- the place among them of a column's label
     place_by : (t : ℕ) → (t < size M - M.rank) ⊎ (size M - M.rank ≤ t) → ℕ
@@ -151,29 +153,36 @@ module _ (M : Rep) (basis scalars : List ℕ) (rep : KeepsLimits M) (b : IsOrder
 
   -- ---- one later column
 
-  scalar_at : (i f : ℕ) → i < M.rank → f < count M → slice_index scalars (i * count M + f) ≡ times (order M f) (m.scalar f 0) (inverse (order M f) (m.scalar f i))
+  scalar_at : (i f : ℕ) → i < M.rank → f < count M →
+      slice_index scalars (i * count M + f) ≡ times (order M f) (m.scalar f 0) (inverse (order M f) (m.scalar f i))
   scalar_at i f n l =
       let h : i * count M + f < count M * M.rank = mul-add-lt i (count M) f M.rank n l in
       let in_scalars : i * count M + f < length scalars = subst (λ n. i * count M + f < n) (sym long) (omega arith) in
       sym (has (i * count M + f) in_scalars) ∙ (λ t. row_scalar M m (mod-mul-add i (count M) f l t) (div-mul-add i (count M) f l t))
 
-  module _ (t : ℕ) (tl : t < size M - M.rank) (c v : List ℕ) (coordinates : AreCoordinates M basis (m.label (M.rank + t)) c) (scaled : IsScaled M scalars c v) where
+  module _ (t : ℕ) (tl : t < size M - M.rank) (c v : List ℕ) (coordinates : AreCoordinates M basis (m.label (M.rank + t)) c)
+      (scaled : IsScaled M scalars c v) where
     abbrev coordinate : ℕ → ℕ → ℕ
     coordinate i f = slice_index c (i * count M + f)
 
     column : List ℕ
     column = slice_index_or N.columns (M.rank + t) []
 
-    entry : (i f : ℕ) → i < M.rank → f < count M → slice_index column (i * count M + f) ≡ times (order M f) (m.scalar f (M.rank + t)) (times (order M f) (inverse (order M f) (m.scalar f i)) (coordinate i f))
+    entry : (i f : ℕ) → i < M.rank → f < count M →
+        slice_index column (i * count M + f) ≡ times (order M f) (m.scalar f (M.rank + t))
+        (times (order M f) (inverse (order M f) (m.scalar f i)) (coordinate i f))
     unfolding column
     entry i f n l =
         ap (λ s. slice_index (slice_index_or N.columns (M.rank + t) []) (i * length s.factors + f)) (sym takes.same_shape)
         ∙ standard_by Linear M N m shaped reach.standard valid takes f l (M.rank + t) (after t tl) (λ i. coordinate i f) combined i n
-        ∙ ap (λ p. times (order M f) (m.scalar f (M.rank + t)) (times (order M f) (inverse (order M f) (m.scalar f i)) (raised (order M f) p (coordinate i f)))) (valid.allowed f l)
+        ∙ ap (λ p. times (order M f) (m.scalar f (M.rank + t))
+        (times (order M f) (inverse (order M f) (m.scalar f i)) (raised (order M f) p (coordinate i f)))) (valid.allowed f l)
       where
-        combined : (i : ℕ) → i < M.rank → combination (order M f) M.rank (λ i l. matrix M f i (m.label l)) (λ i. coordinate i f) i ≡ matrix M f i (m.label (M.rank + t))
+        combined : (i : ℕ) → i < M.rank →
+            combination (order M f) M.rank (λ i l. matrix M f i (m.label l)) (λ i. coordinate i f) i ≡ matrix M f i (m.label (M.rank + t))
         combined i n =
-            sum_same (order M f) (field f l) M.rank (λ j. times (order M f) (matrix M f i (m.label j)) (coordinate j f)) (λ j. times (order M f) (chosen M basis f i j) (coordinate j f))
+            sum_same (order M f) (field f l) M.rank (λ j. times (order M f) (matrix M f i (m.label j)) (coordinate j f))
+            (λ j. times (order M f) (chosen M basis f i j) (coordinate j f))
             (λ j h. ap (λ x. times (order M f) (matrix M f i x) (coordinate j f)) (front j h))
             ∙ coordinates.combined f i l n
 
@@ -184,7 +193,8 @@ module _ (M : Rep) (basis scalars : List ℕ) (rep : KeepsLimits M) (b : IsOrder
     unfolding factor
     multiple i f n l =
         entry i f n l
-        ∙ sym (ratio_times (order M f) (field f l) (m.scalar f (M.rank + t)) (m.scalar f 0) (scaled.scale f) (inverse (order M f) (m.scalar f i)) (coordinate i f)
+        ∙ sym (ratio_times (order M f) (field f l) (m.scalar f (M.rank + t)) (m.scalar f 0) (scaled.scale f)
+        (inverse (order M f) (m.scalar f i)) (coordinate i f)
         (valid.scalars f 0 l some) (valid.nonzero f 0 l some) (scaled.scale_code f l) (scaled.scale_nonzero f l))
         ∙ ap (times (order M f) (factor f)) (sym (scaled.entries i f n l
         ∙ ap (λ x. times (order M f) (scaled.scale f) (times (order M f) x (coordinate i f))) (scalar_at i f n l)))
@@ -199,25 +209,30 @@ module _ (M : Rep) (basis scalars : List ℕ) (rep : KeepsLimits M) (b : IsOrder
     unfolding factor
     factor_nonzero f l =
         ratio_nonzero (order M f) (field f l) (m.scalar f (M.rank + t)) (m.scalar f 0) (scaled.scale f)
-        (valid.scalars f (M.rank + t) l (after t tl)) (valid.nonzero f (M.rank + t) l (after t tl)) (valid.scalars f 0 l some) (valid.nonzero f 0 l some) (scaled.scale_code f l) (scaled.scale_nonzero f l)
+        (valid.scalars f (M.rank + t) l (after t tl)) (valid.nonzero f (M.rank + t) l (after t tl)) (valid.scalars f 0 l some)
+        (valid.nonzero f 0 l some) (scaled.scale_code f l) (scaled.scale_nonzero f l)
 
     factor_code : (f : ℕ) → f < count M → factor f < order M f
     unfolding factor
-    factor_code f l = let F = field f l in F.times_below (m.scalar f (M.rank + t)) (times (order M f) (inverse (order M f) (m.scalar f 0)) (inverse (order M f) (scaled.scale f)))
+    factor_code f l = let F = field f l in
+        F.times_below (m.scalar f (M.rank + t)) (times (order M f) (inverse (order M f) (m.scalar f 0)) (inverse (order M f) (scaled.scale f)))
 
     column_least : slice_cmp nat_cmp v column ≢ Greater
-    column_least = let w = scaled.column in scaled_least (count M) M.rank (order M) field v column factor w.rows column_rows w.codes scaled.leads factor_code factor_nonzero multiple
+    column_least = let w = scaled.column in
+        scaled_least (count M) M.rank (order M) field v column factor w.rows column_rows w.codes scaled.leads factor_code factor_nonzero multiple
 
   later-at : (t : ℕ) → slice_index_or (later N) t [] ≡ slice_index_or N.columns (M.rank + t) []
   later-at t = get_or-drop N.rank N.columns t [] ∙ ap (λ r. slice_index_or N.columns (r + t) []) same_rank
 
-  later_least : (t : ℕ) → t < size M - M.rank → (c v : List ℕ) → AreCoordinates M basis (m.label (M.rank + t)) c → IsScaled M scalars c v → slice_cmp nat_cmp v (slice_index_or (later N) t []) ≢ Greater
+  later_least : (t : ℕ) → t < size M - M.rank → (c v : List ℕ) → AreCoordinates M basis (m.label (M.rank + t)) c →
+      IsScaled M scalars c v → slice_cmp nat_cmp v (slice_index_or (later N) t []) ≢ Greater
   unfolding column
   later_least t l c v coordinates scaled = subst (λ w. slice_cmp nat_cmp v w ≢ Greater) (sym (later-at t)) (column_least t l c v coordinates scaled)
 
   -- ---- all of them
 
-  module _ (columns : List (List ℕ)) (h : IsCandidate M basis scalars columns) (pi : ℕ → ℕ) (as_long : length columns ≡ length h.scaled) (places : ArePlaces [] h.scaled columns pi) where
+  module _ (columns : List (List ℕ)) (h : IsCandidate M basis scalars columns) (pi : ℕ → ℕ)
+      (as_long : length columns ≡ length h.scaled) (places : ArePlaces [] h.scaled columns pi) where
     known : AreOtherCoordinates M basis h.coordinates
     known = h.are_coordinates
 
@@ -225,14 +240,16 @@ module _ (M : Rep) (basis scalars : List ℕ) (rep : KeepsLimits M) (b : IsOrder
     scaled_length = h.count_is ∙ known.count_is
 
     most : length columns ≤ size M - M.rank
-    most = let o : length known.others ≤ size M - M.rank = others_most known.others known.are_others in let e : length columns ≡ length h.scaled = as_long in let d : length h.scaled ≡ length known.others = scaled_length in omega arith
+    most = let o : length known.others ≤ size M - M.rank = others_most known.others known.are_others in
+        let e : length columns ≡ length h.scaled = as_long in let d : length h.scaled ≡ length known.others = scaled_length in omega arith
 
     at : ℕ → ℕ
     at t = place known.others known.are_others t
 
     at_below : (t : ℕ) → t < length columns → at t < length h.scaled
     unfolding at
-    at_below t l = subst (λ n. place known.others known.are_others t < n) (sym scaled_length) (place-below known.others known.are_others t (let o : length columns ≤ size M - M.rank = most in omega arith))
+    at_below t l = subst (λ n. place known.others known.are_others t < n) (sym scaled_length)
+        (place-below known.others known.are_others t (let o : length columns ≤ size M - M.rank = most in omega arith))
 
     matched : IsMatched (slice_cmp nat_cmp) nat_list_cmp_total [] columns (later N) (λ t. pi (at t))
     unfolding at
@@ -246,14 +263,17 @@ module _ (M : Rep) (basis scalars : List ℕ) (rep : KeepsLimits M) (b : IsOrder
           let in_others : at t < length known.others = subst (λ n. at t < n) scaled_length (at_below t l) in
           subst (λ w. slice_cmp nat_cmp w (slice_index_or (later N) t []) ≢ Greater) (sym (places.at (at t) (at_below t l)))
           (later_least t (omega arith) (slice_index_or h.coordinates (at t) []) (slice_index_or h.scaled (at t) [])
-          (subst (λ k. AreCoordinates M basis k (slice_index_or h.coordinates (at t) [])) (place-at known.others known.are_others t (omega arith)) (known.each (at t) in_others))
+          (subst (λ k. AreCoordinates M basis k (slice_index_or h.coordinates (at t) []))
+          (place-at known.others known.are_others t (omega arith)) (known.each (at t) in_others))
           (h.each (at t) (subst (λ n. at t < n) (sym known.count_is) in_others))));
     }
 
     rows_least : columns_cmp columns (later N) ≢ Greater
-    rows_least = sorted_least (slice_cmp nat_cmp) nat_list_cmp_total [] columns (later N) (λ t. pi (at t)) (subst (λ n. length columns ≤ n) (sym later_length) most) h.rising matched
+    rows_least = sorted_least (slice_cmp nat_cmp) nat_list_cmp_total [] columns (later N) (λ t. pi (at t))
+        (subst (λ n. length columns ≤ n) (sym later_length) most) h.rising matched
 
-pub candidate_least : (M : Rep) (basis scalars : List ℕ) (columns : List (List ℕ)) → KeepsLimits M → IsOrderedBasis M basis → AreScalars M scalars → IsCandidate M basis scalars columns
+pub candidate_least : (M : Rep) (basis scalars : List ℕ) (columns : List (List ℕ)) → KeepsLimits M → IsOrderedBasis M basis →
+    AreScalars M scalars → IsCandidate M basis scalars columns
     → (m : Move) (N : Rep) → Reaches M m N → PicksFirst basis m → length scalars ≡ M.rank * count M → HasScalars M scalars m
     → columns_cmp columns (later N) ≢ Greater
 candidate_least M basis scalars columns rep b _ h m N reach begins long has =

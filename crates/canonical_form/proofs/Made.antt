@@ -62,7 +62,8 @@ contained (x ∷ xs) k =
       ]
     ]
 
-module _ (n : ℕ) (labels : List ℕ) (below : (i : ℕ) → i < length labels → slice_index labels i < n) (apart : AllPairs (λ x y. x ≢ y) labels) (whole : (k : ℕ) → k < n → Contains labels k) where
+module _ (n : ℕ) (labels : List ℕ) (below : (i : ℕ) → i < length labels → slice_index labels i < n)
+    (apart : AllPairs (λ x y. x ≢ y) labels) (whole : (k : ℕ) → k < n → Contains labels k) where
   in_range : (k : ℕ) → k < n → Contains (range_with_len 0 n) k
   in_range k l = let e : length (range_with_len 0 n) ≡ n = length-range_with_len 0 n in (k, omega arith, get_or-range_with_len 0 n k k l ∙ omega arith)
 
@@ -77,7 +78,8 @@ module _ (n : ℕ) (labels : List ℕ) (below : (i : ℕ) → i < length labels 
   all_labels : length labels ≡ n
   all_labels =
       let s : length (range_with_len 0 n) ≡ n = length-range_with_len 0 n in
-      let a : length labels ≤ length (range_with_len 0 n) = distinct_length labels (range_with_len 0 n) apart (λ k c. let (i, l, e) = c in in_range k (subst (λ (x : ℕ). x < n) (get_or_default labels i 0 k l ∙ e) (below i l))) in
+      let a : length labels ≤ length (range_with_len 0 n) = distinct_length labels (range_with_len 0 n) apart
+      (λ k c. let (i, l, e) = c in in_range k (subst (λ (x : ℕ). x < n) (get_or_default labels i 0 k l ∙ e) (below i l))) in
       let b : length (range_with_len 0 n) ≤ length labels = distinct_length (range_with_len 0 n) labels range_apart (λ k c.
       let (i, l, e) = c in
       let z : 0 + i ≡ k = sym (get_or-range_with_len 0 n i k (omega arith)) ∙ e in
@@ -97,7 +99,9 @@ module _ (n : ℕ) (labels : List ℕ) (below : (i : ℕ) → i < length labels 
       record {
         below = λ j l. below j (omega arith);
         inverse_below = λ j l. subst (λ (x : ℕ). seat labels j < x) s (seat_of labels j (whole j l)).0;
-        there = λ j l. (let j' : j < length labels = omega arith in let w = seat_of labels (slice_index labels j) (Contains-get_or labels j 0 j') in one_place (seat labels (slice_index labels j)) j w.0 j' w.1);
+        there = λ j l. (let j' : j < length labels = omega arith in
+            let w = seat_of labels (slice_index labels j) (Contains-get_or labels j 0 j') in
+            one_place (seat labels (slice_index labels j)) j w.0 j' w.1);
         back = λ j l. (seat_of labels j (whole j l)).1;
       }
 
@@ -150,11 +154,13 @@ module _ (a b : ℕ) where
 module _ (q : ℕ) (F : IsField q) (r : ℕ) where
   pick_column : (n : ℕ) (A : Matrix) (l : ℕ) (i : ℕ) → l < n → A i l < q → combination q n A (λ j. unit j l) i ≡ A i l
   pick_column n A l i b c =
-      sum_one q F n l (λ j. times q (A i j) (unit j l)) b (F.times_below (A i l) (unit l l)) (λ j _ ne. ap (λ e. times q (A i j) (cond e 1 0)) (other_number j l ne) ∙ times_zero q F (A i j))
+      sum_one q F n l (λ j. times q (A i j) (unit j l)) b (F.times_below (A i l) (unit l l))
+      (λ j _ ne. ap (λ e. times q (A i j) (cond e 1 0)) (other_number j l ne) ∙ times_zero q F (A i j))
       ∙ ap (λ e. times q (A i l) (cond e 1 0)) (same_number l) ∙ F.times_comm (A i l) 1 ∙ F.times_one (A i l) c
 
   -- two of them differ
-  columns_differ : (n : ℕ) (A : Matrix) → ((i j : ℕ) → i < r → j < n → A i j < q) → Independent q r n A → (l m : ℕ) → l < n → m < n → l ≢ m → ((i : ℕ) → i < r → A i l ≡ A i m) → ⊥
+  columns_differ : (n : ℕ) (A : Matrix) → ((i j : ℕ) → i < r → j < n → A i j < q) → Independent q r n A → (l m : ℕ) → l < n →
+      m < n → l ≢ m → ((i : ℕ) → i < r → A i l ≡ A i m) → ⊥
   columns_differ n A codes h l m b c ne e =
       let z : zero ≡ 1 = sym (h.only_zero a (all_coefficients q F r n n a (λ j _. F.plus_below _ _)) rows l b) ∙ at in
       omega arith
@@ -170,25 +176,34 @@ module _ (q : ℕ) (F : IsField q) (r : ℕ) where
       -- x - x
       cancelled : (x : ℕ) → x < q → plus q x (times q (negative q 1) x) ≡ 0
       cancelled x k =
-          (λ i. plus q (sym (F.times_comm x 1 ∙ F.times_one x k) i) (F.times_comm (negative q 1) x i)) ∙ sym (F.times_plus x 1 (negative q 1)) ∙ ap (times q x) (F.plus_negative 1) ∙ times_zero q F x
+          (λ i. plus q (sym (F.times_comm x 1 ∙ F.times_one x k) i) (F.times_comm (negative q 1) x i))
+          ∙ sym (F.times_plus x 1 (negative q 1)) ∙ ap (times q x) (F.plus_negative 1) ∙ times_zero q F x
 
       rows : (i : ℕ) → i < r → combination q n A a i ≡ 0
       rows i k =
-          sum_same q F n (λ j. times q (A i j) (a j)) (λ j. plus q (times q (A i j) (unit j l)) (times q (A i j) (times q (negative q 1) (unit j m)))) (λ j _. F.times_plus (A i j) (unit j l) (times q (negative q 1) (unit j m)))
+          sum_same q F n (λ j. times q (A i j) (a j))
+          (λ j. plus q (times q (A i j) (unit j l)) (times q (A i j) (times q (negative q 1) (unit j m))))
+          (λ j _. F.times_plus (A i j) (unit j l) (times q (negative q 1) (unit j m)))
           ∙ sum_plus q F n (λ j. times q (A i j) (unit j l)) (λ j. times q (A i j) (times q (negative q 1) (unit j m)))
-          ∙ (λ t. plus q (pick_column n A l i b (codes i l k b) t) ((combination-scaled q F n A (negative q 1) (λ j. unit j m) i ∙ ap (times q (negative q 1)) (pick_column n A m i c (codes i m k c) ∙ sym (e i k))) t))
+          ∙ (λ t. plus q (pick_column n A l i b (codes i l k b) t)
+          ((combination-scaled q F n A (negative q 1) (λ j. unit j m) i
+          ∙ ap (times q (negative q 1)) (pick_column n A m i c (codes i m k c) ∙ sym (e i k))) t))
           ∙ cancelled (A i l) (codes i l k b)
 
   -- independent columns p 0, .., p (r - 1), as a set
-  set_of_independent : (n : ℕ) (A : Matrix) (p u : ℕ → ℕ) → r ≤ n → ArePermutation n p u → Independent q r r (λ i l. A i (p l)) → IsIndependent q r n A (λ k. nat_lt (u k) r)
+  set_of_independent : (n : ℕ) (A : Matrix) (p u : ℕ → ℕ) → r ≤ n → ArePermutation n p u → Independent q r r (λ i l. A i (p l)) →
+      IsIndependent q r n A (λ k. nat_lt (u k) r)
   set_of_independent n A p u le w h = record {
     only_zero = λ a c z k l. elim (cases_lt (u k) r) [
-      | inl b ↦ ap a (sym (w.back k l)) ∙ h.only_zero (λ j. a (p j)) (all_coefficients q F r r r (λ j. a (p j)) (λ j m. c.codes (p j) (w.below j (omega arith)))) (λ i m. sym (rows a c.outside i) ∙ z i m) (u k) b
+      | inl b ↦ ap a (sym (w.back k l))
+          ∙ h.only_zero (λ j. a (p j)) (all_coefficients q F r r r (λ j. a (p j)) (λ j m. c.codes (p j) (w.below j (omega arith))))
+          (λ i m. sym (rows a c.outside i) ∙ z i m) (u k) b
       | inr g ↦ c.outside k l (le-ltb (u k) r g)
     ];
   }
     where
-      rows : (a : ℕ → ℕ) → ((j : ℕ) → j < n → nat_lt (u j) r ≡ false → a j ≡ 0) → (i : ℕ) → combination q n A a i ≡ combination q r (λ i l. A i (p l)) (λ j. a (p j)) i
+      rows : (a : ℕ → ℕ) → ((j : ℕ) → j < n → nat_lt (u j) r ≡ false → a j ≡ 0) → (i : ℕ) →
+          combination q n A a i ≡ combination q r (λ i l. A i (p l)) (λ j. a (p j)) i
       rows a o i =
           sym (sum_relabelled q F n p u w (λ k. times q (A i k) (a k)) (λ k _. F.times_below (A i k) (a k)))
           ∙ sum_start q F r r n (λ l. times q (A i (p l)) (a (p l))) le
@@ -222,11 +237,13 @@ record AreMade (M : Rep) (basis scalars : List ℕ) (columns : List (List ℕ)) 
   pub number : M.rank + length columns ≡ size M
   pub each : (t : ℕ) → t < length columns → IsFrom M basis scalars (label (M.rank + t)) (slice_index_or columns t [])
 
-made_exchanged : (M : Rep) (basis scalars : List ℕ) (columns : List (List ℕ)) (i j : ℕ) → i < length columns → j < length columns → AreMade M basis scalars columns → AreMade M basis scalars (swap columns i j)
+made_exchanged : (M : Rep) (basis scalars : List ℕ) (columns : List (List ℕ)) (i j : ℕ) → i < length columns → j < length columns →
+    AreMade M basis scalars columns → AreMade M basis scalars (swap columns i j)
 made_exchanged M basis scalars columns i j l m w = record {
   label = λ x. w.label (turn x);
   place = λ k. turn (w.place k);
-  labels = exchanged_permutation (M.rank + i) (M.rank + j) (size M) w.label w.place (let e = w.number in omega arith) (let e = w.number in omega arith) w.labels;
+  labels = exchanged_permutation (M.rank + i) (M.rank + j) (size M) w.label w.place (let e = w.number in omega arith)
+      (let e = w.number in omega arith) w.labels;
   first = λ k o. ap w.label (exchange_other (M.rank + i) (M.rank + j) k (λ e. absurd (omega arith)) (λ e. absurd (omega arith))) ∙ w.first k o;
   number = ap (λ (n : ℕ). M.rank + n) as_long ∙ w.number;
   each = λ t o. at t (subst (λ (n : ℕ). t < n) as_long o);
@@ -244,19 +261,26 @@ made_exchanged M basis scalars columns i j l m w = record {
     at : (t : ℕ) → t < length columns → IsFrom M basis scalars (w.label (turn (M.rank + t))) (slice_index_or (swap columns i j) t [])
     at t o =
         elim (cases_eq t i) [
-          | inl e ↦ IsFrom-same M basis scalars (w.label (M.rank + j)) (w.label (turn (M.rank + t))) (slice_index_or columns j []) (slice_index_or (swap columns i j) t [])
-              (ap w.label (sym (ap (λ x. turn (M.rank + x)) e ∙ exchange_one (M.rank + i) (M.rank + j)))) (sym (ap (λ x. slice_index_or (swap columns i j) x []) e ∙ swapped.0)) (w.each j m)
+          | inl e ↦ IsFrom-same M basis scalars (w.label (M.rank + j)) (w.label (turn (M.rank + t))) (slice_index_or columns j [])
+              (slice_index_or (swap columns i j) t [])
+              (ap w.label (sym (ap (λ x. turn (M.rank + x)) e ∙ exchange_one (M.rank + i) (M.rank + j))))
+              (sym (ap (λ x. slice_index_or (swap columns i j) x []) e ∙ swapped.0)) (w.each j m)
           | inr n ↦ elim (cases_eq t j) [
-            | inl e ↦ IsFrom-same M basis scalars (w.label (M.rank + i)) (w.label (turn (M.rank + t))) (slice_index_or columns i []) (slice_index_or (swap columns i j) t [])
-                (ap w.label (sym (ap (λ x. turn (M.rank + x)) e ∙ exchange_two (M.rank + i) (M.rank + j)))) (sym (ap (λ x. slice_index_or (swap columns i j) x []) e ∙ swapped.1)) (w.each i l)
-            | inr k ↦ IsFrom-same M basis scalars (w.label (M.rank + t)) (w.label (turn (M.rank + t))) (slice_index_or columns t []) (slice_index_or (swap columns i j) t [])
-                (ap w.label (sym (exchange_other (M.rank + i) (M.rank + j) (M.rank + t) (λ e. n (omega arith)) (λ e. k (omega arith))))) (sym (swapped.2 t n k)) (w.each t o)
+            | inl e ↦ IsFrom-same M basis scalars (w.label (M.rank + i)) (w.label (turn (M.rank + t))) (slice_index_or columns i [])
+                (slice_index_or (swap columns i j) t [])
+                (ap w.label (sym (ap (λ x. turn (M.rank + x)) e ∙ exchange_two (M.rank + i) (M.rank + j))))
+                (sym (ap (λ x. slice_index_or (swap columns i j) x []) e ∙ swapped.1)) (w.each i l)
+            | inr k ↦ IsFrom-same M basis scalars (w.label (M.rank + t)) (w.label (turn (M.rank + t))) (slice_index_or columns t [])
+                (slice_index_or (swap columns i j) t [])
+                (ap w.label (sym (exchange_other (M.rank + i) (M.rank + j) (M.rank + t) (λ e. n (omega arith))
+                (λ e. k (omega arith))))) (sym (swapped.2 t n k)) (w.each t o)
           ]
         ]
 
 -- ---- such columns are of the class
 
-module _ (M : Rep) (basis scalars : List ℕ) (columns : List (List ℕ)) (h : KeepsLimits M) (b : IsOrderedBasis M basis) (g : AreScalars M scalars) (w : AreMade M basis scalars columns) where
+module _ (M : Rep) (basis scalars : List ℕ) (columns : List (List ℕ)) (h : KeepsLimits M) (b : IsOrderedBasis M basis)
+    (g : AreScalars M scalars) (w : AreMade M basis scalars columns) where
   room : M.rank ≤ size M
   room = let e = w.number in omega arith
 
@@ -279,7 +303,8 @@ module _ (M : Rep) (basis scalars : List ℕ) (columns : List (List ℕ)) (h : K
 
   first_scalar : (f j : ℕ) → j < M.rank → column_scalar f j ≡ inverse (order M f) (row_scalar_at f j)
   unfolding column_scalar
-  first_scalar f j l = ap (λ b. cond b (inverse (order M f) (row_scalar_at f j)) (scale f (j - M.rank) (cases_lt (j - M.rank) (length columns)))) (lt-ltb j M.rank l)
+  first_scalar f j l = ap (λ b. cond b (inverse (order M f) (row_scalar_at f j))
+      (scale f (j - M.rank) (cases_lt (j - M.rank) (length columns)))) (lt-ltb j M.rank l)
 
   chosen_scale : (f t : ℕ) (c : (t < length columns) ⊎ (length columns ≤ t)) → t < length columns → (l : t < length columns) × (scale f t c ≡ scale_of f t l)
   unfolding scale
@@ -292,7 +317,8 @@ module _ (M : Rep) (basis scalars : List ℕ) (columns : List (List ℕ)) (h : K
       let c = chosen_scale f t (cases_lt t (length columns)) l in
       let e : M.rank + t - M.rank ≡ t = omega arith in (
         c.0,
-        ap (λ b. cond b (inverse (order M f) (row_scalar_at f (M.rank + t))) (scale f (M.rank + t - M.rank) (cases_lt (M.rank + t - M.rank) (length columns)))) (le-ltb (M.rank + t) M.rank (omega arith))
+        ap (λ b. cond b (inverse (order M f) (row_scalar_at f (M.rank + t)))
+            (scale f (M.rank + t - M.rank) (cases_lt (M.rank + t - M.rank) (length columns)))) (le-ltb (M.rank + t) M.rank (omega arith))
             ∙ ap (λ x. scale f x (cases_lt x (length columns))) e ∙ c.1,
       )
 
@@ -319,12 +345,15 @@ module _ (M : Rep) (basis scalars : List ℕ) (columns : List (List ℕ)) (h : K
   basis_set : (f : ℕ) → f < count M → IsIndependent (order M f) M.rank (size M) (matrix M f) (λ k. nat_lt (w.place k) M.rank)
   basis_set f l =
       set_of_independent (order M f) (field f l) M.rank (size M) (matrix M f) w.label w.place room w.labels
-      (independent_same (order M f) (field f l) M.rank M.rank (chosen M basis f) (λ i j. matrix M f i (w.label j)) (λ i j m. ap (matrix M f i) (sym (w.first j m)))
+      (independent_same (order M f) (field f l) M.rank M.rank (chosen M basis f) (λ i j. matrix M f i (w.label j))
+      (λ i j m. ap (matrix M f i) (sym (w.first j m)))
       (subst (λ (n : ℕ). IsIndependent (order M f) M.rank n (chosen M basis f) (λ _. true)) b.full (b.are_independent.independent f l)))
 
-  module _ (N : Rep) (m : Move) (standard : IsStandard N) (valid : IsMove Linear (shape M) m) (takes : TakesTo M m N) (labels_are : m.label ≡ w.label) (scalars_are : m.scalar ≡ column_scalar) (powers_are : m.power ≡ (λ _. 0)) where
+  module _ (N : Rep) (m : Move) (standard : IsStandard N) (valid : IsMove Linear (shape M) m) (takes : TakesTo M m N)
+      (labels_are : m.label ≡ w.label) (scalars_are : m.scalar ≡ column_scalar) (powers_are : m.power ≡ (λ _. 0)) where
     -- the codes of a later column
-    entry : (f i t : ℕ) → f < count M → i < M.rank → t < length columns → matrix N f i (M.rank + t) ≡ slice_index (slice_index_or columns t []) (i * count M + f)
+    entry : (f i t : ℕ) → f < count M → i < M.rank → t < length columns →
+        matrix N f i (M.rank + t) ≡ slice_index (slice_index_or columns t []) (i * count M + f)
     unfolding row_scalar_at scale_of
     entry f i t l n o =
         let F = field f l in
@@ -338,9 +367,11 @@ module _ (M : Rep) (basis scalars : List ℕ) (columns : List (List ℕ)) (h : K
         (λ j a. ap (λ y. times (order M f) (matrix M f i y) (c j)) (ap (λ p. p j) labels_are ∙ w.first j a))
         ∙ x.are_coordinates.combined f i l n ∙ ap (λ p. matrix M f i (p (M.rank + t))) (sym labels_are))
         i n
-        ∙ (λ z. times (order M f) (scalars_are z f (M.rank + t)) (times (order M f) (inverse (order M f) (scalars_are z f i)) (raised (order M f) (powers_are z f) (c i))))
+        ∙ (λ z. times (order M f) (scalars_are z f (M.rank + t))
+        (times (order M f) (inverse (order M f) (scalars_are z f i)) (raised (order M f) (powers_are z f) (c i))))
         ∙ (λ z. times (order M f) (e z) (times (order M f) (inverse (order M f) (first_scalar f i n z)) (c i)))
-        ∙ ap (λ y. times (order M f) (scale_of f t o') (times (order M f) y (c i))) (inverse_twice (order M f) F M.rank (row_scalar_at f i) (g.column.codes i f n l) (g.nonzero i f n l))
+        ∙ ap (λ y. times (order M f) (scale_of f t o') (times (order M f) y (c i)))
+        (inverse_twice (order M f) F M.rank (row_scalar_at f i) (g.column.codes i f n l) (g.nonzero i f n l))
         ∙ sym (x.scaled.entries i f n l)
 
     later_columns : later N ≡ columns
@@ -363,7 +394,8 @@ module _ (M : Rep) (basis scalars : List ℕ) (columns : List (List ℕ)) (h : K
 
   of_class : AreOfClass M columns
   of_class =
-      let (N, m, standard, valid, takes, labels_are, scalars_are, powers_are) = standard_made Linear M h.shaped room w.label w.place w.labels column_scalar (λ _. 0) basis_set scalar_codes scalar_nonzero
+      let (N, m, standard, valid, takes, labels_are, scalars_are, powers_are) =
+      standard_made Linear M h.shaped room w.label w.place w.labels column_scalar (λ _. 0) basis_set scalar_codes scalar_nonzero
       (λ f l. let F = field f l in F.degree_positive) (λ _ _. refl) in
       record {
         member = N;
@@ -407,9 +439,11 @@ module _ (M : Rep) (basis others : List ℕ) (h : KeepsLimits M) (b : IsOrderedB
       elim (cases_lt j (length basis)) [
         | inl c ↦ basis_apart i j l c (sym (in_basis i (omega arith)) ∙ e ∙ in_basis j c)
         | inr c ↦ elim (cases_lt i (length basis)) [
-          | inl d ↦ (other (j - length basis) (past_basis j m c)).1 (subst (Contains basis) (sym (in_basis i d) ∙ e ∙ in_others j c) (Contains-get_or basis i 0 d))
+          | inl d ↦ (other (j - length basis) (past_basis j m c)).1
+              (subst (Contains basis) (sym (in_basis i d) ∙ e ∙ in_others j c) (Contains-get_or basis i 0 d))
           | inr d ↦ (let z : slice_index others (i - length basis) ≡ slice_index others (j - length basis) = sym (in_others i d) ∙ e ∙ in_others j c in
-              let y : slice_index others (i - length basis) < slice_index others (j - length basis) = AllPairs-from_increasing others o.rising (i - length basis) (j - length basis) 0 (omega arith) (past_basis j m c) in
+              let y : slice_index others (i - length basis) < slice_index others (j - length basis) =
+              AllPairs-from_increasing others o.rising (i - length basis) (j - length basis) 0 (omega arith) (past_basis j m c) in
               absurd (omega arith))
         ]
       ]
@@ -424,7 +458,9 @@ module _ (M : Rep) (basis others : List ℕ) (h : KeepsLimits M) (b : IsOrderedB
         | inr out ↦ Contains-append_right basis others k ((o.exact k).1 (l, out))
       ]
 
-  made_in_order : (scalars : List ℕ) (columns : List (List ℕ)) → length columns ≡ length others → ((t : ℕ) → t < length columns → IsFrom M basis scalars (slice_index others t) (slice_index_or columns t [])) → AreMade M basis scalars columns
+  made_in_order : (scalars : List ℕ) (columns : List (List ℕ)) → length columns ≡ length others →
+      ((t : ℕ) → t < length columns → IsFrom M basis scalars (slice_index others t) (slice_index_or columns t [])) →
+      AreMade M basis scalars columns
   made_in_order scalars columns e each = record {
     label = slice_index (basis ++ others);
     place = seat (basis ++ others);
@@ -435,11 +471,13 @@ module _ (M : Rep) (basis others : List ℕ) (h : KeepsLimits M) (b : IsOrderedB
         let c : length (basis ++ others) ≡ length basis + length others = length-append basis others in
         let d = b.full in
         omega arith;
-    each = λ t l. IsFrom-same M basis scalars (slice_index others t) (slice_index (basis ++ others) (M.rank + t)) (slice_index_or columns t []) (slice_index_or columns t [])
+    each = λ t l. IsFrom-same M basis scalars (slice_index others t) (slice_index (basis ++ others) (M.rank + t))
+        (slice_index_or columns t []) (slice_index_or columns t [])
         (sym (ap (λ (x : ℕ). slice_index (basis ++ others) (x + t)) (sym b.full) ∙ get_or-append-add basis others t 0)) refl (each t l);
   }
 
-pub candidate_made : (M : Rep) (basis scalars : List ℕ) (columns : List (List ℕ)) → KeepsLimits M → IsOrderedBasis M basis → AreScalars M scalars → IsCandidate M basis scalars columns → AreOfClass M columns
+pub candidate_made : (M : Rep) (basis scalars : List ℕ) (columns : List (List ℕ)) → KeepsLimits M → IsOrderedBasis M basis →
+    AreScalars M scalars → IsCandidate M basis scalars columns → AreOfClass M columns
 candidate_made M basis scalars columns h b g c =
     of_class M basis scalars columns h b g (IsPermutation-keeps c.scaled (AreMade M basis scalars) in_order (made_exchanged M basis scalars) columns c.permuted)
   where

@@ -34,14 +34,16 @@ no_others M basis w e = record {
 
 module _ (M : Rep) (basis : List ℕ) (n : ℕ) (coordinates : List (List ℕ)) (h : AreOthersBelow M basis n coordinates) where
   -- one more column, in the basis or not
-  pub more_others : (v : List (List ℕ)) (x : List ℕ) → v ≡ coordinates ++ x ∷ [] → ¬ (Contains basis n) → AreCoordinates M basis n x → AreOthersBelow M basis (n + 1) v
+  pub more_others : (v : List (List ℕ)) (x : List ℕ) → v ≡ coordinates ++ x ∷ [] → ¬ (Contains basis n) →
+      AreCoordinates M basis n x → AreOthersBelow M basis (n + 1) v
   more_others v x e out c =
       let len : length (h.others ++ n ∷ []) ≡ length h.others + 1 = length-append h.others (n ∷ []) in
       let few : length h.others ≤ n = h.few in
       let numbers : length coordinates ≡ length h.others = h.numbers in
       record {
         others = h.others ++ n ∷ [];
-        rising = λ k l. all_pairs_push (λ x y. x < y) h.others n (AllPairs-from_increasing h.others h.rising) (λ i d m. ((h.exact _).0 (Contains-get_or h.others i d m)).0) k (k + 1) 0 (omega arith) l;
+        rising = λ k l. all_pairs_push (λ x y. x < y) h.others n (AllPairs-from_increasing h.others h.rising)
+            (λ i d m. ((h.exact _).0 (Contains-get_or h.others i d m)).0) k (k + 1) 0 (omega arith) l;
         exact = λ X. (
           (λ c. elim (Contains-push_cases h.others n X c) [
             | inl o ↦ (let w : (X < n) × ¬ (Contains basis X) = (h.exact X).0 o in let l : X < n = w.0 in (omega arith, w.1))
@@ -49,7 +51,8 @@ module _ (M : Rep) (basis : List ℕ) (n : ℕ) (coordinates : List (List ℕ)) 
           ]),
           (λ w. elim (cases_lt X n) [
             | inl l ↦ Contains-append_left h.others (n ∷ []) X ((h.exact X).1 (l, w.1))
-            | inr g ↦ (let l : X < n + 1 = w.0 in let s : n ≡ X = omega arith in subst (λ (x : ℕ). Contains (h.others ++ n ∷ []) x) s (Contains-push h.others n))
+            | inr g ↦ (let l : X < n + 1 = w.0 in let s : n ≡ X = omega arith in
+                subst (λ (x : ℕ). Contains (h.others ++ n ∷ []) x) s (Contains-push h.others n))
           ]),
         );
         few = omega arith;
@@ -59,8 +62,10 @@ module _ (M : Rep) (basis : List ℕ) (n : ℕ) (coordinates : List (List ℕ)) 
               | inl b ↦ subst (λ (k : ℕ). AreCoordinates M basis k (slice_index_or (coordinates ++ x ∷ []) t [])) (sym (get_or-append h.others (n ∷ []) 0 t b))
                   (subst (AreCoordinates M basis (slice_index h.others t)) (sym (get_or-append coordinates (x ∷ []) [] t (omega arith))) (h.each t b))
               | inr g ↦ (let s : length h.others ≡ t = omega arith in let s' : length coordinates ≡ t = omega arith in
-                  subst (λ (k : ℕ). AreCoordinates M basis k (slice_index_or (coordinates ++ x ∷ []) t [])) (sym (ap (slice_index (h.others ++ n ∷ [])) (sym s) ∙ get_or-append_seam h.others n [] 0))
-                  (subst (AreCoordinates M basis n) (sym (ap (λ (i : ℕ). slice_index_or (coordinates ++ x ∷ []) i []) (sym s') ∙ get_or-append_seam coordinates x [] [])) c))
+                  subst (λ (k : ℕ). AreCoordinates M basis k (slice_index_or (coordinates ++ x ∷ []) t []))
+                  (sym (ap (slice_index (h.others ++ n ∷ [])) (sym s) ∙ get_or-append_seam h.others n [] 0))
+                  (subst (AreCoordinates M basis n)
+                  (sym (ap (λ (i : ℕ). slice_index_or (coordinates ++ x ∷ []) i []) (sym s') ∙ get_or-append_seam coordinates x [] [])) c))
             ]);
       }
 

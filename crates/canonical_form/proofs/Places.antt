@@ -11,7 +11,8 @@ use Rattle.matroid_theory.specs.Rep.{Rep, count, order, IsProductColumn}
 use Rattle.product_rep.proofs.PiecesLemmas.{place_below}
 
 -- what holds of each place holds by row and factor
-pub by_place : (P : ℕ → ℕ → ℕ → Type 0) (rank c n : ℕ) → rank * c ≤ n → ((k : ℕ) → k < n → P (k % c) (k / c) k) → (i f : ℕ) → i < rank → f < c → P f i (i * c + f)
+pub by_place : (P : ℕ → ℕ → ℕ → Type 0) (rank c n : ℕ) → rank * c ≤ n → ((k : ℕ) → k < n → P (k % c) (k / c) k) → (i f : ℕ) →
+    i < rank → f < c → P f i (i * c + f)
 by_place P rank c n le h i f l m =
     let b : i * c + f < rank * c = place_below rank c i f l m in
     subst (λ x. P f x (i * c + f)) (div-mul-add i c f m) (subst (λ x. P x ((i * c + f) / c) (i * c + f)) (mod-mul-add i c f m) (h (i * c + f) (omega arith)))
@@ -38,13 +39,15 @@ pub some_factor : (M : Rep) (fs : List ℕ) → fs ≡ M.factors → 0 < length 
 some_factor M fs e l = subst (λ (xs : List ℕ). 0 < length xs) e l
 
 -- one more item of a list whose items have a property each
-pub one_more_item : {X : Type 0} (P : ℕ → X → Type 0) (xs ys : List X) (x d : X) (n : ℕ) → length xs ≡ n → ys ≡ xs ++ x ∷ [] → ((k : ℕ) → k < n → P k (slice_index_or xs k d)) → P n x → (k : ℕ) → k < n + 1 → P k (slice_index_or ys k d)
+pub one_more_item : {X : Type 0} (P : ℕ → X → Type 0) (xs ys : List X) (x d : X) (n : ℕ) → length xs ≡ n → ys ≡ xs ++ x ∷ [] →
+    ((k : ℕ) → k < n → P k (slice_index_or xs k d)) → P n x → (k : ℕ) → k < n + 1 → P k (slice_index_or ys k d)
 one_more_item {X} P xs ys x d n l e h p k b =
     subst (λ (w : List X). P k (get_or w k d)) (sym e)
     (elim (cases_lt k n) [
       | inl m ↦ subst (P k) (sym (get_or-append xs (x ∷ []) d k (omega arith))) (h k m)
       | inr m ↦ (let s : n ≡ k = omega arith in let t : length xs ≡ k = omega arith in
-          subst (λ (j : ℕ). P j (get_or (xs ++ x ∷ []) j d)) s (subst (P n) (sym (ap (λ (j : ℕ). get_or (xs ++ x ∷ []) j d) (sym l) ∙ get_or-append_seam xs x [] d)) p))
+          subst (λ (j : ℕ). P j (get_or (xs ++ x ∷ []) j d)) s
+          (subst (P n) (sym (ap (λ (j : ℕ). get_or (xs ++ x ∷ []) j d) (sym l) ∙ get_or-append_seam xs x [] d)) p))
     ])
 
 -- the order of a factor is that of a field

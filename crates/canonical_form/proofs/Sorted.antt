@@ -205,7 +205,8 @@ module _ {X : Type 0} (d : X) where
     length-swap l i j ∙ e,
     record {
       injection = record {
-        below = λ t m. exchange_cases (λ k x. k < length xs → x < length xs) i j (λ _. (omega arith)) (λ _ _. (omega arith)) (λ k _ _ y. y) (p t) (let q = h.injection in q.below t m);
+        below = λ t m. exchange_cases (λ k x. k < length xs → x < length xs) i j (λ _. (omega arith)) (λ _ _. (omega arith))
+            (λ k _ _ y. y) (p t) (let q = h.injection in q.below t m);
         apart = λ s t m n x. (let q = h.injection in q.apart s t m n (sym (exchange_twice i j (p s)) ∙ ap (exchange i j) x ∙ exchange_twice i j (p t)));
       };
       at = λ t m. swap-at l i j a b (p t) ∙ h.at t m;

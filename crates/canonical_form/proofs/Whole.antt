@@ -39,13 +39,15 @@ module _ (q : ℕ) (F : IsField q) (r : ℕ) where
   sum_start k (suc n) f le z =
       elim (cases_lt n k) [
         | inl b ↦ (let e : suc n ≡ k = omega arith in ap (λ n. sum_below q n f) e)
-        | inr g ↦ ap (plus q (sum_below q n f)) (z n g (omega arith)) ∙ plus_zero_right q F (sum_below q n f) (sum_below-code q F n f) ∙ sum_start k n f g (λ j l m. z j l (omega arith))
+        | inr g ↦ ap (plus q (sum_below q n f)) (z n g (omega arith))
+            ∙ plus_zero_right q F (sum_below q n f) (sum_below-code q F n f) ∙ sum_start k n f g (λ j l m. z j l (omega arith))
       ]
 
   -- the first k of n independent columns are independent
   pub first_independent : (k n : ℕ) (A : Matrix) → k ≤ n → Independent q r n A → Independent q r k A
   first_independent k n A le h = record {
-    only_zero = λ a c z j l. sym (at a j l) ∙ h.only_zero (extended a) (all_coefficients q F r n n (extended a) (code a c.codes)) (λ i m. rows a i ∙ z i m) j (omega arith);
+    only_zero = λ a c z j l. sym (at a j l) ∙ h.only_zero (extended a) (all_coefficients q F r n n (extended a) (code a c.codes))
+        (λ i m. rows a i ∙ z i m) j (omega arith);
   }
     where
       extended : (ℕ → ℕ) → ℕ → ℕ
@@ -72,7 +74,8 @@ module _ (q : ℕ) (F : IsField q) (r : ℕ) where
   -- independence looks at the columns alone
   pub independent_same : (n : ℕ) (A B : Matrix) → ((i j : ℕ) → j < n → A i j ≡ B i j) → Independent q r n A → Independent q r n B
   independent_same n A B e h = record {
-    only_zero = λ a c z. h.only_zero a c (λ i l. sum_same q F n (λ j. times q (A i j) (a j)) (λ j. times q (B i j) (a j)) (λ j m. ap (λ x. times q x (a j)) (e i j m)) ∙ z i l);
+    only_zero = λ a c z. h.only_zero a c
+        (λ i l. sum_same q F n (λ j. times q (A i j) (a j)) (λ j. times q (B i j) (a j)) (λ j m. ap (λ x. times q x (a j)) (e i j m)) ∙ z i l);
   }
 
 -- ---- what is reached
@@ -104,7 +107,8 @@ module _ (M : Rep) (m : Move) (N : Rep) (h : KeepsLimits M) (w : Reaches M m N) 
     nonzero_of_row i n =
         let c : m.scalar f i < order M f = w.valid.scalars f i l (row_inside i n) in
         let F = field in
-        times_nonzero (order M f) field (m.scalar f 0) (inverse (order M f) (m.scalar f i)) (w.valid.scalars f 0 l first_inside) (F.inverse_below (m.scalar f i) c)
+        times_nonzero (order M f) field (m.scalar f 0) (inverse (order M f) (m.scalar f i)) (w.valid.scalars f 0 l first_inside)
+        (F.inverse_below (m.scalar f i) c)
         (w.valid.nonzero f 0 l first_inside) (inverse_nonzero (order M f) field (m.scalar f i) c (w.valid.nonzero f i l (row_inside i n)))
 
     one_of_first : row_scalar M m f 0 ≡ 1
@@ -126,18 +130,22 @@ pub row_scalar_first : (M : Rep) (m : Move) (N : Rep) (f : ℕ) → KeepsLimits 
 row_scalar_first M m N f h w l = one_of_first M m N h w f l
 
 -- what begins with these columns has them independent
-pub begins_independent : (M : Rep) (columns : List ℕ) (m : Move) (N : Rep) → KeepsLimits M → length columns ≤ M.rank → Reaches M m N → PicksFirst columns m → AreIndependentColumns M columns
+pub begins_independent : (M : Rep) (columns : List ℕ) (m : Move) (N : Rep) → KeepsLimits M → length columns ≤ M.rank →
+    Reaches M m N → PicksFirst columns m → AreIndependentColumns M columns
 begins_independent M columns m N h le w b = record {
   below = λ l n. subst (λ (x : ℕ). x < size M) (b l n) (w.valid.labels.below l (row_inside M m N h w l (omega arith)));
   independent = λ f l.
-      independent_same (order M f) (field M m N h w f l) M.rank (length columns) (λ i j. matrix M f i (m.label j)) (chosen M columns f) (λ i j n. ap (matrix M f i) (b j n))
-      (first_independent (order M f) (field M m N h w f l) M.rank (length columns) M.rank (λ i j. matrix M f i (m.label j)) le (labels_independent M m N h w f l));
+      independent_same (order M f) (field M m N h w f l) M.rank (length columns) (λ i j. matrix M f i (m.label j))
+      (chosen M columns f) (λ i j n. ap (matrix M f i) (b j n))
+      (first_independent (order M f) (field M m N h w f l) M.rank (length columns) M.rank (λ i j. matrix M f i (m.label j)) le
+      (labels_independent M m N h w f l));
 }
 
 -- ---- the form
 
 -- columns of r * c codes are equal where their codes are
-pub same_column : (r c : ℕ) (v w : List ℕ) → length v ≡ r * c → length w ≡ r * c → 0 < c → ((f i : ℕ) → f < c → i < r → slice_index v (i * c + f) ≡ slice_index w (i * c + f)) → v ≡ w
+pub same_column : (r c : ℕ) (v w : List ℕ) → length v ≡ r * c → length w ≡ r * c → 0 < c →
+    ((f i : ℕ) → f < c → i < r → slice_index v (i * c + f) ≡ slice_index w (i * c + f)) → v ≡ w
 same_column r c v w a b p h = ext_get_or 0 v w (a ∙ sym b) code
   where
     code : (k : ℕ) → k < length v → slice_index v k ≡ slice_index w k
@@ -154,7 +162,8 @@ same_but_columns : (N P : Rep) → shape P ≡ shape N → P ≡ with_columns N 
 same_but_columns N P e = λ i. record { factors = ap (λ s. s.factors) e i; rank = ap (λ s. s.rank) e i; columns = P.columns }
 
 -- standard representations of one shape have the same first columns
-first_columns : (N : Rep) (columns : List (List ℕ)) → 0 < count N → IsShaped N → IsStandard N → IsShaped (with_columns N columns) → IsStandard (with_columns N columns) → take N.rank columns ≡ take N.rank N.columns
+first_columns : (N : Rep) (columns : List (List ℕ)) → 0 < count N → IsShaped N → IsStandard N → IsShaped (with_columns N columns) →
+    IsStandard (with_columns N columns) → take N.rank columns ≡ take N.rank N.columns
 first_columns N columns p s t s' t' =
     let a : length (take N.rank columns) ≡ N.rank = length-take-le N.rank columns t'.room in
     let b : length (take N.rank N.columns) ≡ N.rank = length-take-le N.rank N.columns t.room in
@@ -169,7 +178,8 @@ first_columns N columns p s t s' t' =
         (λ f i m n. t'.units f i j m n l ∙ sym (t.units f i j m n l))
         ∙ sym (get_or-take N.rank N.columns j [] l)
 
-first_columns_of : (N P : Rep) → 0 < count N → IsShaped N → IsStandard N → IsShaped P → IsStandard P → shape P ≡ shape N → take N.rank P.columns ≡ take N.rank N.columns
+first_columns_of : (N P : Rep) → 0 < count N → IsShaped N → IsStandard N → IsShaped P → IsStandard P → shape P ≡ shape N →
+    take N.rank P.columns ≡ take N.rank N.columns
 first_columns_of N P p s t s' t' e = first_columns N P.columns p s t (subst IsShaped (same_but_columns N P e) s') (subst IsStandard (same_but_columns N P e) t')
 
 -- so the later columns decide how they compare

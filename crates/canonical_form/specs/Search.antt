@@ -65,7 +65,8 @@ pub record AreOthers (M : Rep) (basis others : List ℕ) : Type 0 where
 -- c has, in each factor, the coordinates of column k of M in the ordered basis
 pub record AreCoordinates (M : Rep) (basis : List ℕ) (k : ℕ) (c : List ℕ) : Type 0 where
   pub column : IsProductColumn M.factors M.rank c
-  pub combined : (f i : ℕ) → f < count M → i < M.rank → combination (order M f) M.rank (chosen M basis f) (λ l. slice_index c (l * count M + f)) i ≡ matrix M f i k
+  pub combined : (f i : ℕ) → f < count M → i < M.rank →
+      combination (order M f) M.rank (chosen M basis f) (λ l. slice_index c (l * count M + f)) i ≡ matrix M f i k
 
 -- v is c with its rows multiplied by the scalars, and then each factor scaled so that its first code that isn't 0 is 1
 pub record IsScaled (M : Rep) (scalars c v : List ℕ) : Type 0 where
@@ -73,8 +74,11 @@ pub record IsScaled (M : Rep) (scalars c v : List ℕ) : Type 0 where
   pub scale : ℕ → ℕ
   pub scale_code : (f : ℕ) → f < count M → scale f < order M f
   pub scale_nonzero : (f : ℕ) → f < count M → scale f ≢ 0
-  pub entries : (i f : ℕ) → i < M.rank → f < count M → slice_index v (i * count M + f) ≡ times (order M f) (scale f) (times (order M f) (slice_index scalars (i * count M + f)) (slice_index c (i * count M + f)))
-  pub leads : (i f : ℕ) → i < M.rank → f < count M → ((k : ℕ) → k < i → slice_index v (k * count M + f) ≡ 0) → slice_index v (i * count M + f) ≢ 0 → slice_index v (i * count M + f) ≡ 1
+  pub entries : (i f : ℕ) → i < M.rank → f < count M →
+      slice_index v (i * count M + f) ≡ times (order M f) (scale f)
+      (times (order M f) (slice_index scalars (i * count M + f)) (slice_index c (i * count M + f)))
+  pub leads : (i f : ℕ) → i < M.rank → f < count M → ((k : ℕ) → k < i → slice_index v (k * count M + f) ≡ 0) →
+      slice_index v (i * count M + f) ≢ 0 → slice_index v (i * count M + f) ≡ 1
 
 -- the coordinates of the other columns
 pub record AreOtherCoordinates (M : Rep) (basis : List ℕ) (coordinates : List (List ℕ)) : Type 0 where

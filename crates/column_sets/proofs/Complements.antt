@@ -24,7 +24,8 @@ flipped (suc (suc x)) l = absurd (omega arith)
 
 split : (a b x : ℕ) → 0 < a → x < b → a * b ≡ 65536 → (a - 1) * b + (b - 1 - x) ≡ 65536 - 1 - x
 split zero b x p l e = absurd (omega arith)
-split (suc a) b x p l e = let s : suc a - 1 ≡ a = omega arith in let t : (suc a - 1) * b ≡ a * b = ap (λ y. y * b) s in let m : suc a * b ≡ a * b + b = suc-mul a b in omega arith
+split (suc a) b x p l e = let s : suc a - 1 ≡ a = omega arith in let t : (suc a - 1) * b ≡ a * b = ap (λ y. y * b) s in
+    let m : suc a * b ≡ a * b + b = suc-mul a b in omega arith
 
 module _ (n : ℕ) (small : n ≤ 16) where
   -- the bits above, and below

@@ -28,7 +28,8 @@ pub sets_most : (m n k : ℕ) → m ≤ n → sets_below m k ≤ sets_below n k
 sets_most m zero k l = let e : m ≡ 0 = omega arith in let h : sets_below m k ≡ sets_below 0 k = ap (λ x. sets_below x k) e in omega arith
 sets_most m (suc n) k l =
     elim (cases_lt m (suc n)) [
-      | inl b ↦ (let h : sets_below m k ≤ sets_below n k = sets_most m n k (omega arith) in let g : sets_below n k ≤ sets_below (suc n) k = sets_grow n k in omega arith)
+      | inl b ↦ (let h : sets_below m k ≤ sets_below n k = sets_most m n k (omega arith) in
+          let g : sets_below n k ≤ sets_below (suc n) k = sets_grow n k in omega arith)
       | inr g ↦ (let e : m ≡ suc n = omega arith in let h : sets_below m k ≡ sets_below (suc n) k = ap (λ x. sets_below x k) e in omega arith)
     ]
 

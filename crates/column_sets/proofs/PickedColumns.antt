@@ -19,7 +19,8 @@ module _ (source : ℕ → List ℕ) where
   none_picked S w e = record { count = ap (λ (w : List (ArrayVec ℕ)). length w) e; columns = λ j l. absurd (omega arith) }
 
   -- one more column, in the set or not
-  pub more_picked : (n : ℕ) (S : ℕ → Bool) (w v : List (ArrayVec ℕ)) (y : ArrayVec ℕ) → S n ≡ true → v ≡ w ++ y ∷ [] → y.items ≡ source n → ArePicked source n S w → ArePicked source (n + 1) S v
+  pub more_picked : (n : ℕ) (S : ℕ → Bool) (w v : List (ArrayVec ℕ)) (y : ArrayVec ℕ) → S n ≡ true → v ≡ w ++ y ∷ [] →
+      y.items ≡ source n → ArePicked source n S w → ArePicked source (n + 1) S v
   more_picked n S w v y t e c h = subst (λ (x : ℕ). ArePicked source x S v) (sym (add-one n)) (record {
     count =
         (let k : length (w ++ y ∷ []) ≡ length w + 1 = length-append w (y ∷ []) in
@@ -38,13 +39,14 @@ module _ (source : ℕ → List ℕ) where
   })
 
   pub same_picked : (n : ℕ) (S : ℕ → Bool) (w v : List (ArrayVec ℕ)) → S n ≡ false → v ≡ w → ArePicked source n S w → ArePicked source (n + 1) S v
-  same_picked n S w v t e h = subst (λ (v : List (ArrayVec ℕ)). ArePicked source (n + 1) S v) (sym e) (subst (λ (x : ℕ). ArePicked source x S w) (sym (add-one n)) (record {
-    count = h.count ∙ sym (size_stays n S t);
-    columns = λ j l s. elim (cases_lt j n) [
-      | inl b ↦ h.columns j b s
-      | inr g ↦ (let d : j ≡ n = omega arith in absurd (true≢false (sym s ∙ ap S d ∙ t)))
-    ];
-  }))
+  same_picked n S w v t e h = subst (λ (v : List (ArrayVec ℕ)). ArePicked source (n + 1) S v) (sym e)
+      (subst (λ (x : ℕ). ArePicked source x S w) (sym (add-one n)) (record {
+        count = h.count ∙ sym (size_stays n S t);
+        columns = λ j l s. elim (cases_lt j n) [
+          | inl b ↦ h.columns j b s
+          | inr g ↦ (let d : j ≡ n = omega arith in absurd (true≢false (sym s ∙ ap S d ∙ t)))
+        ];
+      }))
 
 -- independence of no column doesn't depend on the number of rows
 pub rows_same : (q r s n : ℕ) (A : Matrix) (S : ℕ → Bool) → (n ≡ 0) ⊎ (r ≡ s) → IsIndependent q r n A S → IsIndependent q s n A S
@@ -53,7 +55,8 @@ rows_same q r s n A S h d = elim h [
   | inr e ↦ subst (λ (x : ℕ). IsIndependent q x n A S) e d
 ]
 
-module _ (q : ℕ) (F : IsField q) (r n : ℕ) (source : ℕ → List ℕ) (h : (j : ℕ) → j < n → IsColumn q r (source j)) (S : ℕ → Bool) (w : List (ArrayVec ℕ)) (p : ArePicked source n S w) where
+module _ (q : ℕ) (F : IsField q) (r n : ℕ) (source : ℕ → List ℕ) (h : (j : ℕ) → j < n → IsColumn q r (source j)) (S : ℕ → Bool)
+    (w : List (ArrayVec ℕ)) (p : ArePicked source n S w) where
   -- the code at a row of a column
   abbrev code : Matrix
   code i j = slice_index (source j) i

@@ -31,7 +31,8 @@ module _ (m n k : ℕ) (answers : ℕ → Bool → Type 0) (masks : List ℕ) (h
   -- one more mask, taken or not
   pub more_taken : (v : List ℕ) → v ≡ masks ++ m ∷ [] → IsSetOfSize n k m → answers m true → AreTakenBelow (m + 1) n k answers v
   more_taken v e s a = subst (λ (v : List ℕ). AreTakenBelow (m + 1) n k answers v) (sym e) (record {
-    rising = λ i l. all_pairs_push (λ x y. x < y) masks m (AllPairs-from_increasing masks h.rising) (λ i d o. h.below _ (Contains-get_or masks i d o)) i (i + 1) 0 (omega arith) l;
+    rising = λ i l. all_pairs_push (λ x y. x < y) masks m (AllPairs-from_increasing masks h.rising)
+        (λ i d o. h.below _ (Contains-get_or masks i d o)) i (i + 1) 0 (omega arith) l;
     below = λ X c. elim (Contains-push_cases masks m X c) [ inl o ↦ (let l : X < m = h.below X o in omega arith) | inr s ↦ omega arith ];
     taken = λ X c. elim (Contains-push_cases masks m X c) [ inl o ↦ h.taken X o | inr d ↦ subst (λ (x : ℕ). IsSetOfSize n k x × answers x true) d (s, a) ];
     complete = λ X l d. elim (cases_lt X m) [
@@ -56,13 +57,15 @@ module _ (m n k : ℕ) (answers : ℕ → Bool → Type 0) (masks : List ℕ) (h
   all_taken e = record { rising = h.rising; taken = h.taken; complete = λ X d. h.complete X (let b : X < 2 ^ n = d.below in omega arith) d }
 
 -- whether a set with P was found, where the answers say whether it holds
-pub set_found : (D : ℕ → Type 0) (answers : ℕ → Bool → Type 0) (P : ℕ → Type 0) (r : Option ℕ) (b : Bool) → b ≡ is_some r → ((X : ℕ) → D X → (a : Bool) → answers X a → IsTrue a ↔ P X) → IsFirstTaken D answers r
+pub set_found : (D : ℕ → Type 0) (answers : ℕ → Bool → Type 0) (P : ℕ → Type 0) (r : Option ℕ) (b : Bool) → b ≡ is_some r →
+    ((X : ℕ) → D X → (a : Bool) → answers X a → IsTrue a ↔ P X) → IsFirstTaken D answers r
     → IsTrue b ↔ ((X : ℕ) × D X × P X)
 set_found D answers P None b e says m = (λ t. absurd (false≢true (sym e ∙ t)), λ w. absurd (false≢true ((says w.0 w.1 false (m.none refl w.0 w.1)).1 w.2)))
 set_found D answers P (Some X) b e says m = (λ _. (X, m.taken.0, (says X m.taken.0 true m.taken.1).0 refl), λ _. e)
 
 -- whether all sets have Q, where the answers say whether one hasn't
-pub no_set_found : (D : ℕ → Type 0) (answers : ℕ → Bool → Type 0) (Q : ℕ → Type 0) (r : Option ℕ) (b : Bool) → is_some r ≡ not b → ((X : ℕ) → D X → (a : Bool) → answers X a → IsFalse a ↔ Q X) → IsFirstTaken D answers r
+pub no_set_found : (D : ℕ → Type 0) (answers : ℕ → Bool → Type 0) (Q : ℕ → Type 0) (r : Option ℕ) (b : Bool) → is_some r ≡ not b →
+    ((X : ℕ) → D X → (a : Bool) → answers X a → IsFalse a ↔ Q X) → IsFirstTaken D answers r
     → IsTrue b ↔ ((X : ℕ) → D X → Q X)
 no_set_found D answers Q None true e says m = (λ _ X d. (says X d false (m.none refl X d)).0 refl, λ _. refl)
 no_set_found D answers Q None false e says m = absurd (false≢true e)
@@ -70,7 +73,8 @@ no_set_found D answers Q (Some X) true e says m = absurd (true≢false e)
 no_set_found D answers Q (Some X) false e says m = (λ t. absurd (false≢true t), λ h. absurd (true≢false ((says X m.taken.0 true m.taken.1).1 (h X m.taken.0))))
 
 -- where the answers say whether P holds, the list has exactly the sets with P
-pub masks_of_taken : (n k : ℕ) (answers : ℕ → Bool → Type 0) (P : ℕ → Type 0) (masks : List ℕ) → ((X : ℕ) → IsSetOfSize n k X → (b : Bool) → answers X b → IsTrue b ↔ P X) → AreTaken n k answers masks
+pub masks_of_taken : (n k : ℕ) (answers : ℕ → Bool → Type 0) (P : ℕ → Type 0) (masks : List ℕ) →
+    ((X : ℕ) → IsSetOfSize n k X → (b : Bool) → answers X b → IsTrue b ↔ P X) → AreTaken n k answers masks
     → AreMasks n (λ X. (size_below n (members X) ≡ k) × P X) masks
 masks_of_taken n k answers P masks says h = record {
   rising = h.rising;

@@ -65,7 +65,8 @@ module _ (words : List Text) where
     Numbered i us least most o n =
         (least ≤ n) × (n ≤ most) × ((t : Text) → text_in (Takes i) us ≡ Some t → (t ≡ decimal n) × (o ≡ Some n)) × (text_in (Takes i) us ≡ None → o ≡ None)
 
-    numbered : (i : Valued) (us : List Use) → rows_of f ≡ rows_for us → (least most : ℕ) → least ≤ most → (o : Option ℕ) → Reads (name_of (Takes i)) least most o
+    numbered : (i : Valued) (us : List Use) → rows_of f ≡ rows_for us → (least most : ℕ) → least ≤ most → (o : Option ℕ) →
+        Reads (name_of (Takes i)) least most o
         → Numbered i us least most o (unwrap_or o most)
     numbered i us rows_us least most fits None h = (
       fits,

@@ -61,7 +61,9 @@ pub record Ends (us : List Use) (pend : Pend) (words : List Text) : Type 0 where
 module _ (us : List Use) (pend : Pend) (word : Text) (words : List Text) where
   -- a use in one word
   end_one : (u : Use) → IsUse u (word ∷ [])
-      → or_else (settle_kinds us pend) (clash (has (option_of u) (settle_uses us pend))) ≡ [] → walked rules [] (stands us pend) word ≡ stands (settle_uses us pend ++ u ∷ []) Resting → Ends (settle_uses us pend ++ u ∷ []) Resting words
+      → or_else (settle_kinds us pend) (clash (has (option_of u) (settle_uses us pend))) ≡ [] →
+      walked rules [] (stands us pend) word ≡ stands (settle_uses us pend ++ u ∷ []) Resting →
+      Ends (settle_uses us pend ++ u ∷ []) Resting words
       → Ends us pend (word ∷ words)
   end_one u one kinds after e =
       let settles : settle_kinds us pend ≡ [] = or_first (settle_kinds us pend) _ kinds in
@@ -317,7 +319,8 @@ either_same false x = refl
 
 default_is : (rows : List Row) → fold with_default rows rules ≡ with_default rows (rule_for Flag)
 default_is rows = ap (λ rs. with_default rs (rule_for Flag))
-    (ap (λ rs. with_default rs (rule_for (Takes Sampled))) (either_same (has_row (codes "workers") rows) rows) ∙ either_same (has_row (codes "sample") rows) rows)
+    (ap (λ rs. with_default rs (rule_for (Takes Sampled))) (either_same (has_row (codes "workers") rows) rows)
+    ∙ either_same (has_row (codes "sample") rows) rows)
 
 -- a flag that isn't used is there at the end
 flag_default : (us : List Use) → with_default (map row_for us) (rule_for Flag) ≡ rows_for us

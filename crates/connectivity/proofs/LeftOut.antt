@@ -77,7 +77,8 @@ full_rank M r S T up s =
     record {
       reached = (let (I, p) = s.reached in (I, record { within = λ j l t. up j (p.within j l t); elements = p.elements; independent = p.independent }));
       greatest = λ m I p. (
-          let b : size_below (size M) I ≤ M.rank = set_bound (order M 0) F M.rank (size M) (matrix M 0) (λ i j l m. r.shaped.codes 0 i j r.fields.some l m) I p.independent in
+          let b : size_below (size M) I ≤ M.rank = set_bound (order M 0) F M.rank (size M) (matrix M 0)
+          (λ i j l m. r.shaped.codes 0 i j r.fields.some l m) I p.independent in
           let e : size_below (size M) I ≡ m = p.elements in
           omega arith);
     }
@@ -86,7 +87,8 @@ full_rank M r S T up s =
 pub none_lack : (M : Rep) → KeepsLimits M → (S : ℕ → Bool) → ((k : ℕ) → S k ≡ false) → ¬ (IsRank M S M.rank)
 none_lack M r S h s =
     let (I, p) = s.reached in
-    let outside : (j : ℕ) → j < size M → I j ≡ false = λ j l. elim (cases_Bool (I j)) [ inl t ↦ absurd (true≢false (sym (p.within j l t) ∙ h j)) | inr f ↦ f ] in
+    let outside : (j : ℕ) → j < size M →
+    I j ≡ false = λ j l. elim (cases_Bool (I j)) [ inl t ↦ absurd (true≢false (sym (p.within j l t) ∙ h j)) | inr f ↦ f ] in
     let n : size_below (size M) I ≡ 0 = size-same (size M) I (λ _. false) outside ∙ size_none (size M) in
     let e : size_below (size M) I ≡ M.rank = p.elements in
     let positive : 0 < M.rank = r.rank_positive in
@@ -107,7 +109,8 @@ turned_without i j k = ap not (turned (k == i) (k == j))
     turned false false = refl
 
 -- the pairs of each column and one that isn't after it are all pairs
-pub ranks_both : (M : Rep) → ((j : ℕ) → j < size M → (i : ℕ) → i ≤ j → IsRank M (without i j) M.rank) → (i j : ℕ) → i < size M → j < size M → IsRank M (without i j) M.rank
+pub ranks_both : (M : Rep) → ((j : ℕ) → j < size M → (i : ℕ) → i ≤ j → IsRank M (without i j) M.rank) → (i j : ℕ) → i < size M →
+    j < size M → IsRank M (without i j) M.rank
 ranks_both M h i j l m = elim (cases_lt j i) [
   | inr b ↦ h j m i b
   | inl g ↦ rank_same M (without j i) (without i j) M.rank (λ k _. turned_without j i k) (h i l j (omega arith))

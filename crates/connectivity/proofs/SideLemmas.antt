@@ -25,7 +25,8 @@ one j = 1 * 2 ^ j % 65536
 
 pub members_with : (set j k : ℕ) → j < 16 → members (bit_or set (one j)) k ≡ with_element j (members set) k
 members_with set j k l = elim (cases_eq k j) [
-  | inl e ↦ ap (λ x. bit_at (bit_or set (one j)) x == 1) e ∙ ap (λ x. x == 1) (bit_at_set_same w16 set j l) ∙ sym (ap (with_element j (members set)) e ∙ with_own j (members set))
+  | inl e ↦ ap (λ x. bit_at (bit_or set (one j)) x == 1) e ∙ ap (λ x. x == 1) (bit_at_set_same w16 set j l)
+      ∙ sym (ap (with_element j (members set)) e ∙ with_own j (members set))
   | inr n ↦ ap (λ x. x == 1) (bit_at_set_other w16 set j l k n) ∙ sym (with_other j (members set) k n)
 ]
 
@@ -57,7 +58,8 @@ module _ (M : Rep) (set basis j : ℕ) (l : j < size M) (m : size M ≤ 16) (h :
     full = λ e o t f i. elim (cases_eq e j) [
       | inl q ↦ true≢false (sym (with_j basis) ∙ ap (members (bit_or basis (one j))) (sym q) ∙ f)
       | inr n ↦ h.full e o (sym (beside_j set e n) ∙ t) (sym (beside_j basis e n) ∙ f)
-          (smaller_independent (order M 0) M.rank (size M) (matrix M 0) (with_element e (members basis)) (with_element e (members (bit_or basis (one j)))) (down e) i)
+          (smaller_independent (order M 0) M.rank (size M) (matrix M 0) (with_element e (members basis))
+          (with_element e (members (bit_or basis (one j)))) (down e) i)
     ];
   }
     where
@@ -65,7 +67,8 @@ module _ (M : Rep) (set basis j : ℕ) (l : j < size M) (m : size M ≤ 16) (h :
       down e k o f = elim (cases_eq k e) [
         | inl q ↦ absurd (true≢false (sym (ap (with_element e (members (bit_or basis (one j)))) q ∙ with_own e (members (bit_or basis (one j)))) ∙ f))
         | inr n ↦ with_other e (members basis) k n ∙ elim (cases_eq k j) [
-          | inl q ↦ absurd (true≢false (sym (ap (members (bit_or basis (one j))) q ∙ with_j basis) ∙ sym (with_other e (members (bit_or basis (one j))) k n) ∙ f))
+          | inl q ↦ absurd (true≢false
+              (sym (ap (members (bit_or basis (one j))) q ∙ with_j basis) ∙ sym (with_other e (members (bit_or basis (one j))) k n) ∙ f))
           | inr p ↦ sym (beside_j basis k p) ∙ sym (with_other e (members (bit_or basis (one j))) k n) ∙ f
         ]
       ]
@@ -93,5 +96,7 @@ side_rank M r set basis h =
     let F : IsField (order M 0) = field_laws (order M 0) (r.shaped.orders 0 r.fields.some) in
     let codes : (i j : ℕ) → i < M.rank → j < size M → matrix M 0 i j < order M 0 = λ i j l m. r.shaped.codes 0 i j r.fields.some l m in
     let (k, e) = rank_exists (order M 0) F M.rank (size M) (matrix M 0) codes (members set) in
-    let b : IsIndependentPart (order M 0) M.rank (size M) (matrix M 0) (members set) (count_ones basis) (members basis) = record { within = h.within; elements = size-members (size M) basis h.basis_below; independent = h.independent } in
-    subst (λ (x : ℕ). IsRank M (members set) x) (sym (greatest_part (order M 0) F M.rank (size M) (matrix M 0) codes (members set) k (count_ones basis) (members basis) e b h.full)) e
+    let b : IsIndependentPart (order M 0) M.rank (size M) (matrix M 0) (members set) (count_ones basis) (members basis) =
+    record { within = h.within; elements = size-members (size M) basis h.basis_below; independent = h.independent } in
+    subst (λ (x : ℕ). IsRank M (members set) x)
+    (sym (greatest_part (order M 0) F M.rank (size M) (matrix M 0) codes (members set) k (count_ones basis) (members basis) e b h.full)) e

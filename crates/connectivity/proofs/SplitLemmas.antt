@@ -12,7 +12,8 @@ use Rattle.connectivity.specs.Sides.{AreParts}
 
 -- a set has at least the rank of a part of it
 pub rank_grows : (M : Rep) (S T : ℕ → Bool) (k l : ℕ) → ((j : ℕ) → j < size M → S j ≡ true → T j ≡ true) → IsRank M S k → IsRank M T l → k ≤ l
-rank_grows M S T k l up s t = let (I, p) = s.reached in t.greatest k I (record { within = λ j m i. up j m (p.within j m i); elements = p.elements; independent = p.independent })
+rank_grows M S T k l up s t = let (I, p) = s.reached in
+    t.greatest k I (record { within = λ j m i. up j m (p.within j m i); elements = p.elements; independent = p.independent })
 
 -- the rank depends on the numbers of columns in the set alone
 pub rank_same : (M : Rep) (S T : ℕ → Bool) (k : ℕ) → ((j : ℕ) → j < size M → S j ≡ T j) → IsRank M S k → IsRank M T k
@@ -43,8 +44,11 @@ module _ (M : Rep) (k n : ℕ) (F S : ℕ → Bool) (p : AreParts n F S) where
   -- with parts of too large ranks on the sides there is no separation
   pub too_large : (a b : ℕ) → IsRank M F a → IsRank M S b → M.rank + k ≤ a + b → (X : ℕ → Bool) → IsSeparation M k X → ¬ ((j : ℕ) → j < n → X j ≡ F j)
   too_large a b r s l X x same =
-      let up : a ≤ x.rank = rank_grows M F X a x.rank (λ j _ t. elim (cases_lt j n) [ inl o ↦ same j o ∙ t | inr g ↦ absurd (true≢false (sym t ∙ p.first_below j g)) ]) r x.is_rank in
-      let over : b ≤ x.other_rank = rank_grows M S (λ j. not (X j)) b x.other_rank (λ j _ t. elim (cases_lt j n) [ inl o ↦ ap not (same j o) ∙ sym (p.other j o) ∙ t | inr g ↦ absurd (true≢false (sym t ∙ p.second_below j g)) ]) s x.is_other_rank in
+      let up : a ≤ x.rank = rank_grows M F X a x.rank
+      (λ j _ t. elim (cases_lt j n) [ inl o ↦ same j o ∙ t | inr g ↦ absurd (true≢false (sym t ∙ p.first_below j g)) ]) r x.is_rank in
+      let over : b ≤ x.other_rank = rank_grows M S (λ j. not (X j)) b x.other_rank
+      (λ j _ t. elim (cases_lt j n)
+      [ inl o ↦ ap not (same j o) ∙ sym (p.other j o) ∙ t | inr g ↦ absurd (true≢false (sym t ∙ p.second_below j g)) ]) s x.is_other_rank in
       let small : x.rank + x.other_rank < M.rank + k = x.small in
       omega arith
 
@@ -53,7 +57,8 @@ module _ (M : Rep) (k n : ℕ) (F S : ℕ → Bool) (p : AreParts n F S) where
     other_side : (j : ℕ) → j < size M → S j ≡ not (F j)
     other_side j l = p.other j (omega arith)
 
-    pub parts_separate : (a b c d : ℕ) → IsRank M F a → IsRank M S b → a + b < M.rank + k → size_below (size M) F ≡ c → size_below (size M) S ≡ d → k ≤ c → k ≤ d → IsSeparation M k F
+    pub parts_separate : (a b c d : ℕ) → IsRank M F a → IsRank M S b → a + b < M.rank + k → size_below (size M) F ≡ c →
+        size_below (size M) S ≡ d → k ≤ c → k ≤ d → IsSeparation M k F
     parts_separate a b c d r s l f g m o = record {
       large = omega arith;
       other_large = (let h : size_below (size M) S ≡ size_below (size M) (λ j. not (F j)) = size-same (size M) S (λ j. not (F j)) other_side in omega arith);
@@ -64,10 +69,12 @@ module _ (M : Rep) (k n : ℕ) (F S : ℕ → Bool) (p : AreParts n F S) where
       small = l;
     }
 
-    pub parts_are_large : (c d : ℕ) → size_below (size M) F ≡ c → size_below (size M) S ≡ d → (X : ℕ → Bool) → IsSeparation M k X → ((j : ℕ) → j < n → X j ≡ F j) → (k ≤ c) × (k ≤ d)
+    pub parts_are_large : (c d : ℕ) → size_below (size M) F ≡ c → size_below (size M) S ≡ d → (X : ℕ → Bool) → IsSeparation M k X →
+        ((j : ℕ) → j < n → X j ≡ F j) → (k ≤ c) × (k ≤ d)
     parts_are_large c d f g X x same =
         let h : size_below (size M) X ≡ size_below (size M) F = size-same (size M) X F (λ j l. same j (omega arith)) in
-        let i : size_below (size M) (λ j. not (X j)) ≡ size_below (size M) S = size-same (size M) (λ j. not (X j)) S (λ j l. ap not (same j (omega arith)) ∙ sym (other_side j l)) in
+        let i : size_below (size M) (λ j. not (X j)) ≡ size_below (size M) S = size-same (size M) (λ j. not (X j)) S
+        (λ j l. ap not (same j (omega arith)) ∙ sym (other_side j l)) in
         let large : k ≤ size_below (size M) X = x.large in
         let other_large : k ≤ size_below (size M) (λ j. not (X j)) = x.other_large in
         (omega arith, omega arith)

@@ -43,23 +43,28 @@ module _ (q : ℕ) (F : IsField q) (r n : ℕ) (t : ℕ) (G A B : Matrix) (s : �
   combination_carried a c i l =
       sum_same q F n (λ j. times q (B i j) (turned_over a j)) (λ j. Y (p j)) (λ j m.
       ap (λ x. times q x (turned_over a j)) (B_is i j l m)
-      ∙ cancelled (s j) (combination q r G (λ k. raised q t (A k (p j))) i) (raised q t (a (p j))) (s_code j m) (s_nonzero j m) (raised_below q F t (a (p j)) (c (p j) (w.below j m)))
+      ∙ cancelled (s j) (combination q r G (λ k. raised q t (A k (p j))) i) (raised q t (a (p j))) (s_code j m) (s_nonzero j m)
+      (raised_below q F t (a (p j)) (c (p j) (w.below j m)))
       ∙ sym (sum_times_right q F r (raised q t (a (p j))) (λ k. times q (G i k) (raised q t (A k (p j)))))
-      ∙ sum_same q F r (λ k. times q (times q (G i k) (raised q t (A k (p j)))) (raised q t (a (p j)))) (λ k. times q (G i k) (raised q t (times q (A k (p j)) (a (p j))))) (λ k _.
+      ∙ sum_same q F r (λ k. times q (times q (G i k) (raised q t (A k (p j)))) (raised q t (a (p j))))
+      (λ k. times q (G i k) (raised q t (times q (A k (p j)) (a (p j))))) (λ k _.
       F.times_assoc (G i k) (raised q t (A k (p j))) (raised q t (a (p j))) ∙ ap (times q (G i k)) (sym (raised_times q F t (A k (p j)) (a (p j))))))
       ∙ sum_relabelled q F n p u w Y (λ j _. sum_below-code q F r (λ k. times q (G i k) (raised q t (times q (A k j) (a j)))))
       ∙ sum_swap q F n r (λ j k. times q (G i k) (raised q t (times q (A k j) (a j))))
-      ∙ sum_same q F r (λ k. sum_below q n (λ j. times q (G i k) (raised q t (times q (A k j) (a j))))) (λ k. times q (G i k) (raised q t (combination q n A a k))) (λ k _.
+      ∙ sum_same q F r (λ k. sum_below q n (λ j. times q (G i k) (raised q t (times q (A k j) (a j)))))
+      (λ k. times q (G i k) (raised q t (combination q n A a k))) (λ k _.
       sum_times q F n (G i k) (λ j. raised q t (times q (A k j) (a j))) ∙ ap (times q (G i k)) (sym (raised_sum q F t n (λ j. times q (A k j) (a j)))))
     where
       Y : ℕ → ℕ
       Y j = sum_below q r (λ k. times q (G i k) (raised q t (times q (A k j) (a j))))
 
   -- what is orthogonal to A is so to B when turned
-  pub turned_orthogonal : (a : ℕ → ℕ) → ((k : ℕ) → k < n → a k < q) → ((i : ℕ) → i < r → combination q n A a i ≡ 0) → (i : ℕ) → i < r → combination q n B (turned_over a) i ≡ 0
+  pub turned_orthogonal : (a : ℕ → ℕ) → ((k : ℕ) → k < n → a k < q) → ((i : ℕ) → i < r → combination q n A a i ≡ 0) → (i : ℕ) →
+      i < r → combination q n B (turned_over a) i ≡ 0
   turned_orthogonal a c z i l =
       combination_carried a c i l
-      ∙ sum_same q F r (λ k. times q (G i k) (raised q t (combination q n A a k))) (λ _. 0) (λ k k'. ap (λ x. times q (G i k) (raised q t x)) (z k k') ∙ ap (times q (G i k)) (raised_zero q F t) ∙ times_zero q F (G i k))
+      ∙ sum_same q F r (λ k. times q (G i k) (raised q t (combination q n A a k))) (λ _. 0)
+      (λ k k'. ap (λ x. times q (G i k) (raised q t x)) (z k k') ∙ ap (times q (G i k)) (raised_zero q F t) ∙ times_zero q F (G i k))
       ∙ sum_zero q F r
 
 -- ---- equivalent representations have equivalent orthogonal ones
@@ -71,7 +76,8 @@ bases_over mode M N e h f l =
     let c = basis_carried mode M N e.move e.shaped e.valid e.takes f l' S in
     ((λ j. S (e.move.label j)), c.0 b)
 
-module _ (mode : Mode) (M M' N : Rep) (m : Move) (s : IsShaped M) (v : IsMove mode (shape M) m) (k : TakesTo M m M') (t : IsShaped N) (o : AreOrthogonal M N) where
+module _ (mode : Mode) (M M' N : Rep) (m : Move) (s : IsShaped M) (v : IsMove mode (shape M) m) (k : TakesTo M m M')
+    (t : IsShaped N) (o : AreOrthogonal M N) where
   -- the same move with the identity matrix and the inverse scalars
   abbrev turned_move : Move
   turned_move = record {
@@ -117,11 +123,18 @@ module _ (mode : Mode) (M M' N : Rep) (m : Move) (s : IsShaped M) (v : IsMove mo
   turned_takes = record {
     same_shape = shape_built S (moved S (matrix N) turned_move) ∙ sym shape_N;
     shaped = turned_shaped;
-    codes = subst (λ S'. (f i j : ℕ) → f < length S'.factors → i < S'.rank → j < S'.size → matrix turned f i j ≡ moved S' (matrix N) turned_move f i j) (sym shape_N) (matrix_built S (moved S (matrix N) turned_move));
+    codes = subst (λ S'. (f i j : ℕ) → f < length S'.factors → i < S'.rank → j < S'.size →
+        matrix turned f i j ≡ moved S' (matrix N) turned_move f i j) (sym shape_N) (matrix_built S (moved S (matrix N) turned_move));
   }
 
   pub turned_equivalent : AreEquivalent mode N turned
-  turned_equivalent = record { shaped = t; move = turned_move; valid = subst (λ S'. IsMove mode S' turned_move) (sym shape_N) turned_valid; takes = turned_takes }
+  turned_equivalent = record {
+    shaped = t;
+    move = turned_move;
+    valid = subst (λ S'. IsMove mode S' turned_move)
+        (sym shape_N) turned_valid;
+    takes = turned_takes;
+  }
 
   shape_M : shape M' ≡ shape M
   shape_M = k.same_shape
@@ -129,9 +142,12 @@ module _ (mode : Mode) (M M' N : Rep) (m : Move) (s : IsShaped M) (v : IsMove mo
   turned_products : (f i l : ℕ) → f < count M → i < M.rank → l < N.rank → combination (order M f) (size M) (matrix M' f) (matrix turned f l) i ≡ 0
   unfolding turned_over
   turned_products f i l h b n =
-      sum_same q F (size M) (λ j. times q (matrix M' f i j) (matrix turned f l j)) (λ j. times q (matrix M' f i j) (turn (matrix N f l) j)) (λ j x. ap (times q (matrix M' f i j))
+      sum_same q F (size M) (λ j. times q (matrix M' f i j) (matrix turned f l j))
+      (λ j. times q (matrix M' f i j) (turn (matrix N f l) j)) (λ j x. ap (times q (matrix M' f i j))
       (matrix_built S (moved S (matrix N) turned_move) f l j h n x
-      ∙ ap (times q (inverse q (m.scalar f j))) (combination-unit q F N.rank (λ k. raised q (m.power f) (matrix N f k (m.label j))) l n (raised_below q F (m.power f) _ (codes_named M N s t o f h l (m.label j) n (v.labels.below j x))))))
+      ∙ ap (times q (inverse q (m.scalar f j)))
+      (combination-unit q F N.rank (λ k. raised q (m.power f) (matrix N f k (m.label j))) l n
+      (raised_below q F (m.power f) _ (codes_named M N s t o f h l (m.label j) n (v.labels.below j x))))))
       ∙ turned_orthogonal q F M.rank (size M) (m.power f) (m.rows f) (matrix M f) (matrix M' f) (m.scalar f) m.label m.place v.labels
       (λ j x. v.scalars f j h x) (λ j x. v.nonzero f j h x) (λ i j x y. k.codes f i j h x y)
       (matrix N f l) (λ j x. codes_named M N s t o f h l j n x) (λ i x. o.products f i l h x n) i b
@@ -159,13 +175,18 @@ module _ (mode : Mode) (M M' N : Rep) (m : Move) (s : IsShaped M) (v : IsMove mo
   }
 
 -- what is equivalent to M has an orthogonal representation that is equivalent to one of M
-pub orthogonal_over : (mode : Mode) (M M' N : Rep) → AreEquivalent mode M M' → IsShaped N → AreOrthogonal M N → (L : Rep) × AreOrthogonal M' L × AreEquivalent mode N L
-orthogonal_over mode M M' N e t o =
-    (turned mode M M' N e.move e.shaped e.valid e.takes t o, turned_is_orthogonal mode M M' N e.move e.shaped e.valid e.takes t o, turned_equivalent mode M M' N e.move e.shaped e.valid e.takes t o)
+pub orthogonal_over : (mode : Mode) (M M' N : Rep) → AreEquivalent mode M M' → IsShaped N → AreOrthogonal M N →
+    (L : Rep) × AreOrthogonal M' L × AreEquivalent mode N L
+orthogonal_over mode M M' N e t o = (
+  turned mode M M' N e.move e.shaped e.valid e.takes t o,
+  turned_is_orthogonal mode M M' N e.move e.shaped e.valid e.takes t o,
+  turned_equivalent mode M M' N e.move e.shaped e.valid e.takes t o,
+)
 
 -- ---- two representations that are orthogonal to one are equivalent
 
-module _ (mode : Mode) (M N L : Rep) (s : IsShaped M) (t : IsShaped N) (u : IsShaped L) (o : AreOrthogonal M N) (p : AreOrthogonal M L) (h : HasBases M) (g : HasBases N) (k : HasBases L) where
+module _ (mode : Mode) (M N L : Rep) (s : IsShaped M) (t : IsShaped N) (u : IsShaped L) (o : AreOrthogonal M N)
+    (p : AreOrthogonal M L) (h : HasBases M) (g : HasBases N) (k : HasBases L) where
   same_ranks : L.rank ≡ N.rank
   same_ranks = let a : M.rank + N.rank ≡ size M = o.ranks in let b : M.rank + L.rank ≡ size M = p.ranks in omega arith
 
@@ -192,7 +213,8 @@ module _ (mode : Mode) (M N L : Rep) (s : IsShaped M) (t : IsShaped N) (u : IsSh
       (independent_named L f (complement (complement T)) M.factors (size M) p.same_factors p.same_size y.independent)))
       x.independent
     where
-      made : (T : ℕ → Bool) → size_below (size M) T ≡ N.rank → IsIndependent (order M f) N.rank (size M) (matrix N f) T → IsIndependent (order M f) N.rank (size M) (matrix L f) T
+      made : (T : ℕ → Bool) → size_below (size M) T ≡ N.rank → IsIndependent (order M f) N.rank (size M) (matrix N f) T →
+          IsIndependent (order M f) N.rank (size M) (matrix L f) T
           → IsIndependent (order M f) M.rank (size M) (matrix M f) (complement T) → Change f
       made T full a b c = record {
         rows = change q F r n' n A B C B_codes C_codes B_o C_o T full a b c;
@@ -263,7 +285,8 @@ module _ (mode : Mode) (M N L : Rep) (s : IsShaped M) (t : IsShaped N) (u : IsSh
   inverse_at f (inl l) _ = let c = change_of f l in c.inverse
   inverse_at f (inr g) l = absurd (omega arith)
 
-  taken_at : (f : ℕ) (c : (f < count M) ⊎ (count M ≤ f)) → f < count M → (i j : ℕ) → i < N.rank → j < size M → matrix L f i j ≡ combination (order M f) N.rank (rows_at f c) (λ l. matrix N f l j) i
+  taken_at : (f : ℕ) (c : (f < count M) ⊎ (count M ≤ f)) → f < count M → (i j : ℕ) → i < N.rank → j < size M →
+      matrix L f i j ≡ combination (order M f) N.rank (rows_at f c) (λ l. matrix N f l j) i
   taken_at f (inl l) _ i j = let c = change_of f l in c.taken i j
   taken_at f (inr g) l i j = absurd (omega arith)
 
@@ -311,14 +334,16 @@ module _ (mode : Mode) (M N L : Rep) (s : IsShaped M) (t : IsShaped N) (u : IsSh
     takes = record {
       same_shape = common_L ∙ sym common_N;
       shaped = u;
-      codes = subst (λ S'. (f i j : ℕ) → f < length S'.factors → i < S'.rank → j < S'.size → matrix L f i j ≡ moved S' (matrix N) change_move f i j) (sym common_N) change_codes_over;
+      codes = subst (λ S'. (f i j : ℕ) → f < length S'.factors → i < S'.rank → j < S'.size →
+          matrix L f i j ≡ moved S' (matrix N) change_move f i j) (sym common_N) change_codes_over;
     };
   }
 
 -- ---- one dual
 
 -- representations that are orthogonal to equivalent ones are equivalent
-pub orthogonal_equivalent : (mode : Mode) (M M' N N' : Rep) → AreEquivalent mode M M' → AreOrthogonal M N → AreOrthogonal M' N' → HasBases M → IsShaped N → HasBases N → IsShaped N' → HasBases N' → AreEquivalent mode N N'
+pub orthogonal_equivalent : (mode : Mode) (M M' N N' : Rep) → AreEquivalent mode M M' → AreOrthogonal M N → AreOrthogonal M' N' →
+    HasBases M → IsShaped N → HasBases N → IsShaped N' → HasBases N' → AreEquivalent mode N N'
 orthogonal_equivalent mode M M' N N' e o o' h t g t' g' =
     let (L, a, b) = orthogonal_over mode M M' N e t o in
     equivalent-transitive mode N L N' b

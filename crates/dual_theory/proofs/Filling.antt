@@ -28,7 +28,9 @@ module _ (q : ℕ) (N : Matroid) (M : Rep) (over : IsStandardOver q N M) where
   -- all standard matrices begin with the unit columns
   begins_all : (L : Rep) → Represents q N L → IsStandard L → AgreeBefore M L 0 M.rank
   begins_all L p s l k m n c = elim c [
-    | inl b ↦ (let t = over.standard in t.units 0 l k some m b) ∙ sym (s.units 0 l k (subst (λ S. 0 < length S.factors) (sym e) some) (subst (λ S. l < S.rank) (sym e) m) (subst (λ S. k < S.rank) (sym e) b))
+    | inl b ↦ (let t = over.standard in t.units 0 l k some m b)
+        ∙ sym (s.units 0 l k (subst (λ S. 0 < length S.factors) (sym e) some) (subst (λ S. l < S.rank) (sym e) m)
+        (subst (λ S. k < S.rank) (sym e) b))
     | inr d ↦ (let b = d.1 in absurd (omega arith))
   ]
     where
@@ -96,7 +98,8 @@ module _ (q : ℕ) (N : Matroid) (M : Rep) (over : IsStandardOver q N M) where
       record {
         represents = c.represents;
         standard = c.standard;
-        begins = λ l k m n o. same l k m n o ∙ c.begins l k (subst (λ S. l < S.rank) (sym e) m) (subst (λ S. k < S.size) (sym e) n) (elim o [ inl b ↦ inl b | inr d ↦ (let b = d.1 in inr (d.0, omega arith)) ]);
+        begins = λ l k m n o. same l k m n o ∙ c.begins l k (subst (λ S. l < S.rank) (sym e) m) (subst (λ S. k < S.size) (sym e) n)
+            (elim o [ inl b ↦ inl b | inr d ↦ (let b = d.1 in inr (d.0, omega arith)) ]);
       },
       sym (c.begins i j (subst (λ S. i < S.rank) (sym e) i_below) (subst (λ S. j < S.size) (sym e) j_below) (inr (refl, omega arith))),
     )
@@ -118,7 +121,8 @@ module _ (q : ℕ) (N : Matroid) (M : Rep) (over : IsStandardOver q N M) where
         earlier l k m n o = let m' = subst (λ S. l < S.rank) e m in let n' = subst (λ S. k < S.size) e n in sym (same l k m' n' o) ∙ c.begins l k m' n' o
 
     -- the least completion of M' is that of M, where no smaller entry has one
-    pub least_of_entry : (L : Rep) → IsLeastCompletion q N M' (suc i) j L → ((K : Rep) → Completes q N M i j K → ¬ (matrix K 0 i j < matrix M' 0 i j)) → IsLeastCompletion q N M i j L
+    pub least_of_entry : (L : Rep) → IsLeastCompletion q N M' (suc i) j L →
+        ((K : Rep) → Completes q N M i j K → ¬ (matrix K 0 i j < matrix M' 0 i j)) → IsLeastCompletion q N M i j L
     least_of_entry L h none =
         let (c, v) = entry_set L h.completes in
         record {
@@ -127,7 +131,9 @@ module _ (q : ℕ) (N : Matroid) (M : Rep) (over : IsStandardOver q N M) where
             | inl b ↦ absurd (none K d b)
             | inr g ↦ elim (cases_lt (matrix M' 0 i j) (matrix K 0 i j)) [
               | inr f ↦ h.least K (entry_kept K d (omega arith))
-              | inl b ↦ not_above (rep_cmp L K) (smaller_entry q N M L K i j i_below j_below (same_shape q N M L over c.represents) (same_shape q N M K over d.represents) c.represents d.represents c.begins d.begins
+              | inl b ↦ not_above (rep_cmp L K)
+                  (smaller_entry q N M L K i j i_below j_below (same_shape q N M L over c.represents)
+                  (same_shape q N M K over d.represents) c.represents d.represents c.begins d.begins
                   (subst (λ x. x < matrix K 0 i j) (sym v) b))
             ]
           ];

@@ -26,7 +26,9 @@ complement_out S j e = sym (complement_twice S j) ∙ ap not e
 
 pub size_complement : (n : ℕ) (S : ℕ → Bool) → size_below n S + size_below n (complement S) ≡ n
 size_complement zero S = refl
-size_complement (suc n) S = let h : size_below n S + size_below n (complement S) ≡ n = size_complement n S in elim (S n) as (λ b. (size_below n S + cond b 1 0) + (size_below n (complement S) + cond (not b) 1 0) ≡ suc n) [ true ↦ omega arith | false ↦ omega arith ]
+size_complement (suc n) S = let h : size_below n S + size_below n (complement S) ≡ n = size_complement n S in
+    elim (S n) as (λ b. (size_below n S + cond b 1 0) + (size_below n (complement S) + cond (not b) 1 0) ≡ suc n)
+    [ true ↦ omega arith | false ↦ omega arith ]
 
 unit_turned : (i j : ℕ) → unit j i ≡ unit i j
 unit_turned i j = elim (cases_eq i j) [
@@ -45,28 +47,33 @@ module _ (q : ℕ) (F : IsField q) where
 
   transposed_inverse : (r : ℕ) (A H : Matrix) → AreInverse q r A H → AreInverse q r (λ i j. H j i) (λ i j. A j i)
   transposed_inverse r A H v = record {
-    right = λ i j l m. sum_same q F r (λ k. times q (H k i) (A j k)) (λ k. times q (A j k) (H k i)) (λ k _. F.times_comm (H k i) (A j k)) ∙ v.right j i m l ∙ unit_turned i j;
-    left = λ i j l m. sum_same q F r (λ k. times q (A k i) (H j k)) (λ k. times q (H j k) (A k i)) (λ k _. F.times_comm (A k i) (H j k)) ∙ v.left j i m l ∙ unit_turned i j;
+    right = λ i j l m. sum_same q F r (λ k. times q (H k i) (A j k)) (λ k. times q (A j k) (H k i))
+        (λ k _. F.times_comm (H k i) (A j k)) ∙ v.right j i m l ∙ unit_turned i j;
+    left = λ i j l m. sum_same q F r (λ k. times q (A k i) (H j k)) (λ k. times q (H j k) (A k i))
+        (λ k _. F.times_comm (A k i) (H j k)) ∙ v.left j i m l ∙ unit_turned i j;
   }
 
   -- the columns of a basis, in order, as a square matrix
   pub basis_matrix : (n : ℕ) → Matrix → (ℕ → Bool) → Matrix
   basis_matrix n A S i l = A i (pick n S l)
 
-  module _ (r n : ℕ) (A : Matrix) (codes : (i j : ℕ) → i < r → j < n → A i j < q) (S : ℕ → Bool) (full : size_below n S ≡ r) (basis : IsIndependent q r n A S) where
+  module _ (r n : ℕ) (A : Matrix) (codes : (i j : ℕ) → i < r → j < n → A i j < q) (S : ℕ → Bool) (full : size_below n S ≡ r)
+      (basis : IsIndependent q r n A S) where
     pub basis_codes : (i l : ℕ) → i < r → l < r → basis_matrix n A S i l < q
     unfolding basis_matrix
     basis_codes i l m o = codes i (pick n S l) m (let P = pick_picks n S in P.below l (subst (λ (x : ℕ). l < x) (sym full) o))
 
     pub basis_square : Independent q r r (basis_matrix n A S)
     unfolding basis_matrix
-    basis_square = subst (λ (x : ℕ). IsIndependent q r x (λ i l. A i (pick n S l)) (λ _. true)) full (set_independent q F S (pick n S) r n A (pick_picks n S) basis)
+    basis_square = subst (λ (x : ℕ). IsIndependent q r x (λ i l. A i (pick n S l)) (λ _. true)) full
+        (set_independent q F S (pick n S) r n A (pick_picks n S) basis)
 
     pub basis_inverse : (H : Matrix) × ((i j : ℕ) → i < r → j < r → H i j < q) × AreInverse q r (basis_matrix n A S) H
     basis_inverse = inverse_matrix q F r (basis_matrix n A S) basis_codes basis_square
 
     -- a combination of the rows that is 0 at a basis has the coefficients 0
-    pub rows_zero : (c : ℕ → ℕ) → ((i : ℕ) → i < r → c i < q) → ((j : ℕ) → j < n → S j ≡ true → combination q r (λ j i. A i j) c j ≡ 0) → (i : ℕ) → i < r → c i ≡ 0
+    pub rows_zero : (c : ℕ → ℕ) → ((i : ℕ) → i < r → c i < q) →
+        ((j : ℕ) → j < n → S j ≡ true → combination q r (λ j i. A i j) c j ≡ 0) → (i : ℕ) → i < r → c i ≡ 0
     unfolding basis_matrix
     rows_zero c d z i l =
         let (H, h, v) = basis_inverse in
@@ -80,7 +87,8 @@ module _ (q : ℕ) (F : IsField q) where
       (orthogonal : (i k : ℕ) → i < r → k < s → combination q n A (B k) i ≡ 0)
       (S T : ℕ → Bool) (S_full : size_below n S ≡ r) (S_basis : IsIndependent q r n A S) (T_full : size_below n T ≡ s) (T_basis : IsIndependent q s n B T) where
     -- coefficients a outside S with the combination 0 in B, not all 0: the rows of A and a are r + 1 rows that are 0 in B, and r columns determine such a row
-    module _ (a : ℕ → ℕ) (c : AreCoefficients q n (complement S) a) (z : (k : ℕ) → k < s → combination q n B a k ≡ 0) (at : ℕ) (at_below : at < n) (nonzero : a at ≢ 0) where
+    module _ (a : ℕ → ℕ) (c : AreCoefficients q n (complement S) a) (z : (k : ℕ) → k < s → combination q n B a k ≡ 0) (at : ℕ)
+        (at_below : at < n) (nonzero : a at ≢ 0) where
       -- row i of A as column i, and a as the last column
       V : Matrix
       V j i = cond (i == r) (a j) (A i j)
@@ -119,15 +127,19 @@ module _ (q : ℕ) (F : IsField q) where
         v_null k l =
             sym (combination-product q F (suc r) n B V d k)
             ∙ zero_row (suc r) (matrix_product q n B V) d k (λ i m. elim (cases_lt i r) [
-              | inl b ↦ sum_same q F n (λ j. times q (B k j) (V j i)) (λ j. times q (B k j) (A i j)) (λ j _. ap (times q (B k j)) (V_row j i b)) ∙ sym (row_products n A B i k) ∙ orthogonal i k b l
-              | inr g ↦ (let e : i ≡ r = omega arith in sum_same q F n (λ j. times q (B k j) (V j i)) (λ j. times q (B k j) (a j)) (λ j _. ap (times q (B k j)) (ap (V j) e ∙ V_last j)) ∙ z k l)
+              | inl b ↦ sum_same q F n (λ j. times q (B k j) (V j i)) (λ j. times q (B k j) (A i j))
+                  (λ j _. ap (times q (B k j)) (V_row j i b)) ∙ sym (row_products n A B i k) ∙ orthogonal i k b l
+              | inr g ↦ (let e : i ≡ r = omega arith in
+                  sum_same q F n (λ j. times q (B k j) (V j i)) (λ j. times q (B k j) (a j))
+                  (λ j _. ap (times q (B k j)) (ap (V j) e ∙ V_last j)) ∙ z k l)
             ])
 
         v_zero : (j : ℕ) → j < n → v j ≡ 0
         v_zero = T_basis.only_zero v (record { codes = λ j _. sum_below-code q F (suc r) _; outside = v_outside }) v_null
 
         v_is : (j : ℕ) → plus q (combination q r (λ j i. A i j) d j) (times q (a j) (d r)) ≡ v j
-        v_is j = λ t. plus q (sum_same q F r (λ i. times q (A i j) (d i)) (λ i. times q (V j i) (d i)) (λ i l. ap (λ x. times q x (d i)) (sym (V_row j i l))) t) (times q (sym (V_last j) t) (d r))
+        v_is j = λ t. plus q (sum_same q F r (λ i. times q (A i j) (d i)) (λ i. times q (V j i) (d i))
+            (λ i l. ap (λ x. times q x (d i)) (sym (V_row j i l))) t) (times q (sym (V_last j) t) (d r))
 
         first_zero : (i : ℕ) → i < r → d i ≡ 0
         first_zero = rows_zero r n A A_codes S S_full S_basis d (λ i l. d_codes i (omega arith)) (λ j l t.
@@ -139,7 +151,9 @@ module _ (q : ℕ) (F : IsField q) where
         last_zero = elim (cases_eq (d r) 0) [
           | inl e ↦ e
           | inr ne ↦ absurd (times_nonzero q F (a at) (d r) (c.codes at at_below) (d_codes r (omega arith)) nonzero ne
-              (sym (F.plus_zero (times q (a at) (d r)) (F.times_below _ _)) ∙ ap (λ x. plus q x (times q (a at) (d r))) (sym (combination_zero q F r (λ j i. A i j) d at first_zero)) ∙ v_is at ∙ v_zero at at_below))
+              (sym (F.plus_zero (times q (a at) (d r)) (F.times_below _ _))
+              ∙ ap (λ x. plus q x (times q (a at) (d r))) (sym (combination_zero q F r (λ j i. A i j) d at first_zero)) ∙ v_is at
+              ∙ v_zero at at_below))
         ]
 
       W_independent : Independent q r (suc r) W
@@ -153,7 +167,8 @@ module _ (q : ℕ) (F : IsField q) where
       none_such : ⊥
       none_such =
           let P = pick_picks n (complement T) in
-          let h : suc r ≤ r = independent_bound q F (suc r) r W (λ l i m o. V_code (pick n (complement T) l) i (P.below l (subst (λ (x : ℕ). l < x) (sym T_other) m)) o) W_independent in
+          let h : suc r ≤ r = independent_bound q F (suc r) r W
+          (λ l i m o. V_code (pick n (complement T) l) i (P.below l (subst (λ (x : ℕ). l < x) (sym T_other) m)) o) W_independent in
           absurd (omega arith)
 
     pub complement_independent : IsIndependent q s n B (complement S)
@@ -210,26 +225,31 @@ module _ (q : ℕ) (F : IsField q) where
         let H = of_B.2 in
         sym (ap (λ x. combination q s change (λ l. B l x) k) (P.place j m t))
         ∙ combination-product q F s s (basis_matrix n C T) of_B.0 (λ l. B l (pick n T (size_below j T))) k
-        ∙ combination-same q F s (basis_matrix n C T) (combination q s of_B.0 (λ l. B l (pick n T (size_below j T)))) (λ i. unit i (size_below j T)) k (λ i m'. H.left i (size_below j T) m' o)
+        ∙ combination-same q F s (basis_matrix n C T) (combination q s of_B.0 (λ l. B l (pick n T (size_below j T))))
+        (λ i. unit i (size_below j T)) k (λ i m'. H.left i (size_below j T) m' o)
         ∙ times_unit_column q F s (basis_matrix n C T) k (size_below j T) o (basis_codes s n C C_codes T T_full T_other k (size_below j T) l o)
         ∙ ap (C k) (P.place j m t)
 
     product_orthogonal : (i k : ℕ) → i < r → combination q n A (λ j. combination q s change (λ l. B l j) k) i ≡ 0
     product_orthogonal i k l =
-        combination-same q F n A (λ j. combination q s change (λ l. B l j) k) (combination q s (λ j l. B l j) (change k)) i (λ j _. row_products s change (λ j l. B l j) k j)
+        combination-same q F n A (λ j. combination q s change (λ l. B l j) k) (combination q s (λ j l. B l j) (change k)) i
+        (λ j _. row_products s change (λ j l. B l j) k j)
         ∙ sym (combination-product q F s n A (λ j l. B l j) (change k) i)
         ∙ zero_row s (matrix_product q n A (λ j l. B l j)) (change k) i (λ m o. B_orthogonal i m l o)
 
     difference_null : (i k : ℕ) → i < r → k < s → combination q n A (difference k) i ≡ 0
     difference_null i k l m =
         combination_plus q F n A (C k) (λ j. negative q (combination q s change (λ l. B l j) k)) i
-        ∙ (λ t. plus q (C_orthogonal i k l m t) ((combination_negative n A (λ j. combination q s change (λ l. B l j) k) i ∙ ap (negative q) (product_orthogonal i k l)) t))
+        ∙ (λ t. plus q (C_orthogonal i k l m t)
+        ((combination_negative n A (λ j. combination q s change (λ l. B l j) k) i ∙ ap (negative q) (product_orthogonal i k l)) t))
         ∙ F.plus_negative 0
 
     pub changed : (k j : ℕ) → k < s → j < n → C k j ≡ combination q s change (λ l. B l j) k
     changed k j l m =
         plus_cancel q F (negative q x) (C k j) x (C_codes k j l m) (sum_below-code q F s _)
-        (F.plus_comm (negative q x) (C k j) ∙ rest.only_zero (difference k) (record { codes = λ j _. F.plus_below _ _; outside = out }) (λ i o. difference_null i k o l) j m ∙ sym (F.plus_comm (negative q x) x ∙ F.plus_negative x))
+        (F.plus_comm (negative q x) (C k j)
+        ∙ rest.only_zero (difference k) (record { codes = λ j _. F.plus_below _ _; outside = out })
+        (λ i o. difference_null i k o l) j m ∙ sym (F.plus_comm (negative q x) x ∙ F.plus_negative x))
       where
         x : ℕ
         x = combination q s change (λ l. B l j) k

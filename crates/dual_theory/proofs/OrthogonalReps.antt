@@ -10,13 +10,17 @@ use Rattle.dual_theory.specs.Dual.{complement, IsDualBasis, IsDualRep, AreOrthog
 use Rattle.dual_theory.proofs.Orthogonal.{complement_twice, size_complement, row_products, complement_independent}
 
 -- independence in N, over its factors and size as they are named elsewhere
-pub independent_named : (N : Rep) (f : ℕ) (S : ℕ → Bool) (factors : List ℕ) (n : ℕ) → N.factors ≡ factors → size N ≡ n → IsIndependentIn N f S → IsIndependent (slice_index factors f) N.rank n (matrix N f) S
+pub independent_named : (N : Rep) (f : ℕ) (S : ℕ → Bool) (factors : List ℕ) (n : ℕ) → N.factors ≡ factors → size N ≡ n →
+    IsIndependentIn N f S → IsIndependent (slice_index factors f) N.rank n (matrix N f) S
 independent_named N f S factors n e d h =
-    subst (λ n. IsIndependent (slice_index factors f) N.rank n (matrix N f) S) d (subst (λ fs. IsIndependent (slice_index fs f) N.rank (size N) (matrix N f) S) e h)
+    subst (λ n. IsIndependent (slice_index factors f) N.rank n (matrix N f) S) d
+    (subst (λ fs. IsIndependent (slice_index fs f) N.rank (size N) (matrix N f) S) e h)
 
-pub independent_back : (N : Rep) (f : ℕ) (S : ℕ → Bool) (factors : List ℕ) (n : ℕ) → N.factors ≡ factors → size N ≡ n → IsIndependent (slice_index factors f) N.rank n (matrix N f) S → IsIndependentIn N f S
+pub independent_back : (N : Rep) (f : ℕ) (S : ℕ → Bool) (factors : List ℕ) (n : ℕ) → N.factors ≡ factors → size N ≡ n →
+    IsIndependent (slice_index factors f) N.rank n (matrix N f) S → IsIndependentIn N f S
 independent_back N f S factors n e d h =
-    subst (λ fs. IsIndependent (slice_index fs f) N.rank (size N) (matrix N f) S) (sym e) (subst (λ n. IsIndependent (slice_index factors f) N.rank n (matrix N f) S) (sym d) h)
+    subst (λ fs. IsIndependent (slice_index fs f) N.rank (size N) (matrix N f) S) (sym e)
+    (subst (λ n. IsIndependent (slice_index factors f) N.rank n (matrix N f) S) (sym d) h)
 
 pub orthogonal_symmetric : (M N : Rep) → IsShaped M → AreOrthogonal M N → AreOrthogonal N M
 orthogonal_symmetric M N s o = record {
@@ -50,11 +54,13 @@ module _ (M N : Rep) (s : IsShaped M) (t : IsShaped N) (o : AreOrthogonal M N) (
     independent = independent_back N f (complement S) M.factors (size M) o.same_factors o.same_size
         (complement_independent (order M f) (field_laws (order M f) (s.orders f l)) M.rank N.rank (size M) (matrix M f) (matrix N f)
         (λ i j m n. s.codes f i j l m n) o.ranks (λ i k m n. o.products f i k l m n)
-        S T b.full b.independent (sym (ap (λ n. size_below n T) o.same_size) ∙ c.full) (independent_named N f T M.factors (size M) o.same_factors o.same_size c.independent));
+        S T b.full b.independent (sym (ap (λ n. size_below n T) o.same_size) ∙ c.full)
+        (independent_named N f T M.factors (size M) o.same_factors o.same_size c.independent));
   }
 
 -- the bases of N are those of the dual of M, where each has some basis
-pub bases_dual : (M N : Rep) → IsShaped M → IsShaped N → AreOrthogonal M N → (f : ℕ) → f < count M → (S T : ℕ → Bool) → IsBasis M f S → IsBasis N f T → (X : ℕ → Bool) → IsBasis N f X ↔ IsDualBasis (IsBasis M f) X
+pub bases_dual : (M N : Rep) → IsShaped M → IsShaped N → AreOrthogonal M N → (f : ℕ) → f < count M → (S T : ℕ → Bool) →
+    IsBasis M f S → IsBasis N f T → (X : ℕ → Bool) → IsBasis N f X ↔ IsDualBasis (IsBasis M f) X
 bases_dual M N s t o f l S T b c X = (
   λ x. complement_basis N M t s (orthogonal_symmetric M N s o) f (there M N s t o f l) X S x b,
   λ y. IsBasis-same N f (complement (complement X)) X (λ j _. complement_twice X j) (complement_basis M N s t o f l (complement X) T y c),

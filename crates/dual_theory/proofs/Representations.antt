@@ -32,7 +32,8 @@ mask_first (suc n) r l =
     elim (cases_lt n r) [
       | inl b ↦ (let e : suc n ≡ r = omega arith in
           let h : mask n (λ j. nat_lt j n) + 1 ≡ 2 ^ n = mask_first n n (omega arith) in
-          let s : mask n (λ j. nat_lt j r) ≡ mask n (λ j. nat_lt j n) = mask_same n (λ j. nat_lt j r) (λ j. nat_lt j n) (λ j m. lt-ltb j r (omega arith) ∙ sym (lt-ltb j n m)) in
+          let s : mask n (λ j. nat_lt j r) ≡ mask n (λ j. nat_lt j n) = mask_same n (λ j. nat_lt j r) (λ j. nat_lt j n)
+          (λ j m. lt-ltb j r (omega arith) ∙ sym (lt-ltb j n m)) in
           let t : cond (nat_lt n r) 1 0 * 2 ^ n ≡ 1 * 2 ^ n = ap (λ b. cond b 1 0 * 2 ^ n) (lt-ltb n r b) in
           let d : 2 ^ suc n ≡ 2 ^ n + 2 ^ n = two-pow-succ n in
           let k : 2 ^ suc n ≡ 2 ^ r = ap (λ r. 2 ^ r) e in
@@ -50,13 +51,16 @@ first_is_basis q N M p c l =
     let k : mask N.size (λ j. nat_lt j N.rank) ≡ 2 ^ N.rank - 1 = omega arith in
     let b = p.bases.exact (2 ^ N.rank - 1) in
     IsBasis-same M 0 (members (2 ^ N.rank - 1)) (λ j. nat_lt j M.rank)
-    (λ j m. ap (λ X. members X j) (sym k) ∙ members-mask N.size (λ j. nat_lt j N.rank) j (subst (λ n. j < n) p.sizes m) ∙ ap (nat_lt j) (sym p.ranks)) (let x = b.0 c in x.1)
+    (λ j m. ap (λ X. members X j) (sym k) ∙ members-mask N.size (λ j. nat_lt j N.rank) j (subst (λ n. j < n) p.sizes m)
+    ∙ ap (nat_lt j) (sym p.ranks)) (let x = b.0 c in x.1)
 
 -- a move that keeps the order of the columns keeps the bases
-pub represents_moved : (q : ℕ) (N : Matroid) (M L : Rep) (m : Move) → Represents q N M → IsMove Linear (shape M) m → TakesTo M m L → m.label ≡ (λ j. j) → Represents q N L
+pub represents_moved : (q : ℕ) (N : Matroid) (M L : Rep) (m : Move) → Represents q N M → IsMove Linear (shape M) m → TakesTo M m L →
+    m.label ≡ (λ j. j) → Represents q N L
 represents_moved q N M L m p valid takes labels =
     let one : count M ≡ 1 = ap (λ fs. length fs) p.one_factor in
-    let same = λ (X : ℕ). subst (λ (p : ℕ → ℕ). IsBasis M 0 (members X) ↔ IsBasis L 0 (λ j. members X (p j))) labels (basis_carried Linear M L m p.shaped valid takes 0 (omega arith) (members X)) in
+    let same = λ (X : ℕ). subst (λ (p : ℕ → ℕ). IsBasis M 0 (members X) ↔ IsBasis L 0 (λ j. members X (p j))) labels
+    (basis_carried Linear M L m p.shaped valid takes 0 (omega arith) (members X)) in
     let sizes : size L ≡ size M = ap (λ s. s.size) takes.same_shape in
     record {
       one_factor = ap (λ s. s.factors) takes.same_shape ∙ p.one_factor;
@@ -72,7 +76,8 @@ represents_moved q N M L m p valid takes labels =
       };
     }
 
-pub standard_represents : (q : ℕ) (N : Matroid) (M : Rep) → Represents q N M → Contains N.bases (2 ^ N.rank - 1) → N.rank ≤ N.size → (L : Rep) × IsStandard L × Represents q N L
+pub standard_represents : (q : ℕ) (N : Matroid) (M : Rep) → Represents q N M → Contains N.bases (2 ^ N.rank - 1) → N.rank ≤ N.size →
+    (L : Rep) × IsStandard L × Represents q N L
 standard_represents q N M p c l =
     let one : count M ≡ 1 = ap (λ fs. length fs) p.one_factor in
     let (L, m, standard, valid, takes, labels, _, _) = standard_each Linear M (λ j. j) (λ j. j) (λ _ _. 1) (λ _. 0) p.shaped (omega arith)

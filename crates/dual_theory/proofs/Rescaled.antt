@@ -21,9 +21,11 @@ pub record Rescaled (q : ℕ) (N : Matroid) (M : Rep) (s : ℕ → ℕ) : Type 0
   pub rep : Rep
   pub standard : IsStandard rep
   pub represents : Represents q N rep
-  pub entries : (i k : ℕ) → i < M.rank → k < size M → matrix rep 0 i k ≡ times (order M 0) (s k) (times (order M 0) (inverse (order M 0) (s i)) (matrix M 0 i k))
+  pub entries : (i k : ℕ) → i < M.rank → k < size M →
+      matrix rep 0 i k ≡ times (order M 0) (s k) (times (order M 0) (inverse (order M 0) (s i)) (matrix M 0 i k))
 
-pub rescaled : (q : ℕ) (N : Matroid) (M : Rep) (s : ℕ → ℕ) → Represents q N M → IsStandard M → ((k : ℕ) → k < size M → s k < order M 0) → ((k : ℕ) → k < size M → s k ≢ 0) → Rescaled q N M s
+pub rescaled : (q : ℕ) (N : Matroid) (M : Rep) (s : ℕ → ℕ) → Represents q N M → IsStandard M →
+    ((k : ℕ) → k < size M → s k < order M 0) → ((k : ℕ) → k < size M → s k ≢ 0) → Rescaled q N M s
 rescaled q N M s p standard codes nonzero =
     let (L, m, st, valid, takes, labels, scalars, powers) = standard_each Linear M (λ j. j) (λ j. j) (λ _. s) (λ _. 0) p.shaped some
     (record { below = λ j l. l; inverse_below = λ j l. l; there = λ j l. refl; back = λ j l. refl })
@@ -36,8 +38,10 @@ rescaled q N M s p standard codes nonzero =
       represents = represents_moved q N M L m p valid takes labels;
       entries = λ i k l n.
           standard_by Linear M L m p.shaped st valid takes 0 some k n (λ i. matrix M 0 i k)
-          (λ i l. subst (λ (u : ℕ → ℕ). combination (order M 0) M.rank (λ i l. matrix M 0 i (u l)) (λ i. matrix M 0 i k) i ≡ matrix M 0 i (u k)) (sym labels) (own k n i l)) i l
-          ∙ (λ t. times (order M 0) (scalars t 0 k) (times (order M 0) (inverse (order M 0) (scalars t 0 i)) (raised (order M 0) (powers t 0) (matrix M 0 i k))));
+          (λ i l. subst (λ (u : ℕ → ℕ). combination (order M 0) M.rank (λ i l. matrix M 0 i (u l))
+          (λ i. matrix M 0 i k) i ≡ matrix M 0 i (u k)) (sym labels) (own k n i l)) i l
+          ∙ (λ t. times (order M 0) (scalars t 0 k)
+          (times (order M 0) (inverse (order M 0) (scalars t 0 i)) (raised (order M 0) (powers t 0) (matrix M 0 i k))));
     }
   where
     some : 0 < count M
@@ -49,7 +53,9 @@ rescaled q N M s p standard codes nonzero =
     own : (k : ℕ) → k < size M → (i : ℕ) → i < M.rank → combination (order M 0) M.rank (matrix M 0) (λ i. matrix M 0 i k) i ≡ matrix M 0 i k
     own k n i l =
         let F = field_laws (order M 0) (p.shaped.orders 0 some) in
-        sum_same (order M 0) F M.rank (λ j. times (order M 0) (matrix M 0 i j) (matrix M 0 j k)) (λ j. times (order M 0) (unit i j) (matrix M 0 j k)) (λ j m. ap (λ x. times (order M 0) x (matrix M 0 j k)) (standard.units 0 i j some l m))
+        sum_same (order M 0) F M.rank (λ j. times (order M 0) (matrix M 0 i j) (matrix M 0 j k))
+        (λ j. times (order M 0) (unit i j) (matrix M 0 j k))
+        (λ j m. ap (λ x. times (order M 0) x (matrix M 0 j k)) (standard.units 0 i j some l m))
         ∙ combination-unit (order M 0) F M.rank (λ j. matrix M 0 j k) i l (p.shaped.codes 0 i k some l n)
 
 -- ---- entry i, j made 1
@@ -63,7 +69,8 @@ only_own at x = ap (λ b. cond b x 1) (same_number at)
 only_other : (at x k : ℕ) → k ≢ at → only at x k ≡ 1
 only_other at x k ne = ap (λ b. cond b x 1) (other_number k at ne)
 
-module _ (q : ℕ) (N : Matroid) (M : Rep) (p : Represents q N M) (standard : IsStandard M) (i j : ℕ) (i_below : i < M.rank) (past : M.rank ≤ j) (j_below : j < size M) (nonzero : matrix M 0 i j ≢ 0) where
+module _ (q : ℕ) (N : Matroid) (M : Rep) (p : Represents q N M) (standard : IsStandard M) (i j : ℕ) (i_below : i < M.rank)
+    (past : M.rank ≤ j) (j_below : j < size M) (nonzero : matrix M 0 i j ≢ 0) where
   abbrev o : ℕ
   o = order M 0
 
@@ -92,7 +99,8 @@ module _ (q : ℕ) (N : Matroid) (M : Rep) (p : Represents q N M) (standard : Is
   only_nonzero at y k ne = elim (k == at) as (λ b. cond b y 1 ≢ 0) [ true ↦ ne | false ↦ (λ e. absurd (omega arith)) ]
 
   scaled_by : (a b y : ℕ) → a ≡ 1 → b ≡ 1 → y < o → times o a (times o (inverse o b) y) ≡ y
-  scaled_by a b y e d l = let G = F in (λ t. times o (e t) (times o (inverse o (d t)) y)) ∙ G.times_one _ (G.times_below _ _) ∙ ap (λ z. times o z y) inverse_one ∙ G.times_one y l
+  scaled_by a b y e d l = let G = F in (λ t. times o (e t) (times o (inverse o (d t)) y)) ∙ G.times_one _ (G.times_below _ _)
+      ∙ ap (λ z. times o z y) inverse_one ∙ G.times_one y l
 
   scaled_zero : (a b y : ℕ) → y ≡ 0 → times o a (times o (inverse o b) y) ≡ y
   scaled_zero a b y e = ap (λ y. times o a (times o (inverse o b) y)) e ∙ ap (times o a) (times_zero o F (inverse o b)) ∙ times_zero o F a ∙ sym e
@@ -103,17 +111,21 @@ module _ (q : ℕ) (N : Matroid) (M : Rep) (p : Represents q N M) (standard : Is
   -- the entries above it in its column are 0: the column is divided by it
   pub lead_made_one : ((l : ℕ) → l < i → matrix M 0 l j ≡ 0) → Normal
   lead_made_one z =
-      let r = rescaled q N M (only j (inverse o x)) p standard (λ k _. only_code j (inverse o x) k (let G = F in G.inverse_below x x_code)) (λ k _. only_nonzero j (inverse o x) k (inverse_nonzero o F x x_code nonzero)) in (
+      let r = rescaled q N M (only j (inverse o x)) p standard
+      (λ k _. only_code j (inverse o x) k (let G = F in G.inverse_below x x_code))
+      (λ k _. only_nonzero j (inverse o x) k (inverse_nonzero o F x x_code nonzero)) in (
         r.rep,
         r.standard,
         r.represents,
         (λ l k m n c. sym (r.entries l k m n ∙ elim c [
-          | inl b ↦ scaled_by _ _ (matrix M 0 l k) (only_other j (inverse o x) k (λ e. absurd (omega arith))) (only_other j (inverse o x) l (λ e. absurd (omega arith))) (code l k m n)
+          | inl b ↦ scaled_by _ _ (matrix M 0 l k) (only_other j (inverse o x) k (λ e. absurd (omega arith)))
+              (only_other j (inverse o x) l (λ e. absurd (omega arith))) (code l k m n)
           | inr d ↦ scaled_zero _ _ (matrix M 0 l k) (ap (matrix M 0 l) d.0 ∙ z l d.1)
         ])),
         r.entries i j i_below j_below
             ∙ (λ t. times o (only_own j (inverse o x) t) (times o (inverse o (only_other j (inverse o x) i (λ e. absurd (omega arith)) t)) x))
-            ∙ (let G = F in ap (times o (inverse o x)) (ap (λ z. times o z x) inverse_one ∙ G.times_one x x_code) ∙ G.times_comm (inverse o x) x ∙ G.times_inverse x x_code nonzero),
+            ∙ (let G = F in ap (times o (inverse o x)) (ap (λ z. times o z x) inverse_one ∙ G.times_one x x_code)
+            ∙ G.times_comm (inverse o x) x ∙ G.times_inverse x x_code nonzero),
       )
 
   -- the entries before it in its row, after the unit columns, are 0: the row is divided by it

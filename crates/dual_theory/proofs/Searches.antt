@@ -30,7 +30,12 @@ last_member (suc n) X =
     elim (cases_Bool (X n)) [
       | inl t ↦ inl (n, omega arith, t, λ k l m. absurd (omega arith))
       | inr f ↦ elim (last_member n X) [
-        | inl w ↦ inl (w.0, (let l = w.1 in omega arith), w.2, λ k l m. elim (cases_lt k n) [ inl b ↦ w.3 k l b | inr g ↦ (let e : k ≡ n = omega arith in ap X e ∙ f) ])
+        | inl w ↦ inl (
+          w.0,
+          (let l = w.1 in omega arith),
+          w.2,
+          λ k l m. elim (cases_lt k n) [ inl b ↦ w.3 k l b | inr g ↦ (let e : k ≡ n = omega arith in ap X e ∙ f) ],
+        )
         | inr z ↦ inr (λ k l. elim (cases_lt k n) [ inl b ↦ z k b | inr g ↦ (let e : k ≡ n = omega arith in ap X e ∙ f) ])
       ]
     ]
@@ -64,7 +69,8 @@ size_early r (suc n) X l h =
     ]
 
 -- a set of r numbers below n is the first r or is told somewhere
-told_somewhere : (r n : ℕ) (X : ℕ → Bool) → r ≤ n → size_below n X ≡ r → ((k : ℕ) → k < n → X k ≡ nat_lt k r) ⊎ ((i : ℕ) × (j : ℕ) × (i < r) × (r ≤ j) × (j < n) × IsToldAt r n i j X)
+told_somewhere : (r n : ℕ) (X : ℕ → Bool) → r ≤ n → size_below n X ≡ r →
+    ((k : ℕ) → k < n → X k ≡ nat_lt k r) ⊎ ((i : ℕ) × (j : ℕ) × (i < r) × (r ≤ j) × (j < n) × IsToldAt r n i j X)
 told_somewhere r n X le full =
     elim (last_member r (complement X)) [
       | inr all ↦ inl (λ k l. elim (cases_lt k r) [
@@ -106,7 +112,8 @@ told_somewhere r n X le full =
 same_bit : (a b : ℕ) → a < 2 → b < 2 → (a == 1) ≡ (b == 1) → a ≡ b
 same_bit a b l m e = elim (cases_eq a 1) [
   | inl x ↦ elim (cases_eq b 1) [ inl y ↦ x ∙ sym y | inr n ↦ absurd (true≢false (sym (same_number 1) ∙ sym (ap (λ z. z == 1) x) ∙ e ∙ other_number b 1 n)) ]
-  | inr n ↦ elim (cases_eq b 1) [ inl y ↦ absurd (true≢false (sym (same_number 1) ∙ sym (ap (λ z. z == 1) y) ∙ sym e ∙ other_number a 1 n)) | inr o ↦ omega arith ]
+  | inr n ↦ elim (cases_eq b 1)
+      [ inl y ↦ absurd (true≢false (sym (same_number 1) ∙ sym (ap (λ z. z == 1) y) ∙ sym e ∙ other_number a 1 n)) | inr o ↦ omega arith ]
 ]
 
 pub same_mask : (n X Y : ℕ) → X < 2 ^ n → Y < 2 ^ n → ((j : ℕ) → j < n → members X j ≡ members Y j) → X ≡ Y
@@ -116,7 +123,8 @@ same_mask n X Y l m h = same_from_bits_below n X Y l m (λ j b. same_bit (bit_at
 first_mask : (n r X : ℕ) → r ≤ n → X < 2 ^ n → ((k : ℕ) → k < n → members X k ≡ nat_lt k r) → X ≡ 2 ^ r - 1
 first_mask n r X l b h =
     let e : mask n (λ j. nat_lt j r) + 1 ≡ 2 ^ r = mask_first n r l in
-    let s : X ≡ mask n (λ j. nat_lt j r) = same_mask n X (mask n (λ j. nat_lt j r)) b (mask-below n (λ j. nat_lt j r)) (λ j m. h j m ∙ sym (members-mask n (λ j. nat_lt j r) j m)) in
+    let s : X ≡ mask n (λ j. nat_lt j r) = same_mask n X (mask n (λ j. nat_lt j r)) b (mask-below n (λ j. nat_lt j r))
+    (λ j m. h j m ∙ sym (members-mask n (λ j. nat_lt j r) j m)) in
     omega arith
 
 pub first_members : (n r : ℕ) → r ≤ n → (k : ℕ) → k < n → members (2 ^ r - 1) k ≡ nat_lt k r
@@ -127,7 +135,8 @@ first_members n r l k m =
 
 -- ---- a standard matrix that keeps the bases at each entry has exactly these bases
 
-pub exact_by_entries : (q : ℕ) (N : Matroid) (M : Rep) → 0 < N.rank → IsBasedFirst N → IsStandardOver q N M → ((i j : ℕ) → i < N.rank → N.rank ≤ j → j < N.size → KeepsBasesAt N M i j) → Represents q N M
+pub exact_by_entries : (q : ℕ) (N : Matroid) (M : Rep) → 0 < N.rank → IsBasedFirst N → IsStandardOver q N M →
+    ((i j : ℕ) → i < N.rank → N.rank ≤ j → j < N.size → KeepsBasesAt N M i j) → Represents q N M
 exact_by_entries q N M pos based over keeps = record {
   one_factor = over.one_factor;
   ranks = over.ranks;
@@ -143,13 +152,15 @@ exact_by_entries q N M pos based over keeps = record {
 }
   where
     room : N.rank ≤ N.size
-    room = let s = over.standard in let h : M.rank ≤ size M = s.room in let e : M.rank ≡ N.rank = over.ranks in let d : size M ≡ N.size = over.sizes in omega arith
+    room = let s = over.standard in let h : M.rank ≤ size M = s.room in let e : M.rank ≡ N.rank = over.ranks in
+        let d : size M ≡ N.size = over.sizes in omega arith
 
     some : 0 < count M
     some = let one : count M ≡ 1 = ap (λ fs. length fs) over.one_factor in omega arith
 
     first : (X : ℕ) → ((k : ℕ) → k < N.size → members X k ≡ nat_lt k N.rank) → IsBasis M 0 (members X)
-    first X h = IsBasis-same M 0 (λ j. nat_lt j M.rank) (members X) (λ j l. ap (nat_lt j) over.ranks ∙ sym (h j (subst (λ n. j < n) over.sizes l))) (units_basis M over.shaped over.standard 0 some)
+    first X h = IsBasis-same M 0 (λ j. nat_lt j M.rank) (members X)
+        (λ j l. ap (nat_lt j) over.ranks ∙ sym (h j (subst (λ n. j < n) over.sizes l))) (units_basis M over.shaped over.standard 0 some)
 
     there : (X : ℕ) → Contains N.bases X → IsBasis M 0 (members X)
     there X c = elim (told_somewhere N.rank N.size (members X) room (based.of_rank X c)) [
@@ -168,10 +179,12 @@ exact_by_entries q N M pos based over keeps = record {
 -- ---- what is given up holds none
 
 pub same_shape : (q : ℕ) (N : Matroid) (M L : Rep) → IsStandardOver q N M → Represents q N L → shape L ≡ shape M
-same_shape q N M L over p = λ t. record { factors = (p.one_factor ∙ sym over.one_factor) t; rank = (p.ranks ∙ sym over.ranks) t; size = (p.sizes ∙ sym over.sizes) t }
+same_shape q N M L over p =
+    λ t. record { factors = (p.one_factor ∙ sym over.one_factor) t; rank = (p.ranks ∙ sym over.ranks) t; size = (p.sizes ∙ sym over.sizes) t }
 
 -- where L begins as M does, as far as row i of column j, M keeps the bases there
-pub keeps_begun : (q : ℕ) (N : Matroid) (M L : Rep) (i j : ℕ) → 0 < N.rank → IsStandardOver q N M → N.rank ≤ j → j < N.size → Completes q N M (suc i) j L → KeepsBasesAt N M i j
+pub keeps_begun : (q : ℕ) (N : Matroid) (M L : Rep) (i j : ℕ) → 0 < N.rank → IsStandardOver q N M → N.rank ≤ j → j < N.size →
+    Completes q N M (suc i) j L → KeepsBasesAt N M i j
 keeps_begun q N M L i j pos over past below c X l full told =
     let p = c.represents in
     let some : count M ≡ 1 = ap (λ fs. length fs) over.one_factor in
@@ -182,5 +195,6 @@ keeps_begun q N M L i j pos over past below c X l full told =
     ((λ h. let x = e.0 h in b.1 x.1), (λ h. e.1 (subst (λ n. X < 2 ^ n) (sym p.sizes) l, b.0 h)))
 
 -- so it is none, where M doesn't keep them
-pub none_begun : (q : ℕ) (N : Matroid) (M L : Rep) (i j : ℕ) → 0 < N.rank → IsStandardOver q N M → N.rank ≤ j → j < N.size → ¬ (KeepsBasesAt N M i j) → ¬ (Completes q N M (suc i) j L)
+pub none_begun : (q : ℕ) (N : Matroid) (M L : Rep) (i j : ℕ) → 0 < N.rank → IsStandardOver q N M → N.rank ≤ j → j < N.size →
+    ¬ (KeepsBasesAt N M i j) → ¬ (Completes q N M (suc i) j L)
 none_begun q N M L i j pos over past below other c = other (keeps_begun q N M L i j pos over past below c)

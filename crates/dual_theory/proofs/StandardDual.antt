@@ -35,14 +35,18 @@ module _ (q : ℕ) (F : IsField q) where
 
     first_part : (i k : ℕ) → i < r → k < s → sum_below q r (λ j. times q (A i j) (B k j)) ≡ negative q (A i (r + k))
     first_part i k l m =
-        sum_one q F r i (λ j. times q (A i j) (B k j)) l (F.times_below _ _) (λ j o ne. ap (λ x. times q x (B k j)) (units i j l o ∙ ap (λ b. cond b 1 0) (other_number i j (λ e. ne (sym e)))) ∙ zero_times q F (B k j))
+        sum_one q F r i (λ j. times q (A i j) (B k j)) l (F.times_below _ _)
+        (λ j o ne. ap (λ x. times q x (B k j)) (units i j l o ∙ ap (λ b. cond b 1 0) (other_number i j (λ e. ne (sym e))))
+        ∙ zero_times q F (B k j))
         ∙ (λ t. times q ((units i i l l ∙ ap (λ b. cond b 1 0) (same_number i)) t) (B_first k i m l t))
         ∙ F.times_one (negative q (A i (r + k))) (F.negative_below _)
 
     last_part : (i k : ℕ) → i < r → k < s → sum_below q s (λ l. times q (A i (r + l)) (B k (r + l))) ≡ A i (r + k)
     last_part i k l m =
         sum_one q F s k (λ l. times q (A i (r + l)) (B k (r + l))) m (F.times_below _ _)
-        (λ j o ne. ap (times q (A i (r + j))) (B_unit k (r + j) m (omega arith) (omega arith) ∙ ap (λ b. cond b 1 0) (other_number (r + k) (r + j) (λ e. ne (omega arith)))) ∙ times_zero q F (A i (r + j)))
+        (λ j o ne. ap (times q (A i (r + j)))
+        (B_unit k (r + j) m (omega arith) (omega arith)
+        ∙ ap (λ b. cond b 1 0) (other_number (r + k) (r + j) (λ e. ne (omega arith)))) ∙ times_zero q F (A i (r + j)))
         ∙ ap (times q (A i (r + k))) (B_unit k (r + k) m (omega arith) (omega arith) ∙ ap (λ b. cond b 1 0) (same_number (r + k)))
         ∙ F.times_comm (A i (r + k)) 1 ∙ F.times_one (A i (r + k)) (codes i (r + k) l (omega arith))
 
@@ -91,10 +95,12 @@ module _ (M N : Rep) (s : IsShaped M) (t : IsStandard M) (d : IsStandardDual M N
   pub standard_dual_last : (f : ℕ) → f < count M → IsBasis N f (complement (λ j. nat_lt j M.rank))
   standard_dual_last f l = record {
     full =
-        (let h : size_below (size M) (λ j. nat_lt j M.rank) + size_below (size M) (complement (λ j. nat_lt j M.rank)) ≡ size M = size_complement (size M) (λ j. nat_lt j M.rank) in
+        (let h : size_below (size M) (λ j. nat_lt j M.rank) + size_below (size M) (complement (λ j. nat_lt j M.rank)) ≡ size M =
+        size_complement (size M) (λ j. nat_lt j M.rank) in
         let e : size_below (size M) (λ j. nat_lt j M.rank) ≡ M.rank = size_front M.rank (size M) t.room in
         let g : M.rank + N.rank ≡ size M = d.ranks in
-        let k : size_below (size N) (complement (λ j. nat_lt j M.rank)) ≡ size_below (size M) (complement (λ j. nat_lt j M.rank)) = ap (λ n. size_below n (complement (λ j. nat_lt j M.rank))) d.same_size in
+        let k : size_below (size N) (complement (λ j. nat_lt j M.rank)) ≡ size_below (size M) (complement (λ j. nat_lt j M.rank)) =
+        ap (λ n. size_below n (complement (λ j. nat_lt j M.rank))) d.same_size in
         omega arith);
     independent = independent_back N f (complement (λ j. nat_lt j M.rank)) M.factors (size M) d.same_factors d.same_size
         (dual_basis (order M f) (field_laws (order M f) (s.orders f l)) M.rank N.rank (size M) (matrix M f) (matrix N f) d.ranks
@@ -110,7 +116,8 @@ standard_dual_exists M s t = (
   built S (dual_matrix M),
   shaped_built S (dual_matrix M) s.orders (λ f i j l m n.
       let F = field_laws (order M f) (s.orders f l) in
-      elim (nat_lt j M.rank) as (λ b. cond b (negative (order M f) (matrix M f j (M.rank + i))) (unit (M.rank + i) j) < order M f) [ true ↦ F.negative_below _ | false ↦ unit_code (order M f) F (M.rank + i) j ]),
+      elim (nat_lt j M.rank) as (λ b. cond b (negative (order M f) (matrix M f j (M.rank + i))) (unit (M.rank + i) j) < order M f)
+      [ true ↦ F.negative_below _ | false ↦ unit_code (order M f) F (M.rank + i) j ]),
   record {
     same_factors = refl;
     same_size = size_built S (dual_matrix M);

@@ -46,7 +46,8 @@ module _ (q : ℕ) (F : IsField q) (r n i j : ℕ) (A B : Matrix) (X : ℕ → B
     w_early k l = elim (cases_lt k r) [
       | inr g ↦ w_back k g
       | inl b ↦ w_front k b ∙ elim (cases_Bool (X j)) [
-        | inl t ↦ ap (λ x. times q (plus q (B k j) (negative q x)) (a j)) (same k j b j_below t (inr l)) ∙ ap (λ x. times q x (a j)) (F.plus_negative (B k j)) ∙ zero_times q F (a j)
+        | inl t ↦ ap (λ x. times q (plus q (B k j) (negative q x)) (a j)) (same k j b j_below t (inr l))
+            ∙ ap (λ x. times q x (a j)) (F.plus_negative (B k j)) ∙ zero_times q F (a j)
         | inr f ↦ ap (times q (less k)) (c.outside j j_below f) ∙ times_zero q F (less k)
       ]
     ]
@@ -73,7 +74,9 @@ module _ (q : ℕ) (F : IsField q) (r n i j : ℕ) (A B : Matrix) (X : ℕ → B
     B_row l m =
         sum_same q F n (λ k. times q (B l k) (a k)) (λ k. plus q (times q (A l k) (a k)) (extra k)) term
         ∙ sum_plus q F n (λ k. times q (A l k) (a k)) extra
-        ∙ ap (plus q (combination q n A a l)) (sum_one q F n j extra j_below (extra_code j) (λ k _ ne. ap (λ b. cond b (w l) 0) (other_number k j ne)) ∙ ap (λ b. cond b (w l) 0) (same_number j))
+        ∙ ap (plus q (combination q n A a l))
+        (sum_one q F n j extra j_below (extra_code j) (λ k _ ne. ap (λ b. cond b (w l) 0) (other_number k j ne))
+        ∙ ap (λ b. cond b (w l) 0) (same_number j))
       where
         extra : ℕ → ℕ
         extra k = cond (k == j) (w l) 0
@@ -91,7 +94,9 @@ module _ (q : ℕ) (F : IsField q) (r n i j : ℕ) (A B : Matrix) (X : ℕ → B
 
         term : (k : ℕ) → k < n → times q (B l k) (a k) ≡ plus q (times q (A l k) (a k)) (extra k)
         term k o = elim (cases_eq k j) [
-          | inl e ↦ ap (λ k. times q (B l k) (a k)) e ∙ own ∙ sym (ap (λ k. plus q (times q (A l k) (a k)) (extra k)) e ∙ ap (λ b. plus q (times q (A l j) (a j)) (cond b (w l) 0)) (same_number j))
+          | inl e ↦ ap (λ k. times q (B l k) (a k)) e ∙ own
+              ∙ sym (ap (λ k. plus q (times q (A l k) (a k)) (extra k)) e
+              ∙ ap (λ b. plus q (times q (A l j) (a j)) (cond b (w l) 0)) (same_number j))
           | inr ne ↦ elim (cases_Bool (X k)) [
             | inl t ↦ ap (λ x. times q x (a k)) (sym (same l k m o t (inl ne)))
             | inr f ↦ ap (times q (B l k)) (c.outside k o f) ∙ times_zero q F (B l k) ∙ sym (ap (times q (A l k)) (c.outside k o f) ∙ times_zero q F (A l k))
@@ -132,14 +137,17 @@ module _ (q : ℕ) (F : IsField q) (r n i j : ℕ) (A B : Matrix) (X : ℕ → B
 -- ---- representations
 
 -- a set that is told by the entries that two standard matrices have in common is a base of both or of neither
-base_over : (M L : Rep) → IsShaped M → IsShaped L → IsStandard M → shape L ≡ shape M → 0 < count M → (i j : ℕ) → M.rank ≤ j → j < size M → AgreeBefore M L (suc i) j → (X : ℕ → Bool) → IsToldAt M.rank (size M) i j X → IsBasis M 0 X → IsBasis L 0 X
+base_over : (M L : Rep) → IsShaped M → IsShaped L → IsStandard M → shape L ≡ shape M → 0 < count M → (i j : ℕ) → M.rank ≤ j →
+    j < size M → AgreeBefore M L (suc i) j → (X : ℕ → Bool) → IsToldAt M.rank (size M) i j X → IsBasis M 0 X → IsBasis L 0 X
 base_over M L s t standard e some i j past below h X told b = record {
   full = ap (λ S. size_below S.size X) e ∙ b.full ∙ sym (ap (λ S. S.rank) e);
   independent = independent_back L 0 X M.factors (size M) (ap (λ S. S.factors) e) (ap (λ S. S.size) e)
       (subst (λ r. IsIndependent (order M 0) r (size M) (matrix L 0) X) (sym (ap (λ S. S.rank) e))
       (independent_told (order M 0) (field_laws (order M 0) (s.orders 0 some)) M.rank (size M) i j (matrix M 0) (matrix L 0) X standard.room past below
       (λ l k m n. s.codes 0 l k some m n)
-      (λ l k m n. subst (λ S. matrix L 0 l k < order_of S) e (t.codes 0 l k (subst (λ S. 0 < length S.factors) (sym e) some) (subst (λ S. l < S.rank) (sym e) m) (subst (λ S. k < S.size) (sym e) n)))
+      (λ l k m n. subst (λ S. matrix L 0 l k < order_of S) e
+      (t.codes 0 l k (subst (λ S. 0 < length S.factors) (sym e) some) (subst (λ S. l < S.rank) (sym e) m)
+      (subst (λ S. k < S.size) (sym e) n)))
       (λ l k m n. standard.units 0 l k some m n)
       same told.units b.independent));
 }
@@ -156,9 +164,11 @@ base_over M L s t standard e some i j past below h X told b = record {
 agree_back : (M L : Rep) (i j : ℕ) → shape L ≡ shape M → AgreeBefore M L i j → AgreeBefore L M i j
 agree_back M L i j e h l k m n c = sym (h l k (subst (λ S. l < S.rank) e m) (subst (λ S. k < S.size) e n) c)
 
-pub base_told : (M L : Rep) → IsShaped M → IsShaped L → IsStandard M → IsStandard L → shape L ≡ shape M → 0 < count M → (i j : ℕ) → M.rank ≤ j → j < size M → AgreeBefore M L (suc i) j → (X : ℕ → Bool) → IsToldAt M.rank (size M) i j X → IsBasis M 0 X ↔ IsBasis L 0 X
+pub base_told : (M L : Rep) → IsShaped M → IsShaped L → IsStandard M → IsStandard L → shape L ≡ shape M → 0 < count M → (i j : ℕ) →
+    M.rank ≤ j → j < size M → AgreeBefore M L (suc i) j → (X : ℕ → Bool) → IsToldAt M.rank (size M) i j X → IsBasis M 0 X ↔ IsBasis L 0 X
 base_told M L s t sM sL e some i j past below h X told = (
   base_over M L s t sM e some i j past below h X told,
-  base_over L M t s sL (sym e) (subst (λ S. 0 < length S.factors) (sym e) some) i j (subst (λ S. S.rank ≤ j) (sym e) past) (subst (λ S. j < S.size) (sym e) below)
+  base_over L M t s sL (sym e) (subst (λ S. 0 < length S.factors) (sym e) some) i j (subst (λ S. S.rank ≤ j) (sym e) past)
+      (subst (λ S. j < S.size) (sym e) below)
       (agree_back M L (suc i) j e h) X (subst (λ S. IsToldAt S.rank S.size i j X) (sym e) told),
 )

@@ -20,4 +20,5 @@ AreTriangle q r equations = (l n : ℕ) → l < length equations → l + suc n �
 
 -- the values meet each equation with its right side
 abbrev pub Meets : ℕ → ℕ → List (ArrayVec ℕ) → List ℕ → (ℕ → ℕ) → Type 0
-Meets q r equations sides values = (l n : ℕ) → l < length equations → l + suc n ≡ r → sum_of_products q (suc n) (column equations l) values ≡ slice_index sides l
+Meets q r equations sides values = (l n : ℕ) → l < length equations → l + suc n ≡ r →
+    sum_of_products q (suc n) (column equations l) values ≡ slice_index sides l

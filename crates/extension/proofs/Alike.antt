@@ -23,7 +23,8 @@ each_set M n k e d Q b h = (
     named : IsTrue b ↔ ((X : ℕ) → IsSetOfSize (size M) k X → Q (with_new M (members X)))
     named = subst (λ (n : ℕ). IsTrue b ↔ ((X : ℕ) → IsSetOfSize n k X → Q (λ j. (j == n) || members X j))) e h
 
-module _ (P : Rep) (k : KeepsLimits P) (f p q : ℕ) (columns others : List (ArrayVec ℕ)) (x : IsFactorOf P 0 p columns) (y : IsFactorOf P f q others) (S : ℕ → Bool) where
+module _ (P : Rep) (k : KeepsLimits P) (f p q : ℕ) (columns others : List (ArrayVec ℕ)) (x : IsFactorOf P 0 p columns)
+    (y : IsFactorOf P f q others) (S : ℕ → Bool) where
   -- sets of columns as sets of the factors
   pub alike_in_factors : (IsIndependentSet p columns S ↔ IsIndependentSet q others S) → IsIndependentIn P 0 S ↔ IsIndependentIn P f S
   alike_in_factors h = (

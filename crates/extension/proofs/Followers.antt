@@ -79,9 +79,11 @@ module _ (M : Rep) (v : List ℕ) where
           | inl b ↦ in_whole f l (pair i j) (none_of i j (size M) (λ e. absurd (omega arith)) (λ e. absurd (omega arith))) (simple f i j l (omega arith) b)
           | inr g ↦ (let e : size M ≡ j = omega arith in subst (λ (x : ℕ). IsIndependentIn (followed_by M v) f (pair i x)) e
               (elim (cases_lt i (size M)) [
-                | inl b ↦ IsIndependent-same (order M f) M.rank (size (followed_by M v)) (matrix (followed_by M v) f) (pair (size M) i) (pair i (size M)) (λ k _. turned (k == size M) (k == i)) (apart f i l b)
+                | inl b ↦ IsIndependent-same (order M f) M.rank (size (followed_by M v)) (matrix (followed_by M v) f)
+                    (pair (size M) i) (pair i (size M)) (λ k _. turned (k == size M) (k == i)) (apart f i l b)
                 | inr h ↦ smaller_independent (order M f) M.rank (size (followed_by M v)) (matrix (followed_by M v) f) (pair i (size M)) (pair (size M) 0)
-                    (λ k _ z. let d = pair_false (size M) 0 k z in none_of i (size M) k (λ c. d.0 (c ∙ (let q : i ≡ size M = omega arith in q))) d.0) (apart f 0 l some)
+                    (λ k _ z. let d = pair_false (size M) 0 k z in
+                    none_of i (size M) k (λ c. d.0 (c ∙ (let q : i ≡ size M = omega arith in q))) d.0) (apart f 0 l some)
               ]))
         ]) i j
       where
@@ -108,11 +110,13 @@ module _ (M : Rep) (v : List ℕ) where
         let n : size (followed_by M v) ≡ suc (size M) = size_followed M v in
         elim (cases_lt j (size M)) [
           | inl b ↦ sym (new_before (members (mask (size M) S)) j b ∙ members-mask (size M) S j b)
-          | inr g ↦ (let e : j ≡ size M = omega arith in ap S e ∙ t ∙ sym (new_last (members (mask (size M) S))) ∙ ap (with_new M (members (mask (size M) S))) (sym e))
+          | inr g ↦ (let e : j ≡ size M = omega arith in ap S e ∙ t ∙ sym (new_last (members (mask (size M) S)))
+              ∙ ap (with_new M (members (mask (size M) S))) (sym e))
         ]
 
     -- a basis of one factor with the new column is one of each
-    with_new_same : IsAlikeWith → (f g : ℕ) → f < count M → g < count M → (S : ℕ → Bool) → S (size M) ≡ true → IsBasis (followed_by M v) f S → IsBasis (followed_by M v) g S
+    with_new_same : IsAlikeWith → (f g : ℕ) → f < count M → g < count M → (S : ℕ → Bool) → S (size M) ≡ true →
+        IsBasis (followed_by M v) f S → IsBasis (followed_by M v) g S
     with_new_same h f g l m S t b =
         let X : ℕ = mask (size M) S in
         let full : size_below (size M) (members X) + 1 ≡ M.rank = (
@@ -125,16 +129,21 @@ module _ (M : Rep) (v : List ℕ) where
         }
       where
         there : (f : ℕ) → IsIndependentIn (followed_by M v) f S → IsIndependentIn (followed_by M v) f (with_new M (members (mask (size M) S)))
-        there f = IsIndependent-same (order M f) M.rank (size (followed_by M v)) (matrix (followed_by M v) f) S (with_new M (members (mask (size M) S))) (by_mask S t)
+        there f = IsIndependent-same (order M f) M.rank (size (followed_by M v)) (matrix (followed_by M v) f) S
+            (with_new M (members (mask (size M) S))) (by_mask S t)
 
         back : (f : ℕ) → IsIndependentIn (followed_by M v) f (with_new M (members (mask (size M) S))) → IsIndependentIn (followed_by M v) f S
-        back f = IsIndependent-same (order M f) M.rank (size (followed_by M v)) (matrix (followed_by M v) f) (with_new M (members (mask (size M) S))) S (λ j l. sym (by_mask S t j l))
+        back f = IsIndependent-same (order M f) M.rank (size (followed_by M v)) (matrix (followed_by M v) f)
+            (with_new M (members (mask (size M) S))) S (λ j l. sym (by_mask S t j l))
 
     pub agrees_followed : Agrees M → IsAlikeWith → Agrees (followed_by M v)
     agrees_followed a h = record {
       some = λ f l. (
-          let (S, b) = a.some f l in
-          (but (size M) S, basis_in_whole M v shaped f l (but (size M) S) (but_own (size M) S) (IsBasis-same M f S (but (size M) S) (λ j o. sym (but_other (size M) S j (λ e. absurd (omega arith)))) b)));
+          let (S, b) = a.some f l in (
+            but (size M) S,
+            basis_in_whole M v shaped f l (but (size M) S) (but_own (size M) S)
+                (IsBasis-same M f S (but (size M) S) (λ j o. sym (but_other (size M) S j (λ e. absurd (omega arith)))) b),
+          ));
       same = λ f g l m S b. elim (cases_Bool (S (size M))) [
         | inl t ↦ with_new_same h f g l m S t b
         | inr e ↦ basis_in_whole M v shaped g m S e (a.same f g l m S (basis_in_part M v shaped f l S e b))
@@ -144,19 +153,24 @@ module _ (M : Rep) (v : List ℕ) where
     pub alike_of_agrees : Agrees (followed_by M v) → IsAlikeWith
     alike_of_agrees a X f l e m = (step 0 f pos m, step f 0 m pos)
       where
-        step : (f g : ℕ) → f < count M → g < count M → IsIndependentIn (followed_by M v) f (with_new M (members X)) → IsIndependentIn (followed_by M v) g (with_new M (members X))
+        step : (f g : ℕ) → f < count M → g < count M → IsIndependentIn (followed_by M v) f (with_new M (members X)) →
+            IsIndependentIn (followed_by M v) g (with_new M (members X))
         step f g l m d = (let b = a.same f g l m (with_new M (members X)) (record { full = size_new (members X) ∙ e; independent = d }) in b.independent)
 
     -- for one factor, nothing is to be seen
     pub alike_of_one : count M ≡ 1 → IsAlikeWith
-    alike_of_one e X f l k m = (let z : 0 ≡ f = omega arith in subst (λ (f : ℕ). IsIndependentIn (followed_by M v) 0 (with_new M (members X)) ↔ IsIndependentIn (followed_by M v) f (with_new M (members X))) z (λ d. d, λ d. d))
+    alike_of_one e X f l k m =
+        (let z : 0 ≡ f = omega arith in
+        subst (λ (f : ℕ). IsIndependentIn (followed_by M v) 0 (with_new M (members X)) ↔ IsIndependentIn (followed_by M v) f
+        (with_new M (members X))) z (λ d. d, λ d. d))
 
 -- ---- when the column is admissible
 
 pub followed_shaped : (M : Rep) (v : List ℕ) → KeepsLimits M → IsNormalised M.factors M.rank v → IsShaped (followed_by M v)
 followed_shaped M v r n = shaped_pushed M v r.shaped n.is_column
 
-pub admissible : (M : Rep) (v : List ℕ) → KeepsLimits M → IsStandard M → IsSimple M → Agrees M → IsNormalised M.factors M.rank v → IsApart M v → IsAlikeWith M v → IsAdmissible M v
+pub admissible : (M : Rep) (v : List ℕ) → KeepsLimits M → IsStandard M → IsSimple M → Agrees M → IsNormalised M.factors M.rank v →
+    IsApart M v → IsAlikeWith M v → IsAdmissible M v
 admissible M v r s simple agrees n apart alike = record {
   normalised = n;
   simple = simple_followed M v r.shaped (let a : 0 < M.rank = r.rank_positive in let b : M.rank ≤ size M = s.room in omega arith) simple apart;

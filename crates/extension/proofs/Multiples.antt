@@ -21,7 +21,8 @@ module _ (q : ℕ) (F : IsField q) where
     outside_pair k a b i = (other_number k n a i) || (other_number k j b i)
 
     -- a combination of the two has two terms
-    two_terms : (a : ℕ → ℕ) → AreCoefficients q (suc n) (pair n j) a → (i : ℕ) → combination q (suc n) A a i ≡ plus q (times q (A i j) (a j)) (times q (A i n) (a n))
+    two_terms : (a : ℕ → ℕ) → AreCoefficients q (suc n) (pair n j) a → (i : ℕ) →
+        combination q (suc n) A a i ≡ plus q (times q (A i j) (a j)) (times q (A i n) (a n))
     two_terms a c i = ap (λ s. plus q s (times q (A i n) (a n))) (sum_one q F n j (λ k. times q (A i k) (a k)) l (F.times_below (A i j) (a j))
         (λ k m ne. ap (times q (A i k)) (c.outside k (omega arith) (outside_pair k (λ e. absurd (omega arith)) ne)) ∙ times_zero q F (A i k)))
 
@@ -50,7 +51,8 @@ module _ (q : ℕ) (F : IsField q) where
           | inr b ↦ subst (λ (x : ℕ). x < q) (sym (at_other c k a b)) (zero_below q F)
         ]
       ];
-      outside = λ k _ o. at_other c k (λ e. true≢false (sym (ap (λ b. b || (k == j)) (ap (λ x. x == n) e ∙ same_number n)) ∙ o)) (λ e. true≢false (sym (right (k == n) (k == j) (ap (λ x. x == j) e ∙ same_number j)) ∙ o));
+      outside = λ k _ o. at_other c k (λ e. true≢false (sym (ap (λ b. b || (k == j)) (ap (λ x. x == n) e ∙ same_number n)) ∙ o))
+          (λ e. true≢false (sym (right (k == n) (k == j) (ap (λ x. x == j) e ∙ same_number j)) ∙ o));
     }
       where
         right : (a b : Bool) → b ≡ true → (a || b) ≡ true
@@ -67,10 +69,12 @@ module _ (q : ℕ) (F : IsField q) where
         zero i m =
             two_terms (coefficient c) (are_coefficients c) i
             ∙ (λ t. plus q (times q (h i m t) (at_old c t)) (times q (A i n) (at_new c t)))
-            ∙ ap (λ x. plus q x (times q (A i n) (negative q c))) (F.times_comm (times q c (A i n)) 1 ∙ F.times_one (times q c (A i n)) (F.times_below c (A i n)) ∙ F.times_comm c (A i n))
+            ∙ ap (λ x. plus q x (times q (A i n) (negative q c)))
+            (F.times_comm (times q c (A i n)) 1 ∙ F.times_one (times q c (A i n)) (F.times_below c (A i n)) ∙ F.times_comm c (A i n))
             ∙ sym (F.times_plus (A i n) c (negative q c)) ∙ ap (times q (A i n)) (F.plus_negative c) ∙ times_zero q F (A i n)
 
-    pub apart_independent : (lead : ℕ) → lead < r → A lead n ≡ 1 → ((i : ℕ) → i < r → A i j < q) → ¬ ((i : ℕ) → i < r → A i j ≡ times q (A lead j) (A i n)) → IsIndependent q r (suc n) A (pair n j)
+    pub apart_independent : (lead : ℕ) → lead < r → A lead n ≡ 1 → ((i : ℕ) → i < r → A i j < q) →
+        ¬ ((i : ℕ) → i < r → A i j ≡ times q (A lead j) (A i n)) → IsIndependent q r (suc n) A (pair n j)
     apart_independent lead b one codes h = record {
       only_zero = λ a c z k m.
           elim (cases_eq (a j) 0) [
@@ -89,17 +93,25 @@ module _ (q : ℕ) (F : IsField q) where
         new_zero : (a : ℕ → ℕ) → AreCoefficients q (suc n) (pair n j) a → ((i : ℕ) → i < r → combination q (suc n) A a i ≡ 0) → a j ≡ 0 → a n ≡ 0
         new_zero a c z e =
             let m : a n < q = c.codes n (omega arith) in
-            sym (F.plus_zero (a n) m) ∙ (λ t. plus q (sym (ap (times q (A lead j)) e ∙ times_zero q F (A lead j)) t) (sym (at_lead (a n) m) t)) ∙ sym (two_terms a c lead) ∙ z lead b
+            sym (F.plus_zero (a n) m)
+            ∙ (λ t. plus q (sym (ap (times q (A lead j)) e ∙ times_zero q F (A lead j)) t) (sym (at_lead (a n) m) t))
+            ∙ sym (two_terms a c lead) ∙ z lead b
 
-        multiple : (a : ℕ → ℕ) → AreCoefficients q (suc n) (pair n j) a → ((i : ℕ) → i < r → combination q (suc n) A a i ≡ 0) → a j ≢ 0 → (i : ℕ) → i < r → A i j ≡ times q (A lead j) (A i n)
+        multiple : (a : ℕ → ℕ) → AreCoefficients q (suc n) (pair n j) a → ((i : ℕ) → i < r → combination q (suc n) A a i ≡ 0) →
+            a j ≢ 0 → (i : ℕ) → i < r → A i j ≡ times q (A lead j) (A i n)
         multiple a c z ne i m =
             let x : a j < q = c.codes j (omega arith) in
             let y : a n < q = c.codes n (omega arith) in
             let k : ℕ = times q (A i n) (a n) in
             -- y times the new column, and x times the old one, both make 0 with it
             let s : plus q k (times q (A i j) (a j)) ≡ 0 = F.plus_comm k (times q (A i j) (a j)) ∙ sym (two_terms a c i) ∙ z i m in
-            let t : plus q (a n) (times q (A lead j) (a j)) ≡ 0 = F.plus_comm (a n) (times q (A lead j) (a j)) ∙ (λ u. plus q (times q (A lead j) (a j)) (sym (at_lead (a n) y) u)) ∙ sym (two_terms a c lead) ∙ z lead b in
-            let w : plus q k (times q (A i n) (times q (A lead j) (a j))) ≡ 0 = sym (F.times_plus (A i n) (a n) (times q (A lead j) (a j))) ∙ ap (times q (A i n)) t ∙ times_zero q F (A i n) in
-            let e : times q (A i j) (a j) ≡ times q (A i n) (times q (A lead j) (a j)) = plus_cancel q F k (times q (A i j) (a j)) (times q (A i n) (times q (A lead j) (a j))) (F.times_below (A i j) (a j)) (F.times_below (A i n) (times q (A lead j) (a j))) (s ∙ sym w) in
+            let t : plus q (a n) (times q (A lead j) (a j)) ≡ 0 = F.plus_comm (a n) (times q (A lead j) (a j))
+            ∙ (λ u. plus q (times q (A lead j) (a j)) (sym (at_lead (a n) y) u)) ∙ sym (two_terms a c lead) ∙ z lead b in
+            let w : plus q k (times q (A i n) (times q (A lead j) (a j))) ≡ 0 =
+            sym (F.times_plus (A i n) (a n) (times q (A lead j) (a j))) ∙ ap (times q (A i n)) t ∙ times_zero q F (A i n) in
+            let e : times q (A i j) (a j) ≡ times q (A i n) (times q (A lead j) (a j)) = plus_cancel q F k (times q (A i j) (a j))
+            (times q (A i n) (times q (A lead j) (a j))) (F.times_below (A i j) (a j))
+            (F.times_below (A i n) (times q (A lead j) (a j))) (s ∙ sym w) in
             times_cancel (a j) (A i j) (times q (A lead j) (A i n)) x ne (codes i m) (F.times_below (A lead j) (A i n))
-            (F.times_comm (a j) (A i j) ∙ e ∙ F.times_comm (A i n) (times q (A lead j) (a j)) ∙ ap (λ u. times q u (A i n)) (F.times_comm (A lead j) (a j)) ∙ F.times_assoc (a j) (A lead j) (A i n))
+            (F.times_comm (a j) (A i j) ∙ e ∙ F.times_comm (A i n) (times q (A lead j) (a j))
+            ∙ ap (λ u. times q u (A i n)) (F.times_comm (A lead j) (a j)) ∙ F.times_assoc (a j) (A lead j) (A i n))

@@ -67,7 +67,8 @@ module _ (factors : List ℕ) (fs : IsFactors factors) (rank : ℕ) where
   ]
 
   -- the lead of a normalised column
-  pub lead_of : (v : List ℕ) (lead : ℕ) → IsNormalised factors rank v → IsLead count rank v lead → (lead < rank) × ((f : ℕ) → f < count → slice_index v (lead * count + f) ≡ 1)
+  pub lead_of : (v : List ℕ) (lead : ℕ) → IsNormalised factors rank v → IsLead count rank v lead →
+      (lead < rank) × ((f : ℕ) → f < count → slice_index v (lead * count + f) ≡ 1)
   lead_of v lead n h = elim (cases_lt lead rank) [
     | inl b ↦ (b, (let x = has_lead v lead (inr n) h in x.ones b))
     | inr g ↦ (let m : lead ≤ rank = h.most in let l : n.lead < rank = n.lead_below in
@@ -91,7 +92,9 @@ module _ (factors : List ℕ) (fs : IsFactors factors) (rank : ℕ) where
   }
 
   -- where no place from m on can rise, a normalised column that agrees before m is nowhere above
-  at_most : (v w : List ℕ) (lead m : ℕ) → HasLead lead v → IsNormalised factors rank w → ((p : ℕ) → m ≤ p → p < rank * count → ¬ (CanRise factors lead v p)) → ((p : ℕ) → p < m → slice_index v p ≡ slice_index w p) → (p : ℕ) → p < rank * count → slice_index w p ≤ slice_index v p
+  at_most : (v w : List ℕ) (lead m : ℕ) → HasLead lead v → IsNormalised factors rank w →
+      ((p : ℕ) → m ≤ p → p < rank * count → ¬ (CanRise factors lead v p)) → ((p : ℕ) → p < m → slice_index v p ≡ slice_index w p) →
+      (p : ℕ) → p < rank * count → slice_index w p ≤ slice_index v p
   at_most v w lead m h n none same p l =
       elim (cases_lt p m) [
         | inl b ↦ (let e : slice_index v p ≡ slice_index w p = same p b in omega arith)
@@ -102,7 +105,8 @@ module _ (factors : List ℕ) (fs : IsFactors factors) (rank : ℕ) where
             | inr nz ↦ elim (cases_lt (slice_index v p + 1) (slice_index factors (p % count))) [
               | inl b ↦ absurd (none p g l (record { apart = ne; first = λ z. absurd (nz z); below = λ _. b }))
               | inr k ↦ (let c : IsProductColumn factors rank w = n.is_column in
-                  let o : slice_index w p < slice_index factors (p % count) = subst (λ (x : ℕ). x < slice_index factors (p % count)) (at_place w p) (c.codes (p / count) (p % count) row (factor_below p)) in omega arith)
+                  let o : slice_index w p < slice_index factors (p % count) = subst (λ (x : ℕ). x < slice_index factors (p % count))
+                  (at_place w p) (c.codes (p / count) (p % count) row (factor_below p)) in omega arith)
             ]
           ]
         ]
@@ -114,12 +118,14 @@ module _ (factors : List ℕ) (fs : IsFactors factors) (rank : ℕ) where
       zero_row : (i : ℕ) → i < rank → i ≢ lead → slice_index v (i * count) ≡ 0 → slice_index w (i * count) ≡ 0
       zero_row i r ne z = elim (cases_lt (i * count) m) [
         | inl b ↦ sym (same (i * count) b) ∙ z
-        | inr g ↦ absurd (none (i * count) g (let k : i * count + 0 < rank * count = row_before i rank count 0 r fs.some in omega arith) (row_rises v lead i ne z))
+        | inr g ↦ absurd (none (i * count) g
+            (let k : i * count + 0 < rank * count = row_before i rank count 0 r fs.some in omega arith) (row_rises v lead i ne z))
       ]
 
       in_zero_row : p / count ≢ lead → slice_index v p ≡ 0 → slice_index w p ≡ 0
       in_zero_row ne z =
-          let a : slice_index v (p / count * count) ≡ 0 = ap (slice_index v) (row_place (p / count)) ∙ h.support (p / count) (p % count) 0 row (factor_below p) fs.some (at_place v p ∙ z) in
+          let a : slice_index v (p / count * count) ≡ 0 = ap (slice_index v) (row_place (p / count))
+          ∙ h.support (p / count) (p % count) 0 row (factor_below p) fs.some (at_place v p ∙ z) in
           let b : slice_index w (p / count * count) ≡ 0 = zero_row (p / count) row ne a in
           sym (at_place w p) ∙ n.support (p / count) 0 (p % count) row fs.some (factor_below p) (ap (slice_index w) (sym (row_place (p / count))) ∙ b)
 
@@ -128,24 +134,28 @@ module _ (factors : List ℕ) (fs : IsFactors factors) (rank : ℕ) where
           let r : lead < rank = subst (λ (x : ℕ). x < rank) e row in
           let o : slice_index v p ≡ 1 = sym (at_place v p) ∙ ap (λ x. slice_index v (x * count + p % count)) e ∙ h.ones r (p % count) (factor_below p) in
           elim (cases_lt n.lead lead) [
-            | inl b ↦ (let z : slice_index w (n.lead * count) ≡ 0 = zero_row n.lead n.lead_below (λ e. absurd (omega arith)) (ap (slice_index v) (row_place n.lead) ∙ h.zeros n.lead 0 b fs.some) in
+            | inl b ↦ (let z : slice_index w (n.lead * count) ≡ 0 = zero_row n.lead n.lead_below (λ e. absurd (omega arith))
+                (ap (slice_index v) (row_place n.lead) ∙ h.zeros n.lead 0 b fs.some) in
                 let k : slice_index w (n.lead * count) ≡ 1 = ap (slice_index w) (row_place n.lead) ∙ n.ones 0 fs.some in absurd (omega arith))
             | inr g ↦ elim (cases_lt lead n.lead) [
               | inl b ↦ (let z : slice_index w p ≡ 0 = sym (at_place w p) ∙ n.zeros (p / count) (p % count) (omega arith) (factor_below p) in omega arith)
               | inr k ↦ (let s : p / count ≡ n.lead = omega arith in
-                  let z : slice_index w p ≡ 1 = sym (at_place w p) ∙ ap (λ x. slice_index w (x * count + p % count)) s ∙ n.ones (p % count) (factor_below p) in omega arith)
+                  let z : slice_index w p ≡ 1 = sym (at_place w p) ∙ ap (λ x. slice_index w (x * count + p % count)) s
+                  ∙ n.ones (p % count) (factor_below p) in omega arith)
             ]
           ]
 
   -- after the place that rises, the raised column is nowhere above a normalised column that isn't 0 at the place
-  at_least : (v s w : List ℕ) (k : ℕ) → k < rank * count → IsRaised count (rank * count) k v s → IsNormalised factors rank w → slice_index w k ≢ 0 → (p : ℕ) → k < p → p < rank * count → slice_index s p ≤ slice_index w p
+  at_least : (v s w : List ℕ) (k : ℕ) → k < rank * count → IsRaised count (rank * count) k v s → IsNormalised factors rank w →
+      slice_index w k ≢ 0 → (p : ℕ) → k < p → p < rank * count → slice_index s p ≤ slice_index w p
   at_least v s w k below r n nz p l m =
       elim (cases_eq (p / count) (k / count)) [
         | inr ne ↦ (let z : slice_index s p ≡ 0 = r.later_rows p l m ne in omega arith)
         | inl e ↦ (let o : slice_index s p ≡ 1 = r.in_row p l m e in
             elim (cases_eq (slice_index w p) 0) [
               | inr k ↦ omega arith
-              | inl z ↦ absurd (nz (sym (at_place w k) ∙ n.support (k / count) (p % count) (k % count) (row_below k count rank fs.some below) (factor_below p) (factor_below k)
+              | inl z ↦ absurd (nz (sym (at_place w k)
+                  ∙ n.support (k / count) (p % count) (k % count) (row_below k count rank fs.some below) (factor_below p) (factor_below k)
                   (ap (λ x. slice_index w (x * count + p % count)) (sym e) ∙ at_place w p ∙ z)))
             ])
       ]
@@ -163,7 +173,8 @@ module _ (factors : List ℕ) (fs : IsFactors factors) (rank : ℕ) where
     split = whole k count fs.some
 
     earlier_row : (i f : ℕ) → i < row → f < count → slice_index s (i * count + f) ≡ slice_index v (i * count + f)
-    earlier_row i f l m = r.before (i * count + f) (let b : i * count + f < row * count = row_before i row count f l m in let e : row * count + k % count ≡ k = split in omega arith)
+    earlier_row i f l m = r.before (i * count + f)
+        (let b : i * count + f < row * count = row_before i row count f l m in let e : row * count + k % count ≡ k = split in omega arith)
 
     later_row : (i f : ℕ) → row < i → i < rank → f < count → slice_index s (i * count + f) ≡ 0
     later_row i f l m o =
@@ -173,7 +184,9 @@ module _ (factors : List ℕ) (fs : IsFactors factors) (rank : ℕ) where
         r.later_rows (i * count + f) (omega arith) w (λ c. let d : i ≡ row = sym (div-mul-add i count f o) ∙ c in absurd (omega arith))
 
     -- the codes of the row: those before the place, at the place and after it
-    own_row : (f : ℕ) → f < count → ((f < k % count) × (slice_index s (row * count + f) ≡ slice_index v (row * count + f))) ⊎ (((f ≡ k % count) × (slice_index s (row * count + f) ≡ slice_index v k + 1)) ⊎ (slice_index s (row * count + f) ≡ 1))
+    own_row : (f : ℕ) → f < count →
+        ((f < k % count) × (slice_index s (row * count + f) ≡ slice_index v (row * count + f)))
+        ⊎ (((f ≡ k % count) × (slice_index s (row * count + f) ≡ slice_index v k + 1)) ⊎ (slice_index s (row * count + f) ≡ 1))
     own_row f l =
         let e : row * count + k % count ≡ k = split in
         elim (cases_lt f (k % count)) [
@@ -206,7 +219,8 @@ module _ (factors : List ℕ) (fs : IsFactors factors) (rank : ℕ) where
         in_row f m = elim (own_row f m) [
           | inl w ↦ subst (λ (x : ℕ). x < slice_index factors f) (sym w.1) (h.below row f row_rank m)
           | inr o ↦ elim o [
-            | inl w ↦ subst (λ (x : ℕ). x < slice_index factors f) (sym w.1) (subst (λ (g : ℕ). slice_index v k + 1 < slice_index factors g) (sym w.0) new_below)
+            | inl w ↦ subst (λ (x : ℕ). x < slice_index factors f) (sym w.1)
+                (subst (λ (g : ℕ). slice_index v k + 1 < slice_index factors g) (sym w.0) new_below)
             | inr w ↦ (let t : 1 < slice_index factors f = two f m in omega arith)
           ]
         ]
@@ -243,7 +257,8 @@ module _ (factors : List ℕ) (fs : IsFactors factors) (rank : ℕ) where
     new_lead l f m =
         let z : slice_index v k ≡ 0 = sym (at_place v k) ∙ h.zeros row (k % count) l (factor_below k) in
         elim (own_row f m) [
-          | inl w ↦ (let c : CanRise factors lead v k = last.can_rise in let d : k % count ≡ 0 = c.first z in let o : f < k % count = w.0 in absurd (omega arith))
+          | inl w ↦ (let c : CanRise factors lead v k = last.can_rise in let d : k % count ≡ 0 = c.first z in
+              let o : f < k % count = w.0 in absurd (omega arith))
           | inr o ↦ elim o [
             | inl w ↦ (let a : slice_index s (row * count + f) ≡ slice_index v k + 1 = w.1 in omega arith)
             | inr w ↦ w
@@ -297,7 +312,8 @@ module _ (factors : List ℕ) (fs : IsFactors factors) (rank : ℕ) where
     | inl e ↦ subst (λ (v : List ℕ). (d : ℕ) × DiffersAt v w d) (sym e) (
       n.lead * count,
       record {
-        place_below = (let b : n.lead * count + 0 < rank * count = row_before n.lead rank count 0 n.lead_below fs.some in let k : length w ≡ rank * count = normalised_length w n in omega arith);
+        place_below = (let b : n.lead * count + 0 < rank * count = row_before n.lead rank count 0 n.lead_below fs.some in
+            let k : length w ≡ rank * count = normalised_length w n in omega arith);
         before = λ p m. sym (sym (at_place w p) ∙ n.zeros (p / count) (p % count) (row_below p count n.lead fs.some m) (factor_below p));
         lower = (let o : slice_index w (n.lead * count) ≡ 1 = ap (slice_index w) (row_place n.lead) ∙ n.ones 0 fs.some in omega arith);
       },
@@ -305,14 +321,18 @@ module _ (factors : List ℕ) (fs : IsFactors factors) (rank : ℕ) where
   ]
 
   -- no column comes after one where no place can rise
-  pub last_normalised : (v : List ℕ) (lead : ℕ) → IsStart factors rank v → IsLead count rank v lead → ((p : ℕ) → p < rank * count → ¬ (CanRise factors lead v p)) → IsLastNormalised factors rank v
+  pub last_normalised : (v : List ℕ) (lead : ℕ) → IsStart factors rank v → IsLead count rank v lead →
+      ((p : ℕ) → p < rank * count → ¬ (CanRise factors lead v p)) → IsLastNormalised factors rank v
   last_normalised v lead s h none w n l =
       let (d, x) = start_difference v w s n l in
-      let a : slice_index w d ≤ slice_index v d = at_most v w lead 0 (has_lead v lead s h) n (λ p _. none p) (λ p m. absurd (omega arith)) d (let b : d < length w = x.place_below in let k : length w ≡ rank * count = normalised_length w n in omega arith) in
+      let a : slice_index w d ≤ slice_index v d = at_most v w lead 0 (has_lead v lead s h) n (λ p _. none p)
+      (λ p m. absurd (omega arith)) d
+      (let b : d < length w = x.place_below in let k : length w ≡ rank * count = normalised_length w n in omega arith) in
       let b : slice_index v d < slice_index w d = x.lower in
       omega arith
 
-  pub next_normalised : (v s : List ℕ) (lead k : ℕ) → IsStart factors rank v → IsLead count rank v lead → IsLastRise factors (rank * count) lead v k → IsRaised count (rank * count) k v s → IsNextNormalised factors rank v s
+  pub next_normalised : (v s : List ℕ) (lead k : ℕ) → IsStart factors rank v → IsLead count rank v lead →
+      IsLastRise factors (rank * count) lead v k → IsRaised count (rank * count) k v s → IsNextNormalised factors rank v s
   next_normalised v s lead k start h last r = record {
     normalised = raised_normalised v s lead k (has_lead v lead start h) last r;
     after = differing_less k v s (elim start [ inl e ↦ inl (ap (λ (xs : List ℕ). length xs) e) | inr m ↦ inr (normalised_length v m ∙ sym r.rows) ]) (record {
@@ -334,7 +354,8 @@ module _ (factors : List ℕ) (fs : IsFactors factors) (rank : ℕ) where
               let f : Less ≡ Greater = sym e ∙ g in cc)
           | inr c ↦ elim (cases_lt k d) [
             | inl t ↦ (
-                let a : slice_index w d ≤ slice_index v d = at_most v w lead (k + 1) (has_lead v lead start h) n (λ p y. last.last p (omega arith)) (λ p y. x.before p (omega arith)) d (omega arith) in
+                let a : slice_index w d ≤ slice_index v d = at_most v w lead (k + 1) (has_lead v lead start h) n
+                (λ p y. last.last p (omega arith)) (λ p y. x.before p (omega arith)) d (omega arith) in
                 let y : slice_index v d < slice_index w d = x.lower in
                 absurd (omega arith))
             | inr t ↦ (
@@ -351,7 +372,10 @@ module _ (factors : List ℕ) (fs : IsFactors factors) (rank : ℕ) where
           elim (cases_lt p k) [
             | inl b ↦ (let z : slice_index s p ≡ slice_index w p = r.before p b ∙ x.before p b in omega arith)
             | inr c ↦ elim (cases_lt k p) [
-              | inl b ↦ at_least v s w k last.place_below r n (λ z. absurd (omega arith)) p b (let m : length w ≡ rank * count = normalised_length w n in omega arith)
-              | inr b ↦ (let z : k ≡ p = omega arith in subst (λ (z : ℕ). slice_index s z ≤ slice_index w z) z (let q : slice_index v k + 1 ≤ slice_index w k = omega arith in subst (λ (u : ℕ). u ≤ slice_index w k) (sym e) q))
+              | inl b ↦ at_least v s w k last.place_below r n (λ z. absurd (omega arith)) p b
+                  (let m : length w ≡ rank * count = normalised_length w n in omega arith)
+              | inr b ↦ (let z : k ≡ p = omega arith in
+                  subst (λ (z : ℕ). slice_index s z ≤ slice_index w z) z
+                  (let q : slice_index v k + 1 ≤ slice_index w k = omega arith in subst (λ (u : ℕ). u ≤ slice_index w k) (sym e) q))
             ]
           ]

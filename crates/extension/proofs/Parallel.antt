@@ -15,18 +15,22 @@ use Rattle.extension.proofs.Multiples.{multiple_dependent, apart_independent}
 
 -- a column of one factor, in a list
 column_at : (M : Rep) (f j i : ℕ) (w : List ℕ) → w ≡ column_of M f j → i < M.rank → slice_index w i ≡ matrix M f i j
-column_at M f j i w e l = ap (λ (xs : List ℕ). slice_index xs i) e ∙ get_or-map-range_with_len (λ i. matrix M f i j) 0 M.rank i i 0 l (let e : 0 + i ≡ i = omega arith in e)
+column_at M f j i w e l = ap (λ (xs : List ℕ). slice_index xs i) e
+    ∙ get_or-map-range_with_len (λ i. matrix M f i j) 0 M.rank i i 0 l (let e : 0 + i ≡ i = omega arith in e)
 
 column_rows : (M : Rep) (f j : ℕ) (w : List ℕ) → w ≡ column_of M f j → length w ≡ M.rank
 column_rows M f j w e = ap (λ (xs : List ℕ). length xs) e ∙ length-map-range_with_len (λ i. matrix M f i j) 0 M.rank
 
-column_is : (M : Rep) → KeepsLimits M → (f j : ℕ) → f < count M → j < size M → (q : ℕ) → q ≡ order M f → (w : List ℕ) → w ≡ column_of M f j → IsColumn q M.rank w
+column_is : (M : Rep) → KeepsLimits M → (f j : ℕ) → f < count M → j < size M → (q : ℕ) → q ≡ order M f → (w : List ℕ) →
+    w ≡ column_of M f j → IsColumn q M.rank w
 column_is M r f j l m q d w e = record {
   rows = column_rows M f j w e;
-  below = λ i o. subst (λ (q : ℕ). slice_index w i < q) (sym d) (subst (λ (x : ℕ). x < order M f) (sym (column_at M f j i w e o)) (let s = r.shaped in s.codes f i j l o m));
+  below = λ i o. subst (λ (q : ℕ). slice_index w i < q) (sym d)
+      (subst (λ (x : ℕ). x < order M f) (sym (column_at M f j i w e o)) (let s = r.shaped in s.codes f i j l o m));
 }
 
-module _ (M : Rep) (v : List ℕ) (r : KeepsLimits M) (room : size M < 16) (c : IsProductColumn M.factors M.rank v) (f : ℕ) (l : f < count M) (q : ℕ) (d : q ≡ order M f) (new : List ℕ) (p : new ≡ column_of (followed_by M v) f (size M)) where
+module _ (M : Rep) (v : List ℕ) (r : KeepsLimits M) (room : size M < 16) (c : IsProductColumn M.factors M.rank v) (f : ℕ)
+    (l : f < count M) (q : ℕ) (d : q ≡ order M f) (new : List ℕ) (p : new ≡ column_of (followed_by M v) f (size M)) where
   whole : KeepsLimits (followed_by M v)
   whole = rep_followed M v r room c
 

@@ -32,7 +32,8 @@ digit_less x y n v w l m = let h : suc x * n ≤ y * n = mul-le-mul (let k : suc
 
 pub value_below : (xs : List ℕ) → AreDigits xs → value xs < 13 ^ length xs
 value_below [] h = lit< tt
-value_below (x ∷ xs) h = subst (λ (n : ℕ). x * 13 ^ length xs + value xs < n) (sym (pow-succ' 13 (length xs))) (digit_below x (13 ^ length xs) (value xs) (h 0 (omega arith)) (value_below xs (rest_digits x xs h)))
+value_below (x ∷ xs) h = subst (λ (n : ℕ). x * 13 ^ length xs + value xs < n) (sym (pow-succ' 13 (length xs)))
+    (digit_below x (13 ^ length xs) (value xs) (h 0 (omega arith)) (value_below xs (rest_digits x xs h)))
 
 value_less : (xs ys : List ℕ) → AreDigits xs → length xs ≡ length ys → slice_cmp nat_cmp xs ys ≡ Less → value xs < value ys
 value_less [] [] h e l = cc
@@ -42,7 +43,8 @@ value_less (x ∷ xs) (y ∷ ys) h e l =
     let m : length xs ≡ length ys = omega arith in
     let n : 13 ^ length xs ≡ 13 ^ length ys = ap (λ k. 13 ^ k) m in
     by_ranked (x < y) (x ≡ y) (y < x) (nat_cmp x y) (ranked x y (nat_cmp x y) refl)
-    (λ _ b. subst (λ (k : ℕ). x * 13 ^ length xs + value xs < y * k + value ys) n (digit_less x y (13 ^ length xs) (value xs) (value ys) b (value_below xs (rest_digits x xs h))))
+    (λ _ b. subst (λ (k : ℕ). x * 13 ^ length xs + value xs < y * k + value ys) n
+    (digit_less x y (13 ^ length xs) (value xs) (value ys) b (value_below xs (rest_digits x xs h))))
     (λ o s. let k : value xs < value ys = value_less xs ys (rest_digits x xs h) m (sym (ap (λ o. ordering_then o (slice_cmp nat_cmp xs ys)) o) ∙ l) in
     let t : x * 13 ^ length xs ≡ y * 13 ^ length ys = (λ i. s i * n i) in omega arith)
     (λ o _. let k : Greater ≡ Less = sym (ap (λ o. ordering_then o (slice_cmp nat_cmp xs ys)) o) ∙ l in cc)
@@ -73,7 +75,8 @@ module _ (factors : List ℕ) (fs : IsFactors factors) (rank : ℕ) (low : rank 
       let below : p < rank * length factors = (let e : length v ≡ rank * length factors = c.rows in omega arith) in
       let f : p % length factors < length factors = omega arith in
       let m : slice_index factors (p % length factors) ≤ 13 = order_most (slice_index factors (p % length factors)) (fs.fields (p % length factors) f) in
-      let o : slice_index v p < slice_index factors (p % length factors) = subst (λ (q : ℕ). slice_index v q < slice_index factors (p % length factors)) (whole p (length factors) some)
+      let o : slice_index v p < slice_index factors (p % length factors) =
+      subst (λ (q : ℕ). slice_index v q < slice_index factors (p % length factors)) (whole p (length factors) some)
       (c.codes (p / length factors) (p % length factors) (row_below p (length factors) rank some below) f) in
       omega arith
 
@@ -97,7 +100,10 @@ module _ (factors : List ℕ) (fs : IsFactors factors) (rank : ℕ) (low : rank 
   pub value_rises : (u v : List ℕ) → IsStart factors rank u → IsNormalised factors rank v → slice_cmp nat_cmp u v ≡ Less → value u < value v
   value_rises u v s n l = elim s [
     | inr m ↦ value_less u v (digits_of u m) (normalised_length factors fs rank u m ∙ sym (normalised_length factors fs rank v n)) l
-    | inl e ↦ subst (λ (u : List ℕ). value u < value v) (sym e) (let some : 0 < length factors = fs.some in value_positive (n.lead * length factors + 0) v (place some) (let o : slice_index v (n.lead * length factors + 0) ≡ 1 = n.ones 0 some in omega arith))
+    | inl e ↦ subst (λ (u : List ℕ). value u < value v) (sym e)
+        (let some : 0 < length factors = fs.some in
+        value_positive (n.lead * length factors + 0) v (place some)
+        (let o : slice_index v (n.lead * length factors + 0) ≡ 1 = n.ones 0 some in omega arith))
   ]
     where
       place : 0 < length factors → n.lead * length factors + 0 < length v
@@ -107,5 +113,6 @@ module _ (factors : List ℕ) (fs : IsFactors factors) (rank : ℕ) (low : rank 
           let e : length v ≡ rank * length factors = c.rows in omega arith
 
   -- so each next column is nearer to the end
-  pub nearer : (u v : List ℕ) → IsStart factors rank u → IsNormalised factors rank v → slice_cmp nat_cmp u v ≡ Less → above_values - value v < above_values - value u
+  pub nearer : (u v : List ℕ) → IsStart factors rank u → IsNormalised factors rank v → slice_cmp nat_cmp u v ≡ Less →
+      above_values - value v < above_values - value u
   nearer u v s n l = let a : value u < value v = value_rises u v s n l in let b : value v < above_values = value_most v n in omega arith

@@ -111,7 +111,8 @@ module _ (M : Rep) (numbers : List ℕ) (some : 0 < count M) where
               subst (λ (xs : List ℕ). slice_index xs (i * count M + f) < slice_index M.factors f) (sym is_column)
               (subst (λ (S : Shape). slice_index (column L' (M.rank + j)) (i * length S.factors + f) < slice_index S.factors f) (l_same M numbers w.class)
               (let s = l_shaped M numbers w.class in s.codes f i (M.rank + j) (subst (λ (S : Shape). f < length S.factors) (sym (l_same M numbers w.class)) m)
-              (subst (λ (S : Shape). i < S.rank) (sym (l_same M numbers w.class)) l) (subst (λ (S : Shape). M.rank + j < S.size) (sym (l_same M numbers w.class))
+              (subst (λ (S : Shape). i < S.rank) (sym (l_same M numbers w.class)) l)
+              (subst (λ (S : Shape). M.rank + j < S.size) (sym (l_same M numbers w.class))
               (p_below M numbers w.class j b))));
         }))
       where

@@ -21,7 +21,8 @@ use Rattle.form_search.proofs.PivotColumn.{base, pivoted, pivoted_independent, c
 module _ (q : ℕ) (F : IsField q) (r : ℕ) (A : Matrix) (t : ℕ → ℕ) (scalars : (l : ℕ) → l < r → IsScalar q (t l)) where
   -- columns with their scalars, and coefficients with them
   pub combination_factors : (n : ℕ) (c : ℕ → ℕ) (i : ℕ) → combination q n (λ i l. times q (A i l) (t l)) c i ≡ combination q n A (λ l. times q (t l) (c l)) i
-  combination_factors n c i = sum_same q F n (λ l. times q (times q (A i l) (t l)) (c l)) (λ l. times q (A i l) (times q (t l) (c l))) (λ l _. F.times_assoc (A i l) (t l) (c l))
+  combination_factors n c i = sum_same q F n (λ l. times q (times q (A i l) (t l)) (c l))
+      (λ l. times q (A i l) (times q (t l) (c l))) (λ l _. F.times_assoc (A i l) (t l) (c l))
 
   pub scaled_independent : Independent q r r A → Independent q r r (λ i l. times q (A i l) (t l))
   scaled_independent h = record {
@@ -34,7 +35,8 @@ module _ (q : ℕ) (F : IsField q) (r : ℕ) (A : Matrix) (t : ℕ → ℕ) (sca
     only_zero = λ a c z l b. zero_factor q F (inverse q (t l)) (a l) (inverse_scalar q F (t l) (scalars l b)) (c.codes l b)
         (h.only_zero (λ l. times q (inverse q (t l)) (a l)) (all_coefficients q F r r r _ (λ l _. F.times_below _ _))
         (λ i m. combination_factors r (λ l. times q (inverse q (t l)) (a l)) i
-        ∙ sum_same q F r (λ l. times q (A i l) (times q (t l) (times q (inverse q (t l)) (a l)))) (λ l. times q (A i l) (a l)) (λ l o. ap (times q (A i l)) (undone_back q F (t l) (a l) (scalars l o) (c.codes l o)))
+        ∙ sum_same q F r (λ l. times q (A i l) (times q (t l) (times q (inverse q (t l)) (a l)))) (λ l. times q (A i l) (a l))
+        (λ l o. ap (times q (A i l)) (undone_back q F (t l) (a l) (scalars l o) (c.codes l o)))
         ∙ z i m) l b);
   }
 
@@ -84,7 +86,8 @@ module _ (M : Rep) (shaped : IsShaped M) (d : Trail) (h : IsOrdered M d) (x : �
     same_pivoted : (i j : ℕ) → i < M.rank → j < M.rank → pivoted (order M f) F M.rank U p p_below (c f) (ones f l) i j ≡ V i j
     same_pivoted i j b o = elim (cases_eq j p) [
       | inl e ↦ ap (λ b. cond b (base (order M f) F M.rank U p p_below (c f) (ones f l) i) (U i j)) (ap (λ y. y == p) e ∙ same_number p)
-          ∙ combination_factors (order M f) F M.rank (λ i l. matrix M f i (d.label l)) (d.scalar f) (λ j o. row_scalars M shaped d h f j l o) M.rank (c f) i ∙ a.combined f i l b
+          ∙ combination_factors (order M f) F M.rank (λ i l. matrix M f i (d.label l)) (d.scalar f)
+          (λ j o. row_scalars M shaped d h f j l o) M.rank (c f) i ∙ a.combined f i l b
           ∙ F.times_comm (a.scale f) (matrix M f i x)
           ∙ sym (ap (V i) e ∙ (λ t. times (order M f) (matrix M f i (taken_here t)) (scalar_here f t)))
       | inr n ↦ ap (λ b. cond b (base (order M f) F M.rank U p p_below (c f) (ones f l) i) (U i j)) (other_number j p n)
@@ -100,7 +103,8 @@ module _ (M : Rep) (shaped : IsShaped M) (d : Trail) (h : IsOrdered M d) (x : �
 
   pub taken_ordered : IsOrdered M taken
   taken_ordered = record {
-    labels = exchanged_permutation p (d.place x) (size M) d.label d.place (let r = h.room in omega arith) (let w = h.labels in w.inverse_below x below) h.labels;
+    labels = exchanged_permutation p (d.place x) (size M) d.label d.place (let r = h.room in omega arith)
+        (let w = h.labels in w.inverse_below x below) h.labels;
     room = h.room;
     independent = taken_independent;
     scalar_code = λ f i l b. let t = taken_scalars f i l b in t.code;
@@ -112,19 +116,26 @@ module _ (M : Rep) (shaped : IsShaped M) (d : Trail) (h : IsOrdered M d) (x : �
       → (y : ℕ) (e : ℕ → ℕ → ℕ) → AreCoordinates M d y e → AreCoordinates M taken y (cleared M p minus e)
   taken_coordinates minus opposite y e w = record {
     codes = λ f i l b. elim (cases_eq i p) [
-      | inl o ↦ subst (λ v. v < order M f) (sym (ap (λ b. cond b (e f p) (plus (order M f) (e f i) (times (order M f) (e f p) (minus f i)))) (ap (λ y. y == p) o ∙ same_number p))) (w.codes f p l p_below)
-      | inr n ↦ subst (λ v. v < order M f) (sym (ap (λ b. cond b (e f p) (plus (order M f) (e f i) (times (order M f) (e f p) (minus f i)))) (other_number i p n))) (let F = field M shaped f l in F.plus_below _ _)
+      | inl o ↦ subst (λ v. v < order M f)
+          (sym (ap (λ b. cond b (e f p) (plus (order M f) (e f i) (times (order M f) (e f p) (minus f i))))
+          (ap (λ y. y == p) o ∙ same_number p))) (w.codes f p l p_below)
+      | inr n ↦ subst (λ v. v < order M f)
+          (sym (ap (λ b. cond b (e f p) (plus (order M f) (e f i) (times (order M f) (e f p) (minus f i)))) (other_number i p n)))
+          (let F = field M shaped f l in F.plus_below _ _)
     ];
     scale = w.scale;
     scale_code = w.scale_code;
     scale_nonzero = w.scale_nonzero;
     combined = λ f i l b.
-        sym (combination_factors (order M f) (field M shaped f l) M.rank (λ i j. matrix M f i (taken.label j)) (taken.scalar f) (λ j o. taken_scalars f j l o) M.rank (cleared M p minus e f) i)
+        sym (combination_factors (order M f) (field M shaped f l) M.rank (λ i j. matrix M f i (taken.label j)) (taken.scalar f)
+        (λ j o. taken_scalars f j l o) M.rank (cleared M p minus e f) i)
         ∙ sum_same (order M f) (field M shaped f l) M.rank (λ j. times (order M f) (V f l i j) (cleared M p minus e f j))
         (λ j. times (order M f) (pivoted (order M f) (field M shaped f l) M.rank (U f l) p p_below (c f) (ones f l) i j) (cleared M p minus e f j))
         (λ j o. ap (λ v. times (order M f) v (cleared M p minus e f j)) (sym (same_pivoted f l i j b o)))
-        ∙ cleared_combined (order M f) (field M shaped f l) M.rank (U f l) p p_below (c f) (ones f l) (minus f) (λ j o. opposite f j l o) (e f) (λ j o. w.codes f j l o) i
-        ∙ combination_factors (order M f) (field M shaped f l) M.rank (λ i j. matrix M f i (d.label j)) (d.scalar f) (λ j o. row_scalars M shaped d h f j l o) M.rank (e f) i
+        ∙ cleared_combined (order M f) (field M shaped f l) M.rank (U f l) p p_below (c f) (ones f l) (minus f)
+        (λ j o. opposite f j l o) (e f) (λ j o. w.codes f j l o) i
+        ∙ combination_factors (order M f) (field M shaped f l) M.rank (λ i j. matrix M f i (d.label j)) (d.scalar f)
+        (λ j o. row_scalars M shaped d h f j l o) M.rank (e f) i
         ∙ w.combined f i l b;
   }
 
@@ -143,7 +154,8 @@ module _ (M : Rep) (shaped : IsShaped M) (d : Trail) (h : IsOrdered M d) (p k : 
   turned_ordered = record {
     labels = exchanged_permutation p k (size M) d.label d.place (let r = h.room in omega arith) (let r = h.room in omega arith) h.labels;
     room = h.room;
-    independent = λ f l. independent_relabelled (order M f) (field M shaped f l) M.rank (λ i j. matrix M f i (d.label j)) (exchange p k) (exchange p k) (exchange_permutation p k M.rank p_below k_below) (h.independent f l);
+    independent = λ f l. independent_relabelled (order M f) (field M shaped f l) M.rank (λ i j. matrix M f i (d.label j))
+        (exchange p k) (exchange p k) (exchange_permutation p k M.rank p_below k_below) (h.independent f l);
     scalar_code = λ f i l b. h.scalar_code f (exchange p k i) l (exchange_below p k M.rank p_below k_below i b);
     scalar_nonzero = λ f i l b. h.scalar_nonzero f (exchange p k i) l (exchange_below p k M.rank p_below k_below i b);
   }
@@ -222,7 +234,8 @@ module _ (M : Rep) (shaped : IsShaped M) (some : 0 < count M) (k s : ℕ) (group
     room = t.room;
     coordinates = λ j l.
         subst (λ y. AreCoordinates M chosen y (d.columns j)) (sym (chosen_after (M.rank + j) (let w : k < M.rank = k_below in omega arith) (omega arith)))
-        (coordinates_kept M shaped d chosen (suc k) (λ i g b. chosen_after i g (omega arith)) (λ f i _ g _. chosen_scalar f i g) (d.label (M.rank + j)) (d.columns j) (t.coordinates j l) (t.zeros j l));
+        (coordinates_kept M shaped d chosen (suc k) (λ i g b. chosen_after i g (omega arith)) (λ f i _ g _. chosen_scalar f i g)
+        (d.label (M.rank + j)) (d.columns j) (t.coordinates j l) (t.zeros j l));
     zeros = λ j l f i b o. t.zeros j l f i b (omega arith);
     in_one_group = t.in_one_group;
   }
@@ -234,7 +247,8 @@ module _ (M : Rep) (shaped : IsShaped M) (some : 0 < count M) (k s : ℕ) (group
     factor_is : (f i : ℕ) → f < count M → i < M.rank → IsScalar (order M f) (row_factor M chosen m f i)
     factor_is f i l b =
         times_scalar (order M f) (field M shaped f l) (inverse (order M f) (m.scalar f i)) (chosen.scalar f i)
-        (inverse_scalar (order M f) (field M shaped f l) (m.scalar f i) (record { code = reach.valid.scalars f i l inside; nonzero = reach.valid.nonzero f i l inside }))
+        (inverse_scalar (order M f) (field M shaped f l) (m.scalar f i)
+        (record { code = reach.valid.scalars f i l inside; nonzero = reach.valid.nonzero f i l inside }))
         (row_scalars M shaped chosen chosen_ordered f i l b)
       where
         inside : i < size M

@@ -17,7 +17,8 @@ use Rattle.form_search.specs.Least.{number}
 use Rattle.form_search.proofs.Numbers.{AreDigits, value-weighed, weighed_same, value_at_most, value_same, value_from, value_within}
 
 positive : (k r c : ℕ) → k < r * c → 0 < c
-positive k r c l = elim (cases_lt 0 c) [ inl b ↦ b | inr g ↦ (let e : c ≡ 0 = omega arith in let z : r * c ≡ r * 0 = ap (λ c. r * c) e in absurd (omega arith)) ]
+positive k r c l = elim (cases_lt 0 c)
+    [ inl b ↦ b | inr g ↦ (let e : c ≡ 0 = omega arith in let z : r * c ≡ r * 0 = ap (λ c. r * c) e in absurd (omega arith)) ]
 
 -- the list of codes of a column
 abbrev pub column : Rep → ℕ → List ℕ
@@ -30,7 +31,8 @@ then_first Greater p n e = n refl
 
 -- of two lists that agree before place p, the one that isn't above the other has no greater element there
 pub first_difference : {X : Type 0} (R : X → X → Ordering) (o : IsTotalOrder R) (xs ys : List X) (z : X) (p : ℕ) → length xs ≡ length ys → p < length xs
-    → ((j : ℕ) → j < p → slice_index_or xs j z ≡ slice_index_or ys j z) → slice_cmp R xs ys ≢ Greater → R (slice_index_or xs p z) (slice_index_or ys p z) ≢ Greater
+    → ((j : ℕ) → j < p → slice_index_or xs j z ≡ slice_index_or ys j z) → slice_cmp R xs ys ≢ Greater →
+    R (slice_index_or xs p z) (slice_index_or ys p z) ≢ Greater
 first_difference R o [] ys z p e l h n = absurd (omega arith)
 first_difference R o (x ∷ xs) [] z p e l h n = absurd (omega arith)
 first_difference R o (x ∷ xs) (y ∷ ys) z zero e l h n = then_first (R x y) (slice_cmp R xs ys) n
@@ -80,9 +82,11 @@ module _ (M N : Rep) (shaped : IsShaped N) (same : shape N ≡ shape M) (p : ℕ
   number_from k f i l m o ne =
       let row : (i + 1) * count M ≤ k * count M = mul-le-mul (let a : i + 1 ≤ k = omega arith in a) (le_refl (count M)) in
       let all : k * count M + (M.rank - k) * count M ≡ M.rank * count M = rest in
-      let n : i * count M + f + (M.rank * count M - (i * count M + f) - 1) < length (column N p) = (let e : length (column N p) ≡ M.rank * count M = column_length in omega arith) in
+      let n : i * count M + f + (M.rank * count M - (i * count M + f) - 1) < length (column N p) =
+      (let e : length (column N p) ≡ M.rank * count M = column_length in omega arith) in
       let w : 16 ^ (M.rank * count M - (i * count M + f) - 1) ≤ value (column N p) =
-      value_from (i * count M + f) (M.rank * count M - (i * count M + f) - 1) (column N p) n (let e : length (column N p) ≡ M.rank * count M = column_length in omega arith) (λ e. ne (column_code f i ∙ e)) in
+      value_from (i * count M + f) (M.rank * count M - (i * count M + f) - 1) (column N p) n
+      (let e : length (column N p) ≡ M.rank * count M = column_length in omega arith) (λ e. ne (column_code f i ∙ e)) in
       let t : 16 ^ ((M.rank - k) * count M) ≤ 16 ^ (M.rank * count M - (i * count M + f) - 1) = pow-le-pow_right (lit< tt) (omega arith) in
       let v : value (column N p) ≡ number M (λ f i. matrix N f i p) = column_number in
       omega arith
@@ -91,7 +95,8 @@ module _ (M N : Rep) (shaped : IsShaped N) (same : shape N ≡ shape M) (p : ℕ
       rest = let e : k + (M.rank - k) ≡ M.rank = omega arith in sym (add-mul k (M.rank - k) (count M)) ∙ ap (λ x. x * count M) e
 
   -- codes that are 0 before row k
-  pub number_within : (k : ℕ) → k ≤ M.rank → ((f i : ℕ) → f < count M → i < k → matrix N f i p ≡ 0) → number M (λ f i. matrix N f i p) < 16 ^ ((M.rank - k) * count M)
+  pub number_within : (k : ℕ) → k ≤ M.rank → ((f i : ℕ) → f < count M → i < k → matrix N f i p ≡ 0) →
+      number M (λ f i. matrix N f i p) < 16 ^ ((M.rank - k) * count M)
   number_within k o z =
       subst (λ v. v < 16 ^ ((M.rank - k) * count M)) column_number
       (value_within (k * count M) ((M.rank - k) * count M) (column N p) column_digits (column_length ∙ sym rest) zeros)
@@ -124,7 +129,8 @@ module _ (M N L : Rep) (n_shaped : IsShaped N) (l_shaped : IsShaped L) (n_same :
       code e l =
           let m : e < M.rank * count M = subst (λ n. e < n) (column_length M N n_shaped n_same p b) l in
           let c : 0 < count M = positive e M.rank (count M) m in
-          code_at M N n_shaped n_same p b e m ∙ h (e % count M) (e / count M) (mod-lt e c) (row_below e (count M) M.rank c m) ∙ sym (code_at M L l_shaped l_same p b e m)
+          code_at M N n_shaped n_same p b e m ∙ h (e % count M) (e / count M) (mod-lt e c) (row_below e (count M) M.rank c m)
+          ∙ sym (code_at M L l_shaped l_same p b e m)
 
   -- the order of the columns is that of their numbers
   pub number_at_most : slice_cmp nat_cmp (column N p) (column L p) ≢ Greater → number M (λ f i. matrix N f i p) ≤ number M (λ f i. matrix L f i p)
@@ -136,15 +142,18 @@ module _ (M N L : Rep) (n_shaped : IsShaped N) (l_shaped : IsShaped L) (n_same :
   -- columns with one number have the same codes
   pub number_same : number M (λ f i. matrix N f i p) ≡ number M (λ f i. matrix L f i p) → (f i : ℕ) → matrix N f i p ≡ matrix L f i p
   number_same e f i =
-      let c : column N p ≡ column L p = value_same (column N p) (column L p) (column_digits M N n_shaped n_same p b) (column_digits M L l_shaped l_same p b) as_long
+      let c : column N p ≡ column L p = value_same (column N p) (column L p) (column_digits M N n_shaped n_same p b)
+      (column_digits M L l_shaped l_same p b) as_long
       (column_number M N n_shaped n_same p b ∙ e ∙ sym (column_number M L l_shaped l_same p b)) in
       column_code M N n_shaped n_same p b f i ∙ (λ t. slice_index (c t) (i * count M + f)) ∙ sym (column_code M L l_shaped l_same p b f i)
 
 -- of two representations with the same columns before p, where the one isn't above the other
 module _ (M N L : Rep) (n_shaped : IsShaped N) (l_shaped : IsShaped L) (n_same : shape N ≡ shape M) (l_same : shape L ≡ shape M) (p : ℕ) (b : p < size M) where
-  pub next_at_most : ((j f i : ℕ) → j < p → f < count M → i < M.rank → matrix N f i j ≡ matrix L f i j) → slice_cmp (slice_cmp nat_cmp) N.columns L.columns ≢ Greater
+  pub next_at_most : ((j f i : ℕ) → j < p → f < count M → i < M.rank → matrix N f i j ≡ matrix L f i j) →
+      slice_cmp (slice_cmp nat_cmp) N.columns L.columns ≢ Greater
       → number M (λ f i. matrix N f i p) ≤ number M (λ f i. matrix L f i p)
   next_at_most h n =
       number_at_most M N L n_shaped l_shaped n_same l_same p b
-      (first_difference (slice_cmp nat_cmp) (lists_total nat_cmp_total) N.columns L.columns [] p (ap (λ (S : Shape). S.size) (n_same ∙ sym l_same)) (here M N n_shaped n_same p b)
+      (first_difference (slice_cmp nat_cmp) (lists_total nat_cmp_total) N.columns L.columns [] p
+      (ap (λ (S : Shape). S.size) (n_same ∙ sym l_same)) (here M N n_shaped n_same p b)
       (λ j l. same_column M N L n_shaped l_shaped n_same l_same j (omega arith) (λ f i m o. h j f i l m o)) n)

@@ -15,7 +15,8 @@ module _ (q : ℕ) (F : IsField q) (r n : ℕ) (A : Matrix) (h : Independent q r
   -- b + - b
   with_negative : (b : ℕ) → b < q → plus q b (times q (negative q 1) b) ≡ 0
   with_negative b l =
-      (λ i. plus q (sym (times_one_right q F b l) i) (F.times_comm (negative q 1) b i)) ∙ sym (F.times_plus b 1 (negative q 1)) ∙ ap (times q b) (F.plus_negative 1) ∙ times_zero q F b
+      (λ i. plus q (sym (times_one_right q F b l) i) (F.times_comm (negative q 1) b i)) ∙ sym (F.times_plus b 1 (negative q 1))
+      ∙ ap (times q b) (F.plus_negative 1) ∙ times_zero q F b
 
   -- one combination of independent columns has one list of coefficients
   pub same_coefficients : (a b : ℕ → ℕ) → ((j : ℕ) → j < n → a j < q) → ((j : ℕ) → j < n → b j < q)
@@ -47,13 +48,23 @@ module _ (M : Rep) (shaped : IsShaped M) (d : Trail) (h : IsOrdered M d) where
       pub codes : (i : ℕ) → i < M.rank → c i < order M f
       pub scale : ℕ
       pub scalar : IsScalar (order M f) scale
-      pub combined : (i : ℕ) → i < M.rank → combination (order M f) M.rank (λ i l. matrix M f i (d.label l)) (λ l. times (order M f) (d.scalar f l) (c l)) i ≡ times (order M f) scale (matrix M f i x)
+      pub combined : (i : ℕ) → i < M.rank →
+          combination (order M f) M.rank (λ i l. matrix M f i (d.label l)) (λ l. times (order M f) (d.scalar f l) (c l)) i ≡ times
+          (order M f) scale (matrix M f i x)
 
     pub in_factor : (x : ℕ) (c : ℕ → ℕ → ℕ) → AreCoordinates M d x c → AreCoordinatesIn x (c f)
-    in_factor x c a = record { codes = λ i b. a.codes f i l b; scale = a.scale f; scalar = record { code = a.scale_code f l; nonzero = a.scale_nonzero f l }; combined = λ i b. a.combined f i l b }
+    in_factor x c a = record {
+      codes = λ i b. a.codes f i l b;
+      scale = a.scale f;
+      scalar =
+          record { code = a.scale_code f l; nonzero = a.scale_nonzero f l };
+      combined = λ i b. a.combined f i l b;
+    }
 
     module _ (x : ℕ) (c v : ℕ → ℕ) (a : AreCoordinatesIn x c) (b : AreCoordinatesIn x v) where
-      rows : (i : ℕ) → i < M.rank → combination (order M f) M.rank (λ i l. matrix M f i (d.label l)) (λ i. times (order M f) b.scale (times (order M f) (d.scalar f i) (c i))) i
+      rows : (i : ℕ) → i < M.rank →
+          combination (order M f) M.rank (λ i l. matrix M f i (d.label l))
+          (λ i. times (order M f) b.scale (times (order M f) (d.scalar f i) (c i))) i
           ≡ combination (order M f) M.rank (λ i l. matrix M f i (d.label l)) (λ i. times (order M f) a.scale (times (order M f) (d.scalar f i) (v i))) i
       rows i m =
           combination-scaled (order M f) F M.rank (λ i l. matrix M f i (d.label l)) b.scale (λ i. times (order M f) (d.scalar f i) (c i)) i
@@ -63,7 +74,8 @@ module _ (M : Rep) (shaped : IsShaped M) (d : Trail) (h : IsOrdered M d) where
           ∙ ap (times (order M f) a.scale) (b.combined i m))
 
       -- with each other's scale
-      proportional : (i : ℕ) → i < M.rank → times (order M f) b.scale (times (order M f) (d.scalar f i) (c i)) ≡ times (order M f) a.scale (times (order M f) (d.scalar f i) (v i))
+      proportional : (i : ℕ) → i < M.rank →
+          times (order M f) b.scale (times (order M f) (d.scalar f i) (c i)) ≡ times (order M f) a.scale (times (order M f) (d.scalar f i) (v i))
       proportional =
           same_coefficients (order M f) F M.rank M.rank (λ i l. matrix M f i (d.label l)) (h.independent f l)
           (λ i. times (order M f) b.scale (times (order M f) (d.scalar f i) (c i))) (λ i. times (order M f) a.scale (times (order M f) (d.scalar f i) (v i)))
@@ -80,7 +92,8 @@ module _ (M : Rep) (shaped : IsShaped M) (d : Trail) (h : IsOrdered M d) where
           (sym (proportional i m) ∙ ap (λ y. times (order M f) b.scale (times (order M f) (d.scalar f i) y)) e
           ∙ ap (times (order M f) b.scale) (times_zero (order M f) F (d.scalar f i)) ∙ times_zero (order M f) F b.scale))
 
-  pub zero_in_both : (x : ℕ) (c v : ℕ → ℕ → ℕ) → AreCoordinates M d x c → AreCoordinates M d x v → (f : ℕ) → f < count M → (i : ℕ) → i < M.rank → c f i ≡ 0 → v f i ≡ 0
+  pub zero_in_both : (x : ℕ) (c v : ℕ → ℕ → ℕ) → AreCoordinates M d x c → AreCoordinates M d x v → (f : ℕ) → f < count M → (i : ℕ) →
+      i < M.rank → c f i ≡ 0 → v f i ≡ 0
   zero_in_both x c v a b f l i m e = zero_in_both_in f l x (c f) (v f) (in_factor f l x c a) (in_factor f l x v b) i m e
 
   -- the coordinates of an element of the basis
@@ -91,7 +104,8 @@ module _ (M : Rep) (shaped : IsShaped M) (d : Trail) (h : IsOrdered M d) where
     scale_code = λ f l. h.scalar_code f j l b;
     scale_nonzero = λ f l. h.scalar_nonzero f j l b;
     combined = λ f i l m. (let F = field M shaped f l in
-        combination-same (order M f) F M.rank (λ i l. matrix M f i (d.label l)) (λ k. times (order M f) (d.scalar f k) (unit k j)) (λ k. times (order M f) (d.scalar f j) (unit k j)) i
+        combination-same (order M f) F M.rank (λ i l. matrix M f i (d.label l)) (λ k. times (order M f) (d.scalar f k) (unit k j))
+        (λ k. times (order M f) (d.scalar f j) (unit k j)) i
         (λ k o. elim (cases_eq k j) [
           | inl e ↦ ap (λ y. times (order M f) (d.scalar f y) (unit k j)) e
           | inr ne ↦ ap (λ e. times (order M f) (d.scalar f k) (cond e 1 0)) (other_number k j ne) ∙ times_zero (order M f) F (d.scalar f k)
@@ -106,12 +120,15 @@ module _ (M : Rep) (shaped : IsShaped M) (d : Trail) (h : IsOrdered M d) where
   pub own_nonzero : (x : ℕ) → x < size M → (c : ℕ → ℕ → ℕ) → AreCoordinates M d x c → d.place x < M.rank → (f : ℕ) → f < count M → c f (d.place x) ≢ 0
   own_nonzero x b c a o f l e =
       let w = h.labels in
-      let z : unit (d.place x) (d.place x) ≡ 0 = zero_in_both x c (λ f i. unit i (d.place x)) a (subst (λ y. AreCoordinates M d y (λ f i. unit i (d.place x))) (w.back x b) (own_coordinates (d.place x) o)) f l (d.place x) o e in
+      let z : unit (d.place x) (d.place x) ≡ 0 = zero_in_both x c (λ f i. unit i (d.place x)) a
+      (subst (λ y. AreCoordinates M d y (λ f i. unit i (d.place x))) (w.back x b) (own_coordinates (d.place x) o)) f l (d.place x) o e in
       let one : unit (d.place x) (d.place x) ≡ 1 = ap (λ e. cond e 1 0) (same_number (d.place x)) in
       let n : zero ≡ 1 = sym z ∙ one in absurd (omega arith)
 
-  pub others_zero : (x : ℕ) → x < size M → (c : ℕ → ℕ → ℕ) → AreCoordinates M d x c → d.place x < M.rank → (f i : ℕ) → f < count M → i < M.rank → i ≢ d.place x → c f i ≡ 0
+  pub others_zero : (x : ℕ) → x < size M → (c : ℕ → ℕ → ℕ) → AreCoordinates M d x c → d.place x < M.rank → (f i : ℕ) → f < count M →
+      i < M.rank → i ≢ d.place x → c f i ≡ 0
   others_zero x b c a o f i l m ne =
       let w = h.labels in
-      zero_in_both x (λ f i. unit i (d.place x)) c (subst (λ y. AreCoordinates M d y (λ f i. unit i (d.place x))) (w.back x b) (own_coordinates (d.place x) o)) a f l i m
+      zero_in_both x (λ f i. unit i (d.place x)) c
+      (subst (λ y. AreCoordinates M d y (λ f i. unit i (d.place x))) (w.back x b) (own_coordinates (d.place x) o)) a f l i m
       (ap (λ e. cond e 1 0) (other_number i (d.place x) ne))

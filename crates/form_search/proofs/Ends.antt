@@ -24,12 +24,16 @@ module _ (M : Rep) (shaped : IsShaped M) (some : 0 < count M) (k s : ℕ) (group
 
   pub member_begins : (L : Rep) × Begins L
   member_begins =
-      let (L, w) = made M shaped some d (row_scalars M shaped d o) k d.label d.place o.labels (λ f l. first_basis M shaped d.label d.place o.labels o.room f l (o.independent f l)) (λ _ _ _. refl)
-      (λ _ _. 1) (λ f i l _. one_scalar (order M f) (field M shaped f l)) s p.room d.columns p.coordinates p.zeros (λ _ _. 1) (λ f j l _. one_scalar (order M f) (field M shaped f l)) in (
+      let (L, w) = made M shaped some d (row_scalars M shaped d o) k d.label d.place o.labels
+      (λ f l. first_basis M shaped d.label d.place o.labels o.room f l (o.independent f l)) (λ _ _ _. refl)
+      (λ _ _. 1) (λ f i l _. one_scalar (order M f) (field M shaped f l)) s p.room d.columns p.coordinates p.zeros (λ _ _. 1)
+      (λ f j l _. one_scalar (order M f) (field M shaped f l)) in (
         L,
         record {
           standard = w.standard;
           equivalent = w.equivalent;
-          entries = λ j f i l b t. w.entries j f i l b t ∙ (let F = field M shaped f b in F.times_one _ (F.times_below _ _) ∙ F.times_one (d.columns j f i) (let v = p.coordinates j l in v.codes f i b t));
+          entries = λ j f i l b t. w.entries j f i l b t
+              ∙ (let F = field M shaped f b in F.times_one _ (F.times_below _ _)
+              ∙ F.times_one (d.columns j f i) (let v = p.coordinates j l in v.codes f i b t));
         },
       )

@@ -38,9 +38,17 @@ module _ (a b : ℕ) where
   exchange_below n l m = exchange_cases (λ x y. x < n → y < n) (λ _. m) (λ _. l) (λ x _ _ o. o)
 
   pub exchange_permutation : (n : ℕ) → a < n → b < n → ArePermutation n (exchange a b) (exchange a b)
-  exchange_permutation n l m = record { below = exchange_below n l m; inverse_below = exchange_below n l m; there = λ j _. exchange_twice j; back = λ j _. exchange_twice j }
+  exchange_permutation n l m =
+      record {
+        below = exchange_below n l m;
+        inverse_below = exchange_below n l m;
+        there = λ j _. exchange_twice j;
+        back =
+            λ j _. exchange_twice j;
+      }
 
-  pub exchanged_permutation : (n : ℕ) (p u : ℕ → ℕ) → a < n → b < n → ArePermutation n p u → ArePermutation n (λ x. p (exchange a b x)) (λ k. exchange a b (u k))
+  pub exchanged_permutation : (n : ℕ) (p u : ℕ → ℕ) → a < n → b < n → ArePermutation n p u →
+      ArePermutation n (λ x. p (exchange a b x)) (λ k. exchange a b (u k))
   exchanged_permutation n p u l m w = record {
     below = λ j o. w.below (exchange a b j) (exchange_below n l m j o);
     inverse_below = λ j o. exchange_below n l m (u j) (w.inverse_below j o);

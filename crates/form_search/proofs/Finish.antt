@@ -65,10 +65,12 @@ whole_greater b (x ∷ xs) (y ∷ ys) h e g = go (whole_greater b xs ys (rest_be
     n : places b xs ≡ places b ys
     n = same_places b xs ys (omega arith)
 
-    go : (slice_cmp nat_cmp xs ys ≡ Greater → whole b ys < whole b xs) → (o : Ordering) → MatchOrdering o (x < y) (x ≡ y) (y < x) → ordering_then o (slice_cmp nat_cmp xs ys) ≡ Greater → whole b (y ∷ ys) < whole b (x ∷ xs)
+    go : (slice_cmp nat_cmp xs ys ≡ Greater → whole b ys < whole b xs) → (o : Ordering) → MatchOrdering o (x < y) (x ≡ y) (y < x) →
+        ordering_then o (slice_cmp nat_cmp xs ys) ≡ Greater → whole b (y ∷ ys) < whole b (x ∷ xs)
     go ih Less a q = cc
     go ih Equal a q = let k : whole b ys < whole b xs = ih q in let t : x * places b xs ≡ y * places b ys = (λ i. a i * n i) in omega arith
-    go ih Greater a q = subst (λ (k : ℕ). y * places b ys + whole b ys < x * k + whole b xs) (sym n) (step_less y x (places b ys) (whole b ys) (whole b xs) a (whole_below b ys (rest_below b y ys h)))
+    go ih Greater a q = subst (λ (k : ℕ). y * places b ys + whole b ys < x * k + whole b xs) (sym n)
+        (step_less y x (places b ys) (whole b ys) (whole b xs) a (whole_below b ys (rest_below b y ys h)))
 
 -- ---- the first difference
 
@@ -77,8 +79,10 @@ then_greater Less p e = cc
 then_greater Equal p e = inr (refl, e)
 then_greater Greater p e = inl refl
 
-greater_at : {X : Type 0} (R : X → X → Ordering) (z : X) (xs ys : List X) → length xs ≡ length ys → ((j : ℕ) → j < length xs → R (slice_index_or xs j z) (slice_index_or ys j z) ≡ Equal → slice_index_or xs j z ≡ slice_index_or ys j z)
-    → slice_cmp R xs ys ≡ Greater → (p : ℕ) × (p < length xs) × ((j : ℕ) → j < p → slice_index_or xs j z ≡ slice_index_or ys j z) × (R (slice_index_or xs p z) (slice_index_or ys p z) ≡ Greater)
+greater_at : {X : Type 0} (R : X → X → Ordering) (z : X) (xs ys : List X) → length xs ≡ length ys →
+    ((j : ℕ) → j < length xs → R (slice_index_or xs j z) (slice_index_or ys j z) ≡ Equal → slice_index_or xs j z ≡ slice_index_or ys j z)
+    → slice_cmp R xs ys ≡ Greater → (p : ℕ) × (p < length xs) × ((j : ℕ) → j < p → slice_index_or xs j z ≡ slice_index_or ys j z)
+    × (R (slice_index_or xs p z) (slice_index_or ys p z) ≡ Greater)
 greater_at R z [] [] e same g = cc
 greater_at R z [] (y ∷ ys) e same g = absurd (omega arith)
 greater_at R z (x ∷ xs) [] e same g = absurd (omega arith)
@@ -88,13 +92,15 @@ greater_at R z (x ∷ xs) (y ∷ ys) e same g = elim (then_greater (R x y) (slic
       (suc p, omega arith, next (same 0 (omega arith) q.0) before, w))
 ]
   where
-    next : x ≡ y → {p : ℕ} → ((j : ℕ) → j < p → slice_index_or xs j z ≡ slice_index_or ys j z) → (j : ℕ) → j < suc p → slice_index_or (x ∷ xs) j z ≡ slice_index_or (y ∷ ys) j z
+    next : x ≡ y → {p : ℕ} → ((j : ℕ) → j < p → slice_index_or xs j z ≡ slice_index_or ys j z) → (j : ℕ) → j < suc p →
+        slice_index_or (x ∷ xs) j z ≡ slice_index_or (y ∷ ys) j z
     next q {p} h zero l = q
     next q {p} h (suc j) l = h j (omega arith)
 
 -- ---- standard representations of one shape
 
-module _ (M N P : Rep) (n_shaped : IsShaped N) (p_shaped : IsShaped P) (n_standard : IsStandard N) (p_standard : IsStandard P) (n_same : shape N ≡ shape M) (p_same : shape P ≡ shape M) where
+module _ (M N P : Rep) (n_shaped : IsShaped N) (p_shaped : IsShaped P) (n_standard : IsStandard N) (p_standard : IsStandard P)
+    (n_same : shape N ≡ shape M) (p_same : shape P ≡ shape M) where
   in_count : (L : Rep) → shape L ≡ shape M → {f : ℕ} → f < count M → f < count L
   in_count L e {f} b = subst (λ (S : Shape). f < length S.factors) (sym e) b
 
@@ -102,27 +108,31 @@ module _ (M N P : Rep) (n_shaped : IsShaped N) (p_shaped : IsShaped P) (n_standa
   in_rank L e {i} b = subst (λ (S : Shape). i < S.rank) (sym e) b
 
   unit_columns : (j : ℕ) → j < M.rank → (f i : ℕ) → f < count M → i < M.rank → matrix N f i j ≡ matrix P f i j
-  unit_columns j q f i l o = n_standard.units f i j (in_count N n_same l) (in_rank N n_same o) (in_rank N n_same q) ∙ sym (p_standard.units f i j (in_count P p_same l) (in_rank P p_same o) (in_rank P p_same q))
+  unit_columns j q f i l o = n_standard.units f i j (in_count N n_same l) (in_rank N n_same o) (in_rank N n_same q)
+      ∙ sym (p_standard.units f i j (in_count P p_same l) (in_rank P p_same o) (in_rank P p_same q))
 
   equal_columns : (j : ℕ) → j < size M → slice_cmp nat_cmp (column N j) (column P j) ≡ Equal → column N j ≡ column P j
   equal_columns j l e =
       let as_long : length (column N j) ≡ length (column P j) = column_length M N n_shaped n_same j l ∙ sym (column_length M P p_shaped p_same j l) in
       let dn = column_digits M N n_shaped n_same j l in let dp = column_digits M P p_shaped p_same j l in
       value_same (column N j) (column P j) dn dp as_long
-      (equal_by (slice_cmp nat_cmp (column N j) (column P j)) (value (column N j)) (value (column P j)) (value_ranked (column N j) (column P j) dn dp as_long) e)
+      (equal_by (slice_cmp nat_cmp (column N j) (column P j)) (value (column N j)) (value (column P j))
+      (value_ranked (column N j) (column P j) dn dp as_long) e)
     where
       equal_by : (o : Ordering) (a b : ℕ) → MatchOrdering o (a < b) (a ≡ b) (b < a) → o ≡ Equal → a ≡ b
       equal_by Less a b h e = cc
       equal_by Equal a b h e = h
       equal_by Greater a b h e = cc
 
-  greater_number : (j : ℕ) → j < size M → slice_cmp nat_cmp (column N j) (column P j) ≡ Greater → number M (λ f i. matrix P f i j) < number M (λ f i. matrix N f i j)
+  greater_number : (j : ℕ) → j < size M → slice_cmp nat_cmp (column N j) (column P j) ≡ Greater →
+      number M (λ f i. matrix P f i j) < number M (λ f i. matrix N f i j)
   greater_number j l e =
       let as_long : length (column N j) ≡ length (column P j) = column_length M N n_shaped n_same j l ∙ sym (column_length M P p_shaped p_same j l) in
       let dn = column_digits M N n_shaped n_same j l in let dp = column_digits M P p_shaped p_same j l in
       let n : value (column N j) ≡ number M (λ f i. matrix N f i j) = column_number M N n_shaped n_same j l in
       let p : value (column P j) ≡ number M (λ f i. matrix P f i j) = column_number M P p_shaped p_same j l in
-      let g : value (column P j) < value (column N j) = greater_by (slice_cmp nat_cmp (column N j) (column P j)) (value (column N j)) (value (column P j)) (value_ranked (column N j) (column P j) dn dp as_long) e in
+      let g : value (column P j) < value (column N j) = greater_by (slice_cmp nat_cmp (column N j) (column P j))
+      (value (column N j)) (value (column P j)) (value_ranked (column N j) (column P j) dn dp as_long) e in
       omega arith
     where
       greater_by : (o : Ordering) (a b : ℕ) → MatchOrdering o (a < b) (a ≡ b) (b < a) → o ≡ Greater → b < a
@@ -146,23 +156,29 @@ module _ (M N P : Rep) (n_shaped : IsShaped N) (p_shaped : IsShaped P) (n_standa
             let o = nat_list_cmp_total in
             n (o.antisymm (numbers_of M N) (numbers_of M P)
             ∙ ap ordering_reverse (below_less (numbers_of M P) (numbers_of M N) (p - M.rank) (omega arith) (omega arith)
-            (λ j m. numbers_at M P j (omega arith) ∙ sym (number_before j (before (M.rank + j) (omega arith)) (omega arith)) ∙ sym (numbers_at M N j (omega arith)))
-            (subst (λ v. v < slice_index (numbers_of M N) (p - M.rank)) (sym (numbers_at M P (p - M.rank) (omega arith) ∙ ap (λ t. number M (λ f i. matrix P f i t)) e))
-            (subst (λ v. number M (λ f i. matrix P f i p) < v) (sym (numbers_at M N (p - M.rank) (omega arith) ∙ ap (λ t. number M (λ f i. matrix N f i t)) e)) (greater_number p b w))))))
+            (λ j m. numbers_at M P j (omega arith) ∙ sym (number_before j (before (M.rank + j) (omega arith)) (omega arith))
+            ∙ sym (numbers_at M N j (omega arith)))
+            (subst (λ v. v < slice_index (numbers_of M N) (p - M.rank))
+            (sym (numbers_at M P (p - M.rank) (omega arith) ∙ ap (λ t. number M (λ f i. matrix P f i t)) e))
+            (subst (λ v. number M (λ f i. matrix P f i p) < v)
+            (sym (numbers_at M N (p - M.rank) (omega arith) ∙ ap (λ t. number M (λ f i. matrix N f i t)) e)) (greater_number p b w))))))
       ]
     where
-      number_before : (j : ℕ) → column N (M.rank + j) ≡ column P (M.rank + j) → M.rank + j < size M → number M (λ f i. matrix N f i (M.rank + j)) ≡ number M (λ f i. matrix P f i (M.rank + j))
+      number_before : (j : ℕ) → column N (M.rank + j) ≡ column P (M.rank + j) → M.rank + j < size M →
+          number M (λ f i. matrix N f i (M.rank + j)) ≡ number M (λ f i. matrix P f i (M.rank + j))
       number_before j c b = sym (column_number M N n_shaped n_same (M.rank + j) b) ∙ ap value c ∙ column_number M P p_shaped p_same (M.rank + j) b
 
   -- and whether they are equal
   pub numbers_same : numbers_of M N ≡ numbers_of M P → P ≡ N
   numbers_same e = same_codes N P n_shaped p_shaped (p_same ∙ sym n_same) (λ f i j l m o.
-      let f' : f < count M = subst (λ (S : Shape). f < length S.factors) n_same l in let i' : i < M.rank = subst (λ (S : Shape). i < S.rank) n_same m in let j' : j < size M = subst (λ (S : Shape). j < S.size) n_same o in
+      let f' : f < count M = subst (λ (S : Shape). f < length S.factors) n_same l in
+      let i' : i < M.rank = subst (λ (S : Shape). i < S.rank) n_same m in let j' : j < size M = subst (λ (S : Shape). j < S.size) n_same o in
       elim (cases_lt j M.rank) [
         | inl q ↦ sym (unit_columns j q f i f' i')
         | inr q ↦ (let z : M.rank + (j - M.rank) ≡ j = omega arith in
             sym (number_same M N P n_shaped p_shaped n_same p_same j j'
-            (ap (λ t. number M (λ f i. matrix N f i t)) (sym z) ∙ sym (numbers_at M N (j - M.rank) (omega arith)) ∙ ap (λ (w : List ℕ). slice_index w (j - M.rank)) e ∙ numbers_at M P (j - M.rank) (omega arith)
+            (ap (λ t. number M (λ f i. matrix N f i t)) (sym z) ∙ sym (numbers_at M N (j - M.rank) (omega arith))
+            ∙ ap (λ (w : List ℕ). slice_index w (j - M.rank)) e ∙ numbers_at M P (j - M.rank) (omega arith)
             ∙ ap (λ t. number M (λ f i. matrix P f i t)) z) f i))
       ])
 
@@ -176,7 +192,8 @@ carried M N r e = record {
   agrees = (agrees_carried Linear M N e).0 r.agrees;
 }
 
-module _ (M : Rep) (whole_rep : IsRepresentation M) (found : List ℕ) (class : AreOfClass M found) (covers : (m : Move) (N : Rep) → ReachesForm M m N → slice_cmp nat_cmp found (numbers_of M N) ≢ Greater) where
+module _ (M : Rep) (whole_rep : IsRepresentation M) (found : List ℕ) (class : AreOfClass M found)
+    (covers : (m : Move) (N : Rep) → ReachesForm M m N → slice_cmp nat_cmp found (numbers_of M N) ≢ Greater) where
   bound : ℕ
   bound = 16 ^ (M.rank * count M)
 
@@ -213,7 +230,8 @@ module _ (M : Rep) (whole_rep : IsRepresentation M) (found : List ℕ) (class : 
     where
       chain : (xs ys : List ℕ) → slice_cmp nat_cmp found xs ≡ Greater → slice_cmp nat_cmp xs ys ≡ Greater → slice_cmp nat_cmp found ys ≡ Greater
       chain xs ys a b = let o = nat_list_cmp_total in
-          o.antisymm found ys ∙ ap ordering_reverse (o.trans ys xs found (o.antisymm ys xs ∙ ap ordering_reverse b) (o.antisymm xs found ∙ ap ordering_reverse a))
+          o.antisymm found ys ∙ ap ordering_reverse
+          (o.trans ys xs found (o.antisymm ys xs ∙ ap ordering_reverse b) (o.antisymm xs found ∙ ap ordering_reverse a))
 
   -- the standard representation of these numbers is the form of the class
   pub found_form : (N : Rep) → IsShaped N → IsStandard N → shape N ≡ shape M → numbers_of M N ≡ found → IsForm Linear N × AreEquivalent Linear M N
@@ -223,18 +241,22 @@ module _ (M : Rep) (whole_rep : IsRepresentation M) (found : List ℕ) (class : 
       standard = t;
       least = λ P u x. numbers_decide M N P s x.takes.shaped t u e (x.takes.same_shape ∙ e)
           (subst (λ (w : List ℕ). slice_cmp nat_cmp w (numbers_of M P) ≢ Greater) (sym n)
-          (not_above_members (numbers_of M P) (record { member = P; standard = u; equivalent = equivalent-transitive Linear M N P equivalent x; numbers_are = refl })));
+          (not_above_members (numbers_of M P)
+          (record { member = P; standard = u; equivalent = equivalent-transitive Linear M N P equivalent x; numbers_are = refl })));
     },
     equivalent,
   )
     where
       equivalent : AreEquivalent Linear M N
       equivalent = let x = class.equivalent in
-          subst (AreEquivalent Linear M) (sym (numbers_same M class.member N x.takes.shaped s class.standard t x.takes.same_shape e (class.numbers_are ∙ sym n))) class.equivalent
+          subst (AreEquivalent Linear M)
+          (sym (numbers_same M class.member N x.takes.shaped s class.standard t x.takes.same_shape e (class.numbers_are ∙ sym n)))
+          class.equivalent
 
 -- there is a form among the members of a class
 pub some_form : (M : Rep) → IsRepresentation M → (N : Rep) → IsStandard N → AreEquivalent Linear M N → ((m : Move) (L : Rep) → ReachesForm M m L → ⊥) → ⊥
-some_form M whole_rep N standard equivalent none = least_refused (suc (rank_of (numbers_of M N))) (numbers_of M N) (omega arith) (record { member = N; standard = standard; equivalent = equivalent; numbers_are = refl })
+some_form M whole_rep N standard equivalent none = least_refused (suc (rank_of (numbers_of M N))) (numbers_of M N) (omega arith)
+    (record { member = N; standard = standard; equivalent = equivalent; numbers_are = refl })
   where
     rank_of : List ℕ → ℕ
     rank_of = whole (16 ^ (M.rank * count M))
@@ -259,9 +281,11 @@ some_form M whole_rep N standard equivalent none = least_refused (suc (rank_of (
             representation = carried M c.member whole_rep x;
             standard = c.standard;
             least = λ P s e. numbers_decide M c.member P x.takes.shaped e.takes.shaped c.standard s x.takes.same_shape (e.takes.same_shape ∙ x.takes.same_shape)
-                (λ g. (let d : AreOfClass M (numbers_of M P) = record { member = P; standard = s; equivalent = equivalent-transitive Linear M c.member P x e; numbers_are = refl } in
+                (λ g. (let d : AreOfClass M (numbers_of M P) =
+                record { member = P; standard = s; equivalent = equivalent-transitive Linear M c.member P x e; numbers_are = refl } in
                 let g' : slice_cmp nat_cmp xs (numbers_of M P) ≡ Greater = ap (λ (w : List ℕ). slice_cmp nat_cmp w (numbers_of M P)) (sym c.numbers_are) ∙ g in
-                let f : rank_of (numbers_of M P) < rank_of xs = whole_greater (16 ^ (M.rank * count M)) xs (numbers_of M P) (class_bound (numbers_of M P) d) (class_length M xs c ∙ sym (class_length M (numbers_of M P) d)) g' in
+                let f : rank_of (numbers_of M P) < rank_of xs = whole_greater (16 ^ (M.rank * count M)) xs (numbers_of M P)
+                (class_bound (numbers_of M P) d) (class_length M xs c ∙ sym (class_length M (numbers_of M P) d)) g' in
                 least_refused n (numbers_of M P) (omega arith) d));
           };
         })

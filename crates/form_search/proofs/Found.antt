@@ -32,7 +32,8 @@ less_by x y Equal m l = absurd (omega arith)
 less_by x y Greater m l = absurd (omega arith)
 
 -- a list with a less number at the first place where they differ is less
-pub below_less : (xs ys : List ℕ) (p : ℕ) → p < length xs → p < length ys → ((j : ℕ) → j < p → slice_index xs j ≡ slice_index ys j) → slice_index xs p < slice_index ys p → slice_cmp nat_cmp xs ys ≡ Less
+pub below_less : (xs ys : List ℕ) (p : ℕ) → p < length xs → p < length ys →
+    ((j : ℕ) → j < p → slice_index xs j ≡ slice_index ys j) → slice_index xs p < slice_index ys p → slice_cmp nat_cmp xs ys ≡ Less
 below_less [] ys p l m h n = absurd (omega arith)
 below_less (x ∷ xs) [] p l m h n = absurd (omega arith)
 below_less (x ∷ xs) (y ∷ ys) zero l m h n = ap (λ o. ordering_then o (slice_cmp nat_cmp xs ys)) (less_by x y (nat_cmp x y) (ranked x y (nat_cmp x y) refl) n)
@@ -41,13 +42,15 @@ below_less (x ∷ xs) (y ∷ ys) (suc p) l m h n =
     ∙ below_less xs ys p (omega arith) (omega arith) (λ j b. h (suc j) (omega arith)) n
 
 pub below_at_most : (xs ys : List ℕ) → IsBelow xs ys → slice_cmp nat_cmp xs ys ≢ Greater
-below_at_most xs ys b e = let l : slice_cmp nat_cmp xs ys ≡ Less = below_less xs ys b.place b.settled_has b.numbers_have b.same b.less in let z : Less ≡ Greater = sym l ∙ e in cc
+below_at_most xs ys b e = let l : slice_cmp nat_cmp xs ys ≡ Less =
+    below_less xs ys b.place b.settled_has b.numbers_have b.same b.less in let z : Less ≡ Greater = sym l ∙ e in cc
 
 pub not_above_itself : (xs : List ℕ) → slice_cmp nat_cmp xs xs ≢ Greater
 not_above_itself xs e = let z : Equal ≡ Greater = sym (tied_itself nat_list_cmp_total xs) ∙ e in cc
 
 pub not_above_trans : (xs ys zs : List ℕ) → slice_cmp nat_cmp xs ys ≢ Greater → slice_cmp nat_cmp ys zs ≢ Greater → slice_cmp nat_cmp xs zs ≢ Greater
-not_above_trans xs ys zs a b = not_greater (slice_cmp nat_cmp xs zs) (upto nat_list_cmp_total xs ys zs (is_not_greater (slice_cmp nat_cmp xs ys) a) (is_not_greater (slice_cmp nat_cmp ys zs) b))
+not_above_trans xs ys zs a b = not_greater (slice_cmp nat_cmp xs zs)
+    (upto nat_list_cmp_total xs ys zs (is_not_greater (slice_cmp nat_cmp xs ys) a) (is_not_greater (slice_cmp nat_cmp ys zs) b))
 
 pub at_most_trans : (found : Option (List ℕ)) (xs ys : List ℕ) → IsAtMost found xs → slice_cmp nat_cmp xs ys ≢ Greater → IsAtMost found ys
 at_most_trans None xs ys h n = h
@@ -73,41 +76,51 @@ pub stands_level : (found : Option (List ℕ)) (settled longer : List ℕ) (low 
 stands_level None settled longer low e b m = m
 stands_level (Some least) settled longer low e b m = record {
   room = (let n : length longer ≡ length settled + 1 = ap (λ (w : List ℕ). length w) e ∙ length-append settled (low ∷ []) in let l = m.0 in omega arith);
-  same = λ j l. ap (λ (w : List ℕ). slice_index w j) e ∙ (let n : length longer ≡ length settled + 1 = ap (λ (w : List ℕ). length w) e ∙ length-append settled (low ∷ []) in elim (cases_lt j (length settled)) [
-    | inl q ↦ get_or-append settled (low ∷ []) 0 j q ∙ b.same j q
-    | inr q ↦ (let z : length settled ≡ j = omega arith in ap (slice_index (settled ++ low ∷ [])) (sym z) ∙ get_or-append_seam settled low [] 0 ∙ m.1 ∙ ap (slice_index least) z)
-  ]);
+  same = λ j l. ap (λ (w : List ℕ). slice_index w j) e
+      ∙ (let n : length longer ≡ length settled + 1 = ap (λ (w : List ℕ). length w) e ∙ length-append settled (low ∷ []) in
+      elim (cases_lt j (length settled)) [
+        | inl q ↦ get_or-append settled (low ∷ []) 0 j q ∙ b.same j q
+        | inr q ↦ (let z : length settled ≡ j = omega arith in ap (slice_index (settled ++ low ∷ [])) (sym z)
+            ∙ get_or-append_seam settled low [] 0 ∙ m.1 ∙ ap (slice_index least) z)
+      ]);
 }
 
 -- or below it
 pub stands_below : (found : Option (List ℕ)) (settled longer : List ℕ) (low : ℕ) → longer ≡ settled ++ low ∷ [] → Stands true found settled
     → MatchOption found ⊥ (λ least. (length settled < length least) × (low < slice_index least (length settled))) → Stands false found longer
 stands_below None settled longer low e b m = absurd m
-stands_below (Some least) settled longer low e b m = let n : length longer ≡ length settled + 1 = ap (λ (w : List ℕ). length w) e ∙ length-append settled (low ∷ []) in record {
-  place = length settled;
-  settled_has = omega arith;
-  numbers_have = m.0;
-  same = λ j q. ap (λ (w : List ℕ). slice_index w j) e ∙ get_or-append settled (low ∷ []) 0 j q ∙ b.same j q;
-  less = subst (λ v. v < slice_index least (length settled)) (sym (ap (λ (w : List ℕ). slice_index w (length settled)) e ∙ get_or-append_seam settled low [] 0)) m.1;
-}
+stands_below (Some least) settled longer low e b m = let n : length longer ≡ length settled + 1 = ap (λ (w : List ℕ). length w) e
+    ∙ length-append settled (low ∷ []) in record {
+      place = length settled;
+      settled_has = omega arith;
+      numbers_have = m.0;
+      same = λ j q. ap (λ (w : List ℕ). slice_index w j) e ∙ get_or-append settled (low ∷ []) 0 j q ∙ b.same j q;
+      less = subst (λ v. v < slice_index least (length settled))
+          (sym (ap (λ (w : List ℕ). slice_index w (length settled)) e ∙ get_or-append_seam settled low [] 0)) m.1;
+    }
 
 -- what is below stays below
-pub stands_on : (found : Option (List ℕ)) (settled longer : List ℕ) (low : ℕ) → longer ≡ settled ++ low ∷ [] → Stands false found settled → Stands false found longer
+pub stands_on : (found : Option (List ℕ)) (settled longer : List ℕ) (low : ℕ) → longer ≡ settled ++ low ∷ [] →
+    Stands false found settled → Stands false found longer
 stands_on None settled longer low e b = b
-stands_on (Some least) settled longer low e b = let n : length longer ≡ length settled + 1 = ap (λ (w : List ℕ). length w) e ∙ length-append settled (low ∷ []) in record {
-  place = b.place;
-  settled_has = (let l = b.settled_has in omega arith);
-  numbers_have = b.numbers_have;
-  same = λ j q. ap (λ (w : List ℕ). slice_index w j) e ∙ get_or-append settled (low ∷ []) 0 j (let l : b.place < length settled = b.settled_has in omega arith) ∙ b.same j q;
-  less = subst (λ v. v < slice_index least b.place) (sym (ap (λ (w : List ℕ). slice_index w b.place) e ∙ get_or-append settled (low ∷ []) 0 b.place b.settled_has)) b.less;
-}
+stands_on (Some least) settled longer low e b = let n : length longer ≡ length settled + 1 = ap (λ (w : List ℕ). length w) e
+    ∙ length-append settled (low ∷ []) in record {
+      place = b.place;
+      settled_has = (let l = b.settled_has in omega arith);
+      numbers_have = b.numbers_have;
+      same = λ j q. ap (λ (w : List ℕ). slice_index w j) e
+          ∙ get_or-append settled (low ∷ []) 0 j (let l : b.place < length settled = b.settled_has in omega arith) ∙ b.same j q;
+      less = subst (λ v. v < slice_index least b.place)
+          (sym (ap (λ (w : List ℕ). slice_index w b.place) e ∙ get_or-append settled (low ∷ []) 0 b.place b.settled_has)) b.less;
+    }
 
 -- a list that begins with one more number begins with those before
 pub begins_before : (settled longer numbers : List ℕ) (low : ℕ) → longer ≡ settled ++ low ∷ [] → BeginsWith longer numbers → BeginsWith settled numbers
-begins_before settled longer numbers low e b = let n : length longer ≡ length settled + 1 = ap (λ (w : List ℕ). length w) e ∙ length-append settled (low ∷ []) in record {
-  room = (let l = b.room in omega arith);
-  same = λ j q. sym (ap (λ (w : List ℕ). slice_index w j) e ∙ get_or-append settled (low ∷ []) 0 j q) ∙ b.same j (omega arith);
-}
+begins_before settled longer numbers low e b = let n : length longer ≡ length settled + 1 = ap (λ (w : List ℕ). length w) e
+    ∙ length-append settled (low ∷ []) in record {
+      room = (let l = b.room in omega arith);
+      same = λ j q. sym (ap (λ (w : List ℕ). slice_index w j) e ∙ get_or-append settled (low ∷ []) 0 j q) ∙ b.same j (omega arith);
+    }
 
 -- ---- giving up
 
@@ -115,7 +128,8 @@ module _ (M : Rep) (d : Trail) (k s : ℕ) where
   -- where each form has a greater number at the first place where it may differ
   pub given_up : (found : Option (List ℕ)) (settled : List ℕ) → length settled ≡ s → M.rank + s ≤ size M → Stands true found settled
       → ((m : Move) (N : Rep) → ReachesForm M m N → Follows M d k s m → (j : ℕ) → j < s → number M (λ f i. matrix N f i (M.rank + j)) ≡ slice_index settled j)
-      → MatchOption found ⊥ (λ least. (s < length least) × (length least ≡ size M - M.rank) × ((m : Move) (N : Rep) → ReachesForm M m N → Follows M d k s m → slice_index least s < number M (λ f i. matrix N f i (M.rank + s))))
+      → MatchOption found ⊥ (λ least. (s < length least) × (length least ≡ size M - M.rank)
+      × ((m : Move) (N : Rep) → ReachesForm M m N → Follows M d k s m → slice_index least s < number M (λ f i. matrix N f i (M.rank + s))))
       → Covers M d k s found
   given_up None settled e r b h g m N reach f = b
   given_up (Some least) settled e r b h g m N reach f =
@@ -149,7 +163,8 @@ improves_more M old now new settled a b c x y none one = record {
     by false z e = subst (λ (w : Option (List ℕ)). MatchOption w ⊥ (λ least. BeginsWith settled least)) (sym (y.kept z)) (x.begins (one e z))
 
 -- seen from fewer settled numbers
-pub improves_before : (M : Rep) (old new : Option (List ℕ)) (settled longer : List ℕ) (low : ℕ) (r : Bool) → longer ≡ settled ++ low ∷ [] → Improves M old new longer r → Improves M old new settled r
+pub improves_before : (M : Rep) (old new : Option (List ℕ)) (settled longer : List ℕ) (low : ℕ) (r : Bool) →
+    longer ≡ settled ++ low ∷ [] → Improves M old new longer r → Improves M old new settled r
 improves_before M old new settled longer low r e w = record { sound = w.sound; lower = w.lower; kept = w.kept; begins = λ z. by new (w.begins z) }
   where
     by : (o : Option (List ℕ)) → MatchOption o ⊥ (λ least. BeginsWith longer least) → MatchOption o ⊥ (λ least. BeginsWith settled least)
@@ -157,19 +172,23 @@ improves_before M old new settled longer low r e w = record { sound = w.sound; l
     by (Some least) h = begins_before settled longer least low e h
 
 -- what covers goes on covering
-pub covers_on : (M : Rep) (d : Trail) (k s : ℕ) (old new : Option (List ℕ)) → ((numbers : List ℕ) → IsAtMost old numbers → IsAtMost new numbers) → Covers M d k s old → Covers M d k s new
+pub covers_on : (M : Rep) (d : Trail) (k s : ℕ) (old new : Option (List ℕ)) →
+    ((numbers : List ℕ) → IsAtMost old numbers → IsAtMost new numbers) → Covers M d k s old → Covers M d k s new
 covers_on M d k s old new w c m N reach f = w (numbers_of M N) (c m N reach f)
 
 -- how it stands afterwards: level where it was replaced
-pub stands_after : (M : Rep) (old new : Option (List ℕ)) (settled : List ℕ) (replaced level after : Bool) → Improves M old new settled replaced → Stands level old settled
+pub stands_after : (M : Rep) (old new : Option (List ℕ)) (settled : List ℕ) (replaced level after : Bool) →
+    Improves M old new settled replaced → Stands level old settled
     → (replaced ≡ true → after ≡ true) → (replaced ≡ false → after ≡ level) → Stands after new settled
 stands_after M old new settled true level after w h a b = subst (λ (v : Bool). Stands v new settled) (sym (a refl)) (w.begins refl)
-stands_after M old new settled false level after w h a b = subst (λ (v : Bool). Stands v new settled) (sym (b refl)) (subst (λ (o : Option (List ℕ)). Stands level o settled) (sym (w.kept refl)) h)
+stands_after M old new settled false level after w h a b = subst (λ (v : Bool). Stands v new settled) (sym (b refl))
+    (subst (λ (o : Option (List ℕ)). Stands level o settled) (sym (w.kept refl)) h)
 
 -- ---- a full list
 
 -- the settled numbers are those of each form
-pub full_at_most : (M : Rep) (N : Rep) (settled : List ℕ) → M.rank + length settled ≡ size M → ((j : ℕ) → j < length settled → number M (λ f i. matrix N f i (M.rank + j)) ≡ slice_index settled j)
+pub full_at_most : (M : Rep) (N : Rep) (settled : List ℕ) → M.rank + length settled ≡ size M →
+    ((j : ℕ) → j < length settled → number M (λ f i. matrix N f i (M.rank + j)) ≡ slice_index settled j)
     → numbers_of M N ≡ settled
 full_at_most M N settled e h = ext_get_or 0 (numbers_of M N) settled (numbers_length M N ∙ omega arith)
     (λ j l. let n : length (numbers_of M N) ≡ size M - M.rank = numbers_length M N in numbers_at M N j (omega arith) ∙ h j (omega arith))
@@ -179,7 +198,8 @@ pub full_begins : (settled numbers : List ℕ) → length settled ≡ length num
 full_begins settled numbers e b = ext_get_or 0 settled numbers e b.same
 
 -- it takes the place of what it is below
-pub replaced : (M : Rep) (old : Option (List ℕ)) (settled : List ℕ) → Stands false old settled → AreOfClass M settled → Improves M old (Some settled) settled true
+pub replaced : (M : Rep) (old : Option (List ℕ)) (settled : List ℕ) → Stands false old settled → AreOfClass M settled →
+    Improves M old (Some settled) settled true
 replaced M old settled b c = record {
   sound = c;
   lower = by old b;

@@ -13,17 +13,21 @@ use Rattle.form_search.proofs.Columns.{number_entries}
 use Rattle.form_search.proofs.Ends.{member_begins}
 use Rattle.form_search.proofs.Found.{not_above_itself, full_at_most, full_begins, class_length, replaced}
 
-module _ (M : Rep) (shaped : IsShaped M) (some : 0 < count M) (k : ℕ) (groups : ℕ → ℕ) (settled : List ℕ) (layer rest : Entries) (d : Trail) (h : IsPlacing M k groups settled layer rest d) where
+module _ (M : Rep) (shaped : IsShaped M) (some : 0 < count M) (k : ℕ) (groups : ℕ → ℕ) (settled : List ℕ) (layer rest : Entries)
+    (d : Trail) (h : IsPlacing M k groups settled layer rest d) where
   -- the settled numbers are those of each form that follows the trail
-  pub settled_numbers : (m : Move) (N : Rep) → ReachesForm M m N → Follows M d k (length settled) m → (j : ℕ) → j < length settled → number M (λ f i. matrix N f i (M.rank + j)) ≡ slice_index settled j
+  pub settled_numbers : (m : Move) (N : Rep) → ReachesForm M m N → Follows M d k (length settled) m → (j : ℕ) → j < length settled →
+      number M (λ f i. matrix N f i (M.rank + j)) ≡ slice_index settled j
   settled_numbers m N reach f j l =
-      number_entries M (λ f i. matrix N f i (M.rank + j)) (d.columns j) (λ g i b o. (let t = h.trail in let w = t.determines in w.begins m N reach f j g i l b o)) ∙ sym (h.numbers j l)
+      number_entries M (λ f i. matrix N f i (M.rank + j)) (d.columns j)
+      (λ g i b o. (let t = h.trail in let w = t.determines in w.begins m N reach f j g i l b o)) ∙ sym (h.numbers j l)
 
   -- an open element leaves room
   pub settled_room : M.rank + length settled ≤ size M
   settled_room = let t = h.trail in let p = t.placed in p.room
 
-module _ (M : Rep) (shaped : IsShaped M) (some : 0 < count M) (groups : ℕ → ℕ) (settled : List ℕ) (layer rest : Entries) (d : Trail) (h : IsPlacing M 0 groups settled layer rest d)
+module _ (M : Rep) (shaped : IsShaped M) (some : 0 < count M) (groups : ℕ → ℕ) (settled : List ℕ) (layer rest : Entries) (d : Trail)
+    (h : IsPlacing M 0 groups settled layer rest d)
     (none : (e : ℕ) → IsThere layer e → ⊥) where
   pub all_settled : M.rank + length settled ≡ size M
   all_settled = elim (cases_lt (M.rank + length settled) (size M)) [
@@ -39,7 +43,8 @@ module _ (M : Rep) (shaped : IsShaped M) (some : 0 < count M) (groups : ℕ → 
     member = L;
     standard = w.standard;
     equivalent = w.equivalent;
-    numbers_are = full_at_most M L settled all_settled (λ j l. number_entries M (λ f i. matrix L f i (M.rank + j)) (d.columns j) (λ g i b o. w.entries j g i l b o) ∙ sym (h.numbers j l));
+    numbers_are = full_at_most M L settled all_settled
+        (λ j l. number_entries M (λ f i. matrix L f i (M.rank + j)) (d.columns j) (λ g i b o. w.entries j g i l b o) ∙ sym (h.numbers j l));
   }
 
   form_numbers : (m : Move) (N : Rep) → ReachesForm M m N → Follows M d 0 (length settled) m → numbers_of M N ≡ settled
@@ -53,7 +58,9 @@ module _ (M : Rep) (shaped : IsShaped M) (some : 0 < count M) (groups : ℕ → 
   level_covers None s b m N reach f = b
   level_covers (Some least) s b m N reach f =
       subst (λ (w : List ℕ). slice_cmp nat_cmp w (numbers_of M N) ≢ Greater)
-      (full_begins settled least (let n : length least ≡ size M - M.rank = class_length M least s in let e : M.rank + length settled ≡ size M = all_settled in omega arith) b)
+      (full_begins settled least
+      (let n : length least ≡ size M - M.rank = class_length M least s in
+      let e : M.rank + length settled ≡ size M = all_settled in omega arith) b)
       (settled_covers m N reach f)
 
   pub settled_improves : (found : Option (List ℕ)) → Stands false found settled → Improves M found (Some settled) settled true

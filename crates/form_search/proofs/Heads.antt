@@ -20,7 +20,8 @@ module _ (M : Rep) (shaped : IsShaped M) (p k : ℕ) (p_most : p ≤ k) (k_below
 
   -- row k
   pub pivoted_here : (f : ℕ) → pivoted M p k minus e f k ≡ e f p
-  pivoted_here f = ap (cleared M p minus e f) (exchange_two p k) ∙ ap (λ b. cond b (e f p) (plus (order M f) (e f p) (times (order M f) (e f p) (minus f p)))) (same_number p)
+  pivoted_here f = ap (cleared M p minus e f) (exchange_two p k)
+      ∙ ap (λ b. cond b (e f p) (plus (order M f) (e f p) (times (order M f) (e f p) (minus f p)))) (same_number p)
 
   -- the rows before k have the other rows up to k
   pub before_from : (i : ℕ) → i < k → (exchange p k i ≤ k) × (exchange p k i ≢ p)
@@ -38,7 +39,8 @@ module _ (M : Rep) (shaped : IsShaped M) (p k : ℕ) (p_most : p ≤ k) (k_below
   cleared_other : (f j : ℕ) → j ≢ p → cleared M p minus e f j ≡ plus (order M f) (e f j) (times (order M f) (e f p) (minus f j))
   cleared_other f j n = ap (λ b. cond b (e f p) (plus (order M f) (e f j) (times (order M f) (e f p) (minus f j)))) (other_number j p n)
 
-  module _ (c : ℕ → ℕ → ℕ) (c_code : (f i : ℕ) → f < count M → i < M.rank → c f i < order M f) (e_code : (f i : ℕ) → f < count M → i < M.rank → e f i < order M f)
+  module _ (c : ℕ → ℕ → ℕ) (c_code : (f i : ℕ) → f < count M → i < M.rank → c f i < order M f)
+      (e_code : (f i : ℕ) → f < count M → i < M.rank → e f i < order M f)
       (m_code : (f i : ℕ) → f < count M → i < M.rank → minus f i < order M f)
       (opposite : (f i : ℕ) → f < count M → i < M.rank → plus (order M f) (c f i) (minus f i) ≡ 0) (ones : (f : ℕ) → f < count M → c f p ≡ 1) where
     -- where the columns agree up to row k
@@ -68,15 +70,21 @@ module _ (M : Rep) (shaped : IsShaped M) (p k : ℕ) (p_most : p ≤ k) (k_below
     module _ (none : (f i : ℕ) → f < count M → i < k → pivoted M p k minus e f i ≡ 0) where
       multiple : (f j : ℕ) → f < count M → j ≤ k → e f j ≡ times (order M f) (e f p) (c f j)
       multiple f j l b = let G = F f l in elim (cases_eq j p) [
-        | inl o ↦ ap (e f) o ∙ sym (ap (λ j. times (order M f) (e f p) (c f j)) o ∙ ap (times (order M f) (e f p)) (ones f l) ∙ G.times_comm (e f p) 1 ∙ G.times_one (e f p) (e_code f p l (omega arith)))
+        | inl o ↦ ap (e f) o ∙ sym
+            (ap (λ j. times (order M f) (e f p) (c f j)) o ∙ ap (times (order M f) (e f p)) (ones f l) ∙ G.times_comm (e f p) 1
+            ∙ G.times_one (e f p) (e_code f p l (omega arith)))
         | inr n ↦ (let (i, bi, z) = before_onto j b n in
-            plus_cancel (order M f) G (times (order M f) (e f p) (minus f j)) (e f j) (times (order M f) (e f p) (c f j)) (e_code f j l (omega arith)) (G.times_below _ _)
+            plus_cancel (order M f) G (times (order M f) (e f p) (minus f j)) (e f j) (times (order M f) (e f p) (c f j))
+            (e_code f j l (omega arith)) (G.times_below _ _)
             (G.plus_comm (times (order M f) (e f p) (minus f j)) (e f j) ∙ sym (cleared_other f j n) ∙ ap (cleared M p minus e f) (sym z) ∙ none f i l bi
-            ∙ sym (sym (G.times_plus (e f p) (minus f j) (c f j)) ∙ ap (times (order M f) (e f p)) (G.plus_comm (minus f j) (c f j) ∙ opposite f j l (omega arith)) ∙ times_zero (order M f) G (e f p))))
+            ∙ sym (sym (G.times_plus (e f p) (minus f j) (c f j))
+            ∙ ap (times (order M f) (e f p)) (G.plus_comm (minus f j) (c f j) ∙ opposite f j l (omega arith))
+            ∙ times_zero (order M f) G (e f p))))
       ]
 
       -- if both begin with 1 in every factor, and the chosen one at row p, they agree
-      pub head_same : ((f i : ℕ) → f < count M → i < p → c f i ≡ 0) → (t : ℕ) → t ≤ k → ((f : ℕ) → f < count M → e f t ≡ 1) → ((f i : ℕ) → f < count M → i < t → e f i ≡ 0)
+      pub head_same : ((f i : ℕ) → f < count M → i < p → c f i ≡ 0) → (t : ℕ) → t ≤ k → ((f : ℕ) → f < count M → e f t ≡ 1) →
+          ((f i : ℕ) → f < count M → i < t → e f i ≡ 0)
           → (f j : ℕ) → f < count M → j ≤ k → e f j ≡ c f j
       head_same zc t bt one ze f j l b = let G = F f l in
           multiple f j l b ∙ ap (λ y. times (order M f) y (c f j)) at_p ∙ G.times_one (c f j) (c_code f j l (omega arith))
@@ -84,9 +92,13 @@ module _ (M : Rep) (shaped : IsShaped M) (p k : ℕ) (p_most : p ≤ k) (k_below
           -- the lead of the column is row p
           at_p : e f p ≡ 1
           at_p = elim (cases_lt t p) [
-            | inl q ↦ (let n : zero ≡ 1 = sym (multiple f t l bt ∙ ap (times (order M f) (e f p)) (zc f t l q) ∙ times_zero (order M f) (F f l) (e f p)) ∙ one f l in absurd (omega arith))
+            | inl q ↦ (let n : zero ≡ 1 =
+                sym (multiple f t l bt ∙ ap (times (order M f) (e f p)) (zc f t l q) ∙ times_zero (order M f) (F f l) (e f p))
+                ∙ one f l in absurd (omega arith))
             | inr g ↦ elim (cases_lt p t) [
-              | inl q ↦ (let n : zero ≡ 1 = sym (multiple f t l bt ∙ ap (λ y. times (order M f) y (c f t)) (ze f p l q) ∙ zero_times (order M f) (F f l) (c f t)) ∙ one f l in absurd (omega arith))
+              | inl q ↦ (let n : zero ≡ 1 =
+                  sym (multiple f t l bt ∙ ap (λ y. times (order M f) y (c f t)) (ze f p l q)
+                  ∙ zero_times (order M f) (F f l) (c f t)) ∙ one f l in absurd (omega arith))
               | inr g' ↦ (let o : t ≡ p = omega arith in ap (e f) (sym o) ∙ one f l)
             ]
           ]

@@ -94,7 +94,9 @@ module _ (M : Rep) (shaped : IsShaped M) (some : 0 < count M) (k s : ℕ) (group
     next_within =
         let n : number M (λ f i. matrix N f i p) ≤ number M (scaled M groups own c) = next_at_most_open in
         let w : number M (λ f i. matrix L f i p) < 16 ^ ((M.rank - k) * count M) =
-        number_within M L l_shaped l_same p p_below k (h.rows) (λ f i l b. (let w = next in w.next f i l (let r : k ≤ M.rank = h.rows in omega arith)) ∙ ap (times (order M f) (own f (groups i))) (z f i l b) ∙ times_zero (order M f) (field M shaped f l) (own f (groups i))) in
+        number_within M L l_shaped l_same p p_below k (h.rows)
+        (λ f i l b. (let w = next in w.next f i l (let r : k ≤ M.rank = h.rows in omega arith))
+        ∙ ap (times (order M f) (own f (groups i))) (z f i l b) ∙ times_zero (order M f) (field M shaped f l) (own f (groups i))) in
         let e : number M (λ f i. matrix L f i p) ≡ number M (scaled M groups own c) = l_number in omega arith
 
     -- ---- where the element is the form's own
@@ -115,7 +117,9 @@ module _ (M : Rep) (shaped : IsShaped M) (some : 0 < count M) (k s : ℕ) (group
       row_factor_scalar : (f i : ℕ) → f < count M → i < M.rank → IsScalar (order M f) (row_factor M d m f i)
       row_factor_scalar f i l b =
           times_scalar (order M f) (field M shaped f l) (inverse (order M f) (m.scalar f i)) (d.scalar f i)
-          (inverse_scalar (order M f) (field M shaped f l) (m.scalar f i) (record { code = reach.valid.scalars f i l inside; nonzero = reach.valid.nonzero f i l inside })) (row_scalars M shaped d h.ordered f i l b)
+          (inverse_scalar (order M f) (field M shaped f l) (m.scalar f i)
+          (record { code = reach.valid.scalars f i l inside; nonzero = reach.valid.nonzero f i l inside }))
+          (row_scalars M shaped d h.ordered f i l b)
         where
           inside : i < size M
           inside = let o = h.ordered in let r : M.rank ≤ size M = o.room in omega arith
@@ -139,11 +143,14 @@ module _ (M : Rep) (shaped : IsShaped M) (some : 0 < count M) (k s : ℕ) (group
       multiple_is : (f g : ℕ) (w : Chosen g) → f < count M → IsScalar (order M f) (multiple_by f g w)
       unfolding Chosen multiple_by
       multiple_is f g (inl w) l =
-          times_scalar (order M f) (field M shaped f l) (factor f) (times (order M f) (row_factor M d m f w.0) (inverse (order M f) (own f g))) (factor_scalar f l)
-          (times_scalar (order M f) (field M shaped f l) (row_factor M d m f w.0) (inverse (order M f) (own f g)) (row_factor_scalar f w.0 l w.1) (inverse_scalar (order M f) (field M shaped f l) (own f g) (own_scalars f g l)))
+          times_scalar (order M f) (field M shaped f l) (factor f)
+          (times (order M f) (row_factor M d m f w.0) (inverse (order M f) (own f g))) (factor_scalar f l)
+          (times_scalar (order M f) (field M shaped f l) (row_factor M d m f w.0) (inverse (order M f) (own f g))
+          (row_factor_scalar f w.0 l w.1) (inverse_scalar (order M f) (field M shaped f l) (own f g) (own_scalars f g l)))
       multiple_is f g (inr n) l = one_scalar (order M f) (field M shaped f l)
 
-      multiple_at : (f i : ℕ) (w : Chosen (groups i)) → f < count M → i < M.rank → k ≤ i → matrix N f i p ≡ times (order M f) (multiple_by f (groups i) w) (scaled M groups own c f i)
+      multiple_at : (f i : ℕ) (w : Chosen (groups i)) → f < count M → i < M.rank → k ≤ i →
+          matrix N f i p ≡ times (order M f) (multiple_by f (groups i) w) (scaled M groups own c f i)
       unfolding Chosen multiple_by
       multiple_at f i (inl w) l b q =
           n_entry f i l b
@@ -160,11 +167,14 @@ module _ (M : Rep) (shaped : IsShaped M) (some : 0 < count M) (k s : ℕ) (group
 
       entries : (i f : ℕ) → i < M.rank → f < count M → matrix N f i p ≡ times (order M f) (multiple_by f (groups i) (chosen (groups i))) (matrix L f i p)
       entries i f b l = elim (cases_lt i k) [
-        | inr q ↦ multiple_at f i (chosen (groups i)) l b q ∙ ap (times (order M f) (multiple_by f (groups i) (chosen (groups i)))) (sym (let w = next in w.next f i l b))
+        | inr q ↦ multiple_at f i (chosen (groups i)) l b q ∙ ap (times (order M f) (multiple_by f (groups i) (chosen (groups i))))
+            (sym (let w = next in w.next f i l b))
         | inl q ↦ (let F = field M shaped f l in
             n_entry f i l b ∙ ap (λ v. times (order M f) (factor f) (times (order M f) (row_factor M d m f i) v)) (z f i l q)
             ∙ ap (times (order M f) (factor f)) (times_zero (order M f) F (row_factor M d m f i)) ∙ times_zero (order M f) F (factor f)
-            ∙ sym (ap (times (order M f) (multiple_by f (groups i) (chosen (groups i)))) ((let w = next in w.next f i l b) ∙ ap (times (order M f) (own f (groups i))) (z f i l q) ∙ times_zero (order M f) F (own f (groups i)))
+            ∙ sym (ap (times (order M f) (multiple_by f (groups i) (chosen (groups i))))
+            ((let w = next in w.next f i l b) ∙ ap (times (order M f) (own f (groups i))) (z f i l q)
+            ∙ times_zero (order M f) F (own f (groups i)))
             ∙ times_zero (order M f) F (multiple_by f (groups i) (chosen (groups i)))))
       ]
 
@@ -177,14 +187,17 @@ module _ (M : Rep) (shaped : IsShaped M) (some : 0 < count M) (k s : ℕ) (group
           (column_length M L l_shaped l_same p p_below) (column_length M N n_shaped n_same p p_below)
           (λ i f b l. subst (λ v. v < order M f) (sym (l_code f i l b)) (let F = field M shaped f l in F.times_below _ _))
           (λ i f b l zs ne. l_code f i l b ∙ ones.leads f i l b
-          (λ j q e. zero_factor (order M f) (field M shaped f l) (own f (groups j)) (c f j) (own_scalars f (groups j) l) (a.codes f j l (omega arith)) (sym (l_code f j l (omega arith)) ∙ zs j q e))
+          (λ j q e. zero_factor (order M f) (field M shaped f l) (own f (groups j)) (c f j) (own_scalars f (groups j) l)
+          (a.codes f j l (omega arith)) (sym (l_code f j l (omega arith)) ∙ zs j q e))
           (λ e. ne (l_code f i l b ∙ ap (times (order M f) (own f (groups i))) e ∙ times_zero (order M f) (field M shaped f l) (own f (groups i)))))
           (λ f g l. (let w = multiple_is f g (chosen g) l in w.code)) (λ f g l. (let w = multiple_is f g (chosen g) l in w.nonzero))
-          (λ i f b l. sym (column_code M N n_shaped n_same p p_below f i) ∙ entries i f b l ∙ ap (times (order M f) (multiple_by f (groups i) (chosen (groups i)))) (column_code M L l_shaped l_same p p_below f i))
+          (λ i f b l. sym (column_code M N n_shaped n_same p p_below f i) ∙ entries i f b l
+          ∙ ap (times (order M f) (multiple_by f (groups i) (chosen (groups i)))) (column_code M L l_shaped l_same p p_below f i))
 
       same_number : number M (λ f i. matrix N f i p) ≡ number M (λ f i. matrix L f i p)
       same_number =
-          let u : number M (λ f i. matrix L f i p) ≤ number M (λ f i. matrix N f i p) = number_at_most M L N l_shaped n_shaped l_same n_same p p_below own_least in
+          let u : number M (λ f i. matrix L f i p) ≤ number M (λ f i. matrix N f i p) =
+          number_at_most M L N l_shaped n_shaped l_same n_same p p_below own_least in
           let v : number M (λ f i. matrix N f i p) ≤ number M (scaled M groups own c) = next_at_most_open in
           let e : number M (λ f i. matrix L f i p) ≡ number M (scaled M groups own c) = l_number in omega arith
 
@@ -196,10 +209,13 @@ module _ (M : Rep) (shaped : IsShaped M) (some : 0 < count M) (k s : ℕ) (group
       next_number = number_entries M (λ f i. matrix N f i p) (scaled M groups own c) next_is_own
 
       -- so the rows that it meets have one factor, where that of the group is taken off
-      met : (f i : ℕ) → f < count M → i < M.rank → c f i ≢ 0 → times (order M f) (row_factor M d m f i) (inverse (order M f) (own f (groups i))) ≡ inverse (order M f) (factor f)
+      met : (f i : ℕ) → f < count M → i < M.rank → c f i ≢ 0 →
+          times (order M f) (row_factor M d m f i) (inverse (order M f) (own f (groups i))) ≡ inverse (order M f) (factor f)
       met f i l b ne =
-          inverse_only (order M f) F (factor f) (times (order M f) (row_factor M d m f i) (inverse (order M f) (own f (groups i)))) (factor_scalar f l) (F.times_below _ _)
-          (sym (F.times_assoc (factor f) (row_factor M d m f i) (inverse (order M f) (own f (groups i)))) ∙ ap (λ v. times (order M f) v (inverse (order M f) (own f (groups i)))) product
+          inverse_only (order M f) F (factor f) (times (order M f) (row_factor M d m f i) (inverse (order M f) (own f (groups i))))
+          (factor_scalar f l) (F.times_below _ _)
+          (sym (F.times_assoc (factor f) (row_factor M d m f i) (inverse (order M f) (own f (groups i))))
+          ∙ ap (λ v. times (order M f) v (inverse (order M f) (own f (groups i)))) product
           ∙ F.times_inverse (own f (groups i)) (ones.codes f (groups i) l) (ones.nonzero f (groups i) l))
         where
           F : IsField (order M f)
@@ -207,16 +223,20 @@ module _ (M : Rep) (shaped : IsShaped M) (some : 0 < count M) (k s : ℕ) (group
 
           product : times (order M f) (factor f) (row_factor M d m f i) ≡ own f (groups i)
           product =
-              cancelled (order M f) F (c f i) (times (order M f) (factor f) (row_factor M d m f i)) (own f (groups i)) (record { code = a.codes f i l b; nonzero = ne }) (F.times_below _ _) (ones.codes f (groups i) l)
-              (F.times_comm (c f i) (times (order M f) (factor f) (row_factor M d m f i)) ∙ F.times_assoc (factor f) (row_factor M d m f i) (c f i) ∙ sym (n_entry f i l b) ∙ next_is_own f i l b
+              cancelled (order M f) F (c f i) (times (order M f) (factor f) (row_factor M d m f i)) (own f (groups i))
+              (record { code = a.codes f i l b; nonzero = ne }) (F.times_below _ _) (ones.codes f (groups i) l)
+              (F.times_comm (c f i) (times (order M f) (factor f) (row_factor M d m f i))
+              ∙ F.times_assoc (factor f) (row_factor M d m f i) (c f i) ∙ sym (n_entry f i l b) ∙ next_is_own f i l b
               ∙ F.times_comm (own f (groups i)) (c f i))
 
       pub met_rows : (f i j : ℕ) → f < count M → i < M.rank → j < M.rank → c f i ≢ 0 → c f j ≢ 0
-          → times (order M f) (row_factor M d m f i) (inverse (order M f) (own f (groups i))) ≡ times (order M f) (row_factor M d m f j) (inverse (order M f) (own f (groups j)))
+          → times (order M f) (row_factor M d m f i) (inverse (order M f) (own f (groups i))) ≡ times (order M f)
+          (row_factor M d m f j) (inverse (order M f) (own f (groups j)))
       met_rows f i j l b o ne ne' = met f i l b ne ∙ sym (met f j l o ne')
 
   -- an element with a code before row k, in the next place
-  module _ (p_below : M.rank + s < size M) (c : ℕ → ℕ → ℕ) (a : AreCoordinates M d (m.label (M.rank + s)) c) (f i : ℕ) (l : f < count M) (b : i < k) (ne : c f i ≢ 0) where
+  module _ (p_below : M.rank + s < size M) (c : ℕ → ℕ → ℕ) (a : AreCoordinates M d (m.label (M.rank + s)) c) (f i : ℕ)
+      (l : f < count M) (b : i < k) (ne : c f i ≢ 0) where
     pub next_outside : 16 ^ ((M.rank - k) * count M) ≤ number M (λ f i. matrix N f i (M.rank + s))
     next_outside =
         let w = some_before M shaped some d h.ordered k h.rows m N n_standard reach.valid reach.takes rows (M.rank + s) p_below c a f i l b ne in

@@ -100,8 +100,12 @@ module _ (M : Rep) (shaped : IsShaped M) (some : 0 < count M) (k s : ℕ) (group
 
     coordinates : (j : ℕ) → j < s + 1 → AreCoordinates M d (label (M.rank + j)) (columns j)
     coordinates j l = elim (cases_lt j s) [
-      | inl b ↦ (let p = h.placed in subst (λ y. AreCoordinates M d y (columns j)) (sym (label_placed j b)) (subst (AreCoordinates M d (d.label (M.rank + j))) (sym (columns_before j b)) (p.coordinates j b)))
-      | inr g ↦ (let e : s ≡ j = omega arith in subst (λ y. AreCoordinates M d y (columns j)) (sym label_here ∙ ap (λ y. label (M.rank + y)) e) (subst (AreCoordinates M d x) (sym (columns_here j g)) a))
+      | inl b ↦ (let p = h.placed in
+          subst (λ y. AreCoordinates M d y (columns j)) (sym (label_placed j b))
+          (subst (AreCoordinates M d (d.label (M.rank + j))) (sym (columns_before j b)) (p.coordinates j b)))
+      | inr g ↦ (let e : s ≡ j = omega arith in
+          subst (λ y. AreCoordinates M d y (columns j)) (sym label_here ∙ ap (λ y. label (M.rank + y)) e)
+          (subst (AreCoordinates M d x) (sym (columns_here j g)) a))
     ]
 
     zeros : (j : ℕ) → j < s + 1 → AreZeroBefore M k (columns j)
@@ -116,30 +120,38 @@ module _ (M : Rep) (shaped : IsShaped M) (some : 0 < count M) (k s : ℕ) (group
     multiple_by f j (inl l) (inr o) = 1
     multiple_by f j (inr g) w = 1
 
-    multiple_is : (f j : ℕ) (t : (j < s) ⊎ (s ≤ j)) (w : ((i : ℕ) × (i < M.rank) × (d.columns j f i ≢ 0)) ⊎ ((i : ℕ) → i < M.rank → d.columns j f i ≡ 0)) → f < count M → IsScalar (order M f) (multiple_by f j t w)
+    multiple_is : (f j : ℕ) (t : (j < s) ⊎ (s ≤ j))
+        (w : ((i : ℕ) × (i < M.rank) × (d.columns j f i ≢ 0)) ⊎ ((i : ℕ) → i < M.rank → d.columns j f i ≡ 0)) → f < count M →
+        IsScalar (order M f) (multiple_by f j t w)
     unfolding multiple_by
     multiple_is f j (inl l) (inl w) b = inverse_scalar (order M f) (field M shaped f b) (own f (groups w.0)) (own_scalars f (groups w.0) b)
     multiple_is f j (inl l) (inr o) b = one_scalar (order M f) (field M shaped f b)
     multiple_is f j (inr g) w b = one_scalar (order M f) (field M shaped f b)
 
-    stays : (f j i : ℕ) (t : (j < s) ⊎ (s ≤ j)) (w : ((i : ℕ) × (i < M.rank) × (d.columns j f i ≢ 0)) ⊎ ((i : ℕ) → i < M.rank → d.columns j f i ≡ 0)) → j < s → f < count M → i < M.rank
+    stays : (f j i : ℕ) (t : (j < s) ⊎ (s ≤ j))
+        (w : ((i : ℕ) × (i < M.rank) × (d.columns j f i ≢ 0)) ⊎ ((i : ℕ) → i < M.rank → d.columns j f i ≡ 0)) → j < s → f < count M → i < M.rank
         → times (order M f) (multiple_by f j t w) (times (order M f) (own f (groups i)) (d.columns j f i)) ≡ d.columns j f i
     unfolding multiple_by
     stays f j i (inl l) (inl w) _ b o = let p = h.placed in elim (cases_eq (d.columns j f i) 0) [
       | inl e ↦ nothing (inverse (order M f) (own f (groups w.0))) e
-      | inr ne ↦ ap (λ g. times (order M f) (inverse (order M f) (own f (groups w.0))) (times (order M f) (own f g) (d.columns j f i))) (p.in_one_group j f f i w.0 l b b o w.1 ne w.2)
-          ∙ undone (order M f) (field M shaped f b) (own f (groups w.0)) (d.columns j f i) (own_scalars f (groups w.0) b) (let v = p.coordinates j l in v.codes f i b o)
+      | inr ne ↦ ap (λ g. times (order M f) (inverse (order M f) (own f (groups w.0)))
+          (times (order M f) (own f g) (d.columns j f i))) (p.in_one_group j f f i w.0 l b b o w.1 ne w.2)
+          ∙ undone (order M f) (field M shaped f b) (own f (groups w.0)) (d.columns j f i) (own_scalars f (groups w.0) b)
+          (let v = p.coordinates j l in v.codes f i b o)
     ]
       where
         nothing : (y : ℕ) → d.columns j f i ≡ 0 → times (order M f) y (times (order M f) (own f (groups i)) (d.columns j f i)) ≡ d.columns j f i
-        nothing y e = ap (λ v. times (order M f) y (times (order M f) (own f (groups i)) v)) e ∙ ap (times (order M f) y) (times_zero (order M f) (field M shaped f b) (own f (groups i)))
+        nothing y e = ap (λ v. times (order M f) y (times (order M f) (own f (groups i)) v)) e
+            ∙ ap (times (order M f) y) (times_zero (order M f) (field M shaped f b) (own f (groups i)))
             ∙ times_zero (order M f) (field M shaped f b) y ∙ sym e
     stays f j i (inl l) (inr v) _ b o =
-        ap (λ v. times (order M f) 1 (times (order M f) (own f (groups i)) v)) (v i o) ∙ ap (times (order M f) 1) (times_zero (order M f) (field M shaped f b) (own f (groups i)))
+        ap (λ v. times (order M f) 1 (times (order M f) (own f (groups i)) v)) (v i o)
+        ∙ ap (times (order M f) 1) (times_zero (order M f) (field M shaped f b) (own f (groups i)))
         ∙ times_zero (order M f) (field M shaped f b) 1 ∙ sym (v i o)
     stays f j i (inr g) w l b o = absurd (omega arith)
 
-    at_end : (f : ℕ) (t : (s < s) ⊎ (s ≤ s)) (w : ((i : ℕ) × (i < M.rank) × (d.columns s f i ≢ 0)) ⊎ ((i : ℕ) → i < M.rank → d.columns s f i ≡ 0)) → multiple_by f s t w ≡ 1
+    at_end : (f : ℕ) (t : (s < s) ⊎ (s ≤ s))
+        (w : ((i : ℕ) × (i < M.rank) × (d.columns s f i ≢ 0)) ⊎ ((i : ℕ) → i < M.rank → d.columns s f i ≡ 0)) → multiple_by f s t w ≡ 1
     unfolding multiple_by
     at_end f (inl l) w = absurd (omega arith)
     at_end f (inr g) w = refl
@@ -149,7 +161,8 @@ module _ (M : Rep) (shaped : IsShaped M) (some : 0 < count M) (k s : ℕ) (group
 
     pub exchange_open : (L : Rep) × IsNext L
     exchange_open =
-        let (L, w) = made M shaped some d scalars k label place labels bases label_row (λ f i. own f (groups i)) (λ f i l _. own_scalars f (groups i) l) (s + 1) (let b : here < size M = here_below in omega arith)
+        let (L, w) = made M shaped some d scalars k label place labels bases label_row (λ f i. own f (groups i))
+        (λ f i l _. own_scalars f (groups i) l) (s + 1) (let b : here < size M = here_below in omega arith)
         columns coordinates zeros multiple (λ f j l _. multiple_is f j (cases_lt j s) (pivot_row M.rank (d.columns j f)) l) in (
           L,
           record {

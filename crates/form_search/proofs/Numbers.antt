@@ -26,14 +26,17 @@ digit_less x y n v w l m = let h : suc x * n ≤ y * n = mul-le-mul (let k : suc
 
 pub value_below : (xs : List ℕ) → AreDigits xs → value xs < 16 ^ length xs
 value_below [] h = lit< tt
-value_below (x ∷ xs) h = subst (λ (n : ℕ). x * 16 ^ length xs + value xs < n) (sym (pow-succ' 16 (length xs))) (digit_below x (16 ^ length xs) (value xs) (h 0 (omega arith)) (value_below xs (rest_digits x xs h)))
+value_below (x ∷ xs) h = subst (λ (n : ℕ). x * 16 ^ length xs + value xs < n) (sym (pow-succ' 16 (length xs)))
+    (digit_below x (16 ^ length xs) (value xs) (h 0 (omega arith)) (value_below xs (rest_digits x xs h)))
 
 -- the order of columns of one length is that of their values
-pub value_ranked : (xs ys : List ℕ) → AreDigits xs → AreDigits ys → length xs ≡ length ys → MatchOrdering (slice_cmp nat_cmp xs ys) (value xs < value ys) (value xs ≡ value ys) (value ys < value xs)
+pub value_ranked : (xs ys : List ℕ) → AreDigits xs → AreDigits ys → length xs ≡ length ys →
+    MatchOrdering (slice_cmp nat_cmp xs ys) (value xs < value ys) (value xs ≡ value ys) (value ys < value xs)
 value_ranked [] [] h g e = refl
 value_ranked [] (y ∷ ys) h g e = absurd (omega arith)
 value_ranked (x ∷ xs) [] h g e = absurd (omega arith)
-value_ranked (x ∷ xs) (y ∷ ys) h g e = both (nat_cmp x y) (slice_cmp nat_cmp xs ys) (ranked x y (nat_cmp x y) refl) (value_ranked xs ys (rest_digits x xs h) (rest_digits y ys g) as_long)
+value_ranked (x ∷ xs) (y ∷ ys) h g e = both (nat_cmp x y) (slice_cmp nat_cmp xs ys) (ranked x y (nat_cmp x y) refl)
+    (value_ranked xs ys (rest_digits x xs h) (rest_digits y ys g) as_long)
   where
     as_long : length xs ≡ length ys
     as_long = omega arith
@@ -43,11 +46,13 @@ value_ranked (x ∷ xs) (y ∷ ys) h g e = both (nat_cmp x y) (slice_cmp nat_cmp
 
     both : (o p : Ordering) → MatchOrdering o (x < y) (x ≡ y) (y < x) → MatchOrdering p (value xs < value ys) (value xs ≡ value ys) (value ys < value xs)
         → MatchOrdering (ordering_then o p) (value (x ∷ xs) < value (y ∷ ys)) (value (x ∷ xs) ≡ value (y ∷ ys)) (value (y ∷ ys) < value (x ∷ xs))
-    both Less p a b = subst (λ (k : ℕ). x * 16 ^ length xs + value xs < y * k + value ys) n (digit_less x y (16 ^ length xs) (value xs) (value ys) a (value_below xs (rest_digits x xs h)))
+    both Less p a b = subst (λ (k : ℕ). x * 16 ^ length xs + value xs < y * k + value ys) n
+        (digit_less x y (16 ^ length xs) (value xs) (value ys) a (value_below xs (rest_digits x xs h)))
     both Equal Less a b = let t : x * 16 ^ length xs ≡ y * 16 ^ length ys = (λ i. a i * n i) in omega arith
     both Equal Equal a b = let t : x * 16 ^ length xs ≡ y * 16 ^ length ys = (λ i. a i * n i) in omega arith
     both Equal Greater a b = let t : x * 16 ^ length xs ≡ y * 16 ^ length ys = (λ i. a i * n i) in omega arith
-    both Greater p a b = subst (λ (k : ℕ). y * k + value ys < x * 16 ^ length xs + value xs) n (subst (λ (k : ℕ). y * 16 ^ length xs + value ys < x * k + value xs) refl
+    both Greater p a b = subst (λ (k : ℕ). y * k + value ys < x * 16 ^ length xs + value xs) n
+        (subst (λ (k : ℕ). y * 16 ^ length xs + value ys < x * k + value xs) refl
         (digit_less y x (16 ^ length xs) (value ys) (value xs) a (subst (λ (k : ℕ). value ys < k) (sym n) (value_below ys (rest_digits y ys g)))))
 
 at_most_ranked : (o : Ordering) (a b : ℕ) → MatchOrdering o (a < b) (a ≡ b) (b < a) → o ≢ Greater → a ≤ b
@@ -70,7 +75,8 @@ same_order Greater Equal a b h g = absurd (omega arith)
 same_order Greater Greater a b h g = refl
 
 pub value_cmp : (xs ys : List ℕ) → AreDigits xs → AreDigits ys → length xs ≡ length ys → slice_cmp nat_cmp xs ys ≡ nat_cmp (value xs) (value ys)
-value_cmp xs ys h g e = same_order (slice_cmp nat_cmp xs ys) (nat_cmp (value xs) (value ys)) (value xs) (value ys) (value_ranked xs ys h g e) (ranked (value xs) (value ys) (nat_cmp (value xs) (value ys)) refl)
+value_cmp xs ys h g e = same_order (slice_cmp nat_cmp xs ys) (nat_cmp (value xs) (value ys)) (value xs) (value ys)
+    (value_ranked xs ys h g e) (ranked (value xs) (value ys) (nat_cmp (value xs) (value ys)) refl)
 
 -- equal values have equal codes
 pub value_same : (xs ys : List ℕ) → AreDigits xs → AreDigits ys → length xs ≡ length ys → value xs ≡ value ys → xs ≡ ys
@@ -87,10 +93,12 @@ value_same (x ∷ xs) (y ∷ ys) h g e v =
   where
     heads : 16 ^ length xs ≡ 16 ^ length ys → x ≡ y
     heads n = elim (cases_lt x y) [
-      | inl l ↦ (let k : x * 16 ^ length xs + value xs < y * 16 ^ length xs + value ys = digit_less x y (16 ^ length xs) (value xs) (value ys) l (value_below xs (rest_digits x xs h)) in
+      | inl l ↦ (let k : x * 16 ^ length xs + value xs < y * 16 ^ length xs + value ys = digit_less x y (16 ^ length xs) (value xs)
+          (value ys) l (value_below xs (rest_digits x xs h)) in
           let t : y * 16 ^ length xs ≡ y * 16 ^ length ys = ap (λ k. y * k) n in absurd (omega arith))
       | inr u ↦ elim (cases_lt y x) [
-        | inl l ↦ (let k : y * 16 ^ length ys + value ys < x * 16 ^ length ys + value xs = digit_less y x (16 ^ length ys) (value ys) (value xs) l (value_below ys (rest_digits y ys g)) in
+        | inl l ↦ (let k : y * 16 ^ length ys + value ys < x * 16 ^ length ys + value xs = digit_less y x (16 ^ length ys)
+            (value ys) (value xs) l (value_below ys (rest_digits y ys g)) in
             let t : x * 16 ^ length xs ≡ x * 16 ^ length ys = ap (λ k. x * k) n in absurd (omega arith))
         | inr w ↦ omega arith
       ]
@@ -135,7 +143,8 @@ value-weighed [] = refl
 value-weighed (x ∷ xs) = ap (λ v. x * 16 ^ length xs + v) (value-weighed xs) ∙ sym (weighed_first (slice_index (x ∷ xs)) (length xs))
 
 -- numbers with one number have the same digits
-pub weighed_injective : (d e : ℕ → ℕ) (n : ℕ) → ((k : ℕ) → k < n → d k < 16) → ((k : ℕ) → k < n → e k < 16) → weighed d n ≡ weighed e n → (k : ℕ) → k < n → d k ≡ e k
+pub weighed_injective : (d e : ℕ → ℕ) (n : ℕ) → ((k : ℕ) → k < n → d k < 16) → ((k : ℕ) → k < n → e k < 16) →
+    weighed d n ≡ weighed e n → (k : ℕ) → k < n → d k ≡ e k
 weighed_injective d e zero a b h k l = absurd (omega arith)
 weighed_injective d e (suc n) a b h k l =
     let x : d n < 16 = a n (omega arith) in
@@ -158,7 +167,9 @@ weighed_on_same v d e zero h = refl
 weighed_on_same v d e (suc n) h = λ i. weighed_on_same v d e n (λ k l. h k (omega arith)) i * 16 + h n (omega arith) i
 
 -- one more row of codes
-pub weighed_row : (c : ℕ → ℕ → ℕ) (count i : ℕ) → weighed (λ e. c (e % count) (e / count)) ((i + 1) * count) ≡ weighed_on (weighed (λ e. c (e % count) (e / count)) (i * count)) (λ f. c f i) count
+pub weighed_row : (c : ℕ → ℕ → ℕ) (count i : ℕ) →
+    weighed (λ e. c (e % count) (e / count)) ((i + 1) * count) ≡ weighed_on (weighed (λ e. c (e % count) (e / count)) (i * count))
+    (λ f. c f i) count
 weighed_row c count i =
     (let e : (i + 1) * count ≡ i * count + count = omega arith in ap (weighed (λ e. c (e % count) (e / count))) e)
     ∙ weighed_add (λ e. c (e % count) (e / count)) (i * count) count
@@ -186,5 +197,6 @@ pub digit_of : (d : ℕ → ℕ) (n e m : ℕ) → ((k : ℕ) → k < n → d k 
 digit_of d n e m h l z =
     ap (λ n. weighed d n / 16 ^ m % 16) z
     ∙ ap (λ v. v / 16 ^ m % 16) (weighed_split d (suc e) m)
-    ∙ ap (λ v. v % 16) (div-mul-add (weighed d (suc e)) (16 ^ m) (weighed (λ k. d (suc e + k)) m) (weighed_below (λ k. d (suc e + k)) m (λ k b. h (suc e + k) (omega arith))))
+    ∙ ap (λ v. v % 16) (div-mul-add (weighed d (suc e)) (16 ^ m) (weighed (λ k. d (suc e + k)) m)
+    (weighed_below (λ k. d (suc e + k)) m (λ k b. h (suc e + k) (omega arith))))
     ∙ mod-mul-add (weighed d e) 16 (d e) (h e l)

@@ -21,19 +21,24 @@ module _ (q : ℕ) (F : IsField q) (r : ℕ) where
   sum_start k (suc n) f le z =
       elim (cases_lt n k) [
         | inl b ↦ (let e : suc n ≡ k = omega arith in ap (λ n. sum_below q n f) e)
-        | inr g ↦ ap (plus q (sum_below q n f)) (z n g (omega arith)) ∙ plus_zero_right q F (sum_below q n f) (sum_below-code q F n f) ∙ sum_start k n f g (λ j l m. z j l (omega arith))
+        | inr g ↦ ap (plus q (sum_below q n f)) (z n g (omega arith))
+            ∙ plus_zero_right q F (sum_below q n f) (sum_below-code q F n f) ∙ sum_start k n f g (λ j l m. z j l (omega arith))
       ]
 
   -- independent columns p 0, .., p (r - 1), as a set
-  set_of_independent : (n : ℕ) (A : Matrix) (p u : ℕ → ℕ) → r ≤ n → ArePermutation n p u → Independent q r r (λ i l. A i (p l)) → IsIndependent q r n A (λ k. nat_lt (u k) r)
+  set_of_independent : (n : ℕ) (A : Matrix) (p u : ℕ → ℕ) → r ≤ n → ArePermutation n p u → Independent q r r (λ i l. A i (p l)) →
+      IsIndependent q r n A (λ k. nat_lt (u k) r)
   set_of_independent n A p u le w h = record {
     only_zero = λ a c z k l. elim (cases_lt (u k) r) [
-      | inl b ↦ ap a (sym (w.back k l)) ∙ h.only_zero (λ j. a (p j)) (all_coefficients q F r r r (λ j. a (p j)) (λ j m. c.codes (p j) (w.below j (omega arith)))) (λ i m. sym (rows a c.outside i) ∙ z i m) (u k) b
+      | inl b ↦ ap a (sym (w.back k l))
+          ∙ h.only_zero (λ j. a (p j)) (all_coefficients q F r r r (λ j. a (p j)) (λ j m. c.codes (p j) (w.below j (omega arith))))
+          (λ i m. sym (rows a c.outside i) ∙ z i m) (u k) b
       | inr g ↦ c.outside k l (le-ltb (u k) r g)
     ];
   }
     where
-      rows : (a : ℕ → ℕ) → ((j : ℕ) → j < n → nat_lt (u j) r ≡ false → a j ≡ 0) → (i : ℕ) → combination q n A a i ≡ combination q r (λ i l. A i (p l)) (λ j. a (p j)) i
+      rows : (a : ℕ → ℕ) → ((j : ℕ) → j < n → nat_lt (u j) r ≡ false → a j ≡ 0) → (i : ℕ) →
+          combination q n A a i ≡ combination q r (λ i l. A i (p l)) (λ j. a (p j)) i
       rows a o i =
           sym (sum_relabelled q F n p u w (λ k. times q (A i k) (a k)) (λ k _. F.times_below (A i k) (a k)))
           ∙ sum_start r n (λ l. times q (A i (p l)) (a (p l))) le
@@ -43,7 +48,9 @@ module _ (q : ℕ) (F : IsField q) (r : ℕ) where
   pub independent_relabelled : (A : Matrix) (p u : ℕ → ℕ) → ArePermutation r p u → Independent q r r A → Independent q r r (λ i l. A i (p l))
   independent_relabelled A p u w h = record {
     only_zero = λ a c z l b.
-        ap a (sym (w.there l b)) ∙ h.only_zero (λ j. a (u j)) (all_coefficients q F r r r (λ j. a (u j)) (λ j m. c.codes (u j) (w.inverse_below j m))) (λ i m. rows a i ∙ z i m) (p l) (w.below l b);
+        ap a (sym (w.there l b))
+        ∙ h.only_zero (λ j. a (u j)) (all_coefficients q F r r r (λ j. a (u j)) (λ j m. c.codes (u j) (w.inverse_below j m)))
+        (λ i m. rows a i ∙ z i m) (p l) (w.below l b);
   }
     where
       rows : (a : ℕ → ℕ) (i : ℕ) → combination q r A (λ j. a (u j)) i ≡ combination q r (λ i l. A i (p l)) a i
@@ -65,7 +72,8 @@ module _ (M : Rep) (shaped : IsShaped M) where
   }
 
   -- coordinates with the same codes
-  pub coordinates_same : (d : Trail) (x : ℕ) (c v : ℕ → ℕ → ℕ) → AreCoordinates M d x c → ((f i : ℕ) → f < count M → i < M.rank → c f i ≡ v f i) → AreCoordinates M d x v
+  pub coordinates_same : (d : Trail) (x : ℕ) (c v : ℕ → ℕ → ℕ) → AreCoordinates M d x c →
+      ((f i : ℕ) → f < count M → i < M.rank → c f i ≡ v f i) → AreCoordinates M d x v
   coordinates_same d x c v a e = record {
     codes = λ f i l b. subst (λ y. y < order M f) (e f i l b) (a.codes f i l b);
     scale = a.scale;
@@ -73,12 +81,14 @@ module _ (M : Rep) (shaped : IsShaped M) where
     scale_nonzero = a.scale_nonzero;
     combined = λ f i l b.
         sum_same (order M f) (field M shaped f l) M.rank (λ j. times (order M f) (matrix M f i (d.label j)) (times (order M f) (d.scalar f j) (v f j)))
-        (λ j. times (order M f) (matrix M f i (d.label j)) (times (order M f) (d.scalar f j) (c f j))) (λ j o. ap (λ y. times (order M f) (matrix M f i (d.label j)) (times (order M f) (d.scalar f j) y)) (sym (e f j l o)))
+        (λ j. times (order M f) (matrix M f i (d.label j)) (times (order M f) (d.scalar f j) (c f j)))
+        (λ j o. ap (λ y. times (order M f) (matrix M f i (d.label j)) (times (order M f) (d.scalar f j) y)) (sym (e f j l o)))
         ∙ a.combined f i l b;
   }
 
   -- coordinates from row k on, where the elements and scalars from there on stay
-  pub coordinates_kept : (d d' : Trail) (k : ℕ) → ((i : ℕ) → k ≤ i → i < M.rank → d'.label i ≡ d.label i) → ((f i : ℕ) → f < count M → k ≤ i → i < M.rank → d'.scalar f i ≡ d.scalar f i)
+  pub coordinates_kept : (d d' : Trail) (k : ℕ) → ((i : ℕ) → k ≤ i → i < M.rank → d'.label i ≡ d.label i) →
+      ((f i : ℕ) → f < count M → k ≤ i → i < M.rank → d'.scalar f i ≡ d.scalar f i)
       → (x : ℕ) (c : ℕ → ℕ → ℕ) → AreCoordinates M d x c → AreZeroBefore M k c → AreCoordinates M d' x c
   coordinates_kept d d' k labels scalars x c a z = record {
     codes = a.codes;
@@ -91,11 +101,14 @@ module _ (M : Rep) (shaped : IsShaped M) where
         ∙ a.combined f i l b;
   }
     where
-      term : (f i j : ℕ) → f < count M → j < M.rank → times (order M f) (matrix M f i (d'.label j)) (times (order M f) (d'.scalar f j) (c f j)) ≡ times (order M f) (matrix M f i (d.label j)) (times (order M f) (d.scalar f j) (c f j))
+      term : (f i j : ℕ) → f < count M → j < M.rank →
+          times (order M f) (matrix M f i (d'.label j)) (times (order M f) (d'.scalar f j) (c f j)) ≡ times (order M f)
+          (matrix M f i (d.label j)) (times (order M f) (d.scalar f j) (c f j))
       term f i j l o = let F = field M shaped f l in elim (cases_lt j k) [
         | inr g ↦ (λ t. times (order M f) (matrix M f i (labels j g o t)) (times (order M f) (scalars f j l g o t) (c f j)))
         | inl b ↦ nothing (matrix M f i (d'.label j)) (d'.scalar f j) (z f j l b) ∙ sym (nothing (matrix M f i (d.label j)) (d.scalar f j) (z f j l b))
       ]
         where
           nothing : (y t : ℕ) → c f j ≡ 0 → times (order M f) y (times (order M f) t (c f j)) ≡ 0
-          nothing y t e = ap (λ v. times (order M f) y (times (order M f) t v)) e ∙ ap (times (order M f) y) (times_zero (order M f) (field M shaped f l) t) ∙ times_zero (order M f) (field M shaped f l) y
+          nothing y t e = ap (λ v. times (order M f) y (times (order M f) t v)) e
+              ∙ ap (times (order M f) y) (times_zero (order M f) (field M shaped f l) t) ∙ times_zero (order M f) (field M shaped f l) y

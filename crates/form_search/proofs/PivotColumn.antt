@@ -18,7 +18,8 @@ module _ (q : ℕ) (F : IsField q) (r : ℕ) (U : Matrix) (p : ℕ) (p_below : p
 
   combination_plus : (a b : ℕ → ℕ) (i : ℕ) → combination q r U (λ l. plus q (a l) (b l)) i ≡ plus q (combination q r U a i) (combination q r U b i)
   combination_plus a b i =
-      sum_same q F r (λ l. times q (U i l) (plus q (a l) (b l))) (λ l. plus q (times q (U i l) (a l)) (times q (U i l) (b l))) (λ l _. F.times_plus (U i l) (a l) (b l))
+      sum_same q F r (λ l. times q (U i l) (plus q (a l) (b l))) (λ l. plus q (times q (U i l) (a l)) (times q (U i l) (b l)))
+      (λ l _. F.times_plus (U i l) (a l) (b l))
       ∙ sum_plus q F r (λ l. times q (U i l) (a l)) (λ l. times q (U i l) (b l))
 
   -- with these coefficients it is U with those that are 0 at p, and a p times the base
@@ -62,12 +63,14 @@ module _ (q : ℕ) (F : IsField q) (r : ℕ) (U : Matrix) (p : ℕ) (p_below : p
   pivoted_independent h = record {
     only_zero = λ a c z l b. (let all : (l : ℕ) → l < r → restored a l ≡ 0 =
         h.only_zero (restored a) (all_coefficients q F r r r (restored a) (λ l _. F.plus_below _ _)) (λ i o. sym (same_combination a i) ∙ z i o) in
-        let own : a p ≡ 0 = sym (ap (λ b. plus q (cond b 0 (a p)) (times q (a p) (B p))) (same_number p) ∙ F.plus_zero (times q (a p) (B p)) (F.times_below (a p) (B p))
+        let own : a p ≡ 0 = sym (ap (λ b. plus q (cond b 0 (a p)) (times q (a p) (B p))) (same_number p)
+        ∙ F.plus_zero (times q (a p) (B p)) (F.times_below (a p) (B p))
         ∙ ap (times q (a p)) one ∙ F.times_comm (a p) 1 ∙ F.times_one (a p) (c.codes p p_below)) ∙ all p p_below in
         elim (cases_eq l p) [
           | inl e ↦ ap a e ∙ own
           | inr n ↦ sym (ap (λ b. plus q (cond b 0 (a l)) (times q (a p) (B l))) (other_number l p n)
-              ∙ ap (λ x. plus q (a l) (times q x (B l))) own ∙ ap (plus q (a l)) (F.times_comm 0 (B l) ∙ times_zero q F (B l)) ∙ plus_zero_right q F (a l) (c.codes l b)) ∙ all l b
+              ∙ ap (λ x. plus q (a l) (times q x (B l))) own ∙ ap (plus q (a l)) (F.times_comm 0 (B l) ∙ times_zero q F (B l))
+              ∙ plus_zero_right q F (a l) (c.codes l b)) ∙ all l b
         ]);
   }
 
@@ -88,10 +91,12 @@ module _ (q : ℕ) (F : IsField q) (r : ℕ) (U : Matrix) (p : ℕ) (p_below : p
         each : (l : ℕ) → l < r → restored cleared l ≡ S l
         each l b = elim (cases_eq l p) [
           | inl e ↦ ap (λ b. plus q (cond b 0 (cleared l)) (times q (cleared p) (B l))) (ap (λ l. l == p) e ∙ same_number p)
-              ∙ F.plus_zero (times q (cleared p) (B l)) (F.times_below (cleared p) (B l)) ∙ (λ t. times q (at t) (B (e t))) ∙ ap (times q (S p)) one ∙ F.times_comm (S p) 1 ∙ F.times_one (S p) (codes p p_below) ∙ ap S (sym e)
+              ∙ F.plus_zero (times q (cleared p) (B l)) (F.times_below (cleared p) (B l)) ∙ (λ t. times q (at t) (B (e t)))
+              ∙ ap (times q (S p)) one ∙ F.times_comm (S p) 1 ∙ F.times_one (S p) (codes p p_below) ∙ ap S (sym e)
           | inr n ↦ ap (λ b. plus q (cond b 0 (cond b (S p) (plus q (S l) (times q (S p) (minus l))))) (times q (cleared p) (B l))) (other_number l p n)
               ∙ ap (λ x. plus q (plus q (S l) (times q (S p) (minus l))) (times q x (B l))) at
               ∙ F.plus_assoc (S l) (times q (S p) (minus l)) (times q (S p) (B l))
-              ∙ ap (plus q (S l)) (sym (F.times_plus (S p) (minus l) (B l)) ∙ ap (times q (S p)) (F.plus_comm (minus l) (B l) ∙ opposite l b) ∙ times_zero q F (S p))
+              ∙ ap (plus q (S l)) (sym (F.times_plus (S p) (minus l) (B l))
+              ∙ ap (times q (S p)) (F.plus_comm (minus l) (B l) ∙ opposite l b) ∙ times_zero q F (S p))
               ∙ plus_zero_right q F (S l) (codes l b)
         ]

@@ -27,8 +27,11 @@ module _ (M : Rep) (shaped : IsShaped M) (some : 0 < count M) (d : Trail) (h : I
         let F = field M shaped 0 some in
         let none : matrix N 0 (m.place x) (m.place x) ≡ 0 =
         reached_entry M shaped d (row_scalars M shaped d h) k m N standard valid takes rows (m.place x) inside c a' z 0 (m.place x) some p
-        ∙ ap (λ y. times (order M 0) (column_factor M shaped d (row_scalars M shaped d h) k m N standard valid takes rows (m.place x) inside c a' z 0) (times (order M 0) (row_factor M d m 0 (m.place x)) y)) (z 0 (m.place x) some l)
-        ∙ ap (times (order M 0) (column_factor M shaped d (row_scalars M shaped d h) k m N standard valid takes rows (m.place x) inside c a' z 0)) (times_zero (order M 0) F (row_factor M d m 0 (m.place x)))
+        ∙ ap (λ y. times (order M 0)
+        (column_factor M shaped d (row_scalars M shaped d h) k m N standard valid takes rows (m.place x) inside c a' z 0)
+        (times (order M 0) (row_factor M d m 0 (m.place x)) y)) (z 0 (m.place x) some l)
+        ∙ ap (times (order M 0) (column_factor M shaped d (row_scalars M shaped d h) k m N standard valid takes rows
+        (m.place x) inside c a' z 0)) (times_zero (order M 0) F (row_factor M d m 0 (m.place x)))
         ∙ times_zero (order M 0) F (column_factor M shaped d (row_scalars M shaped d h) k m N standard valid takes rows (m.place x) inside c a' z 0) in
         let one : matrix N 0 (m.place x) (m.place x) ≡ 1 =
         standard.units 0 (m.place x) (m.place x) (subst (λ (S : Shape). 0 < length S.factors) (sym takes.same_shape) some)
@@ -57,10 +60,13 @@ module _ (M : Rep) (shaped : IsShaped M) (some : 0 < count M) (d : Trail) (h : I
     -- a code 0 in the column is a coordinate 0
     coordinate_zero : (j : ℕ) → j < M.rank → matrix N f j p ≡ 0 → e j ≡ 0
     coordinate_zero j o z =
-        zero_factor (order M f) F (inverse (order M f) (m.scalar f j)) (e j) (inverse_scalar (order M f) F (m.scalar f j) (scalar_at j (let r = h.room in omega arith))) (e_code j o)
+        zero_factor (order M f) F (inverse (order M f) (m.scalar f j)) (e j)
+        (inverse_scalar (order M f) F (m.scalar f j) (scalar_at j (let r = h.room in omega arith))) (e_code j o)
         (zero_factor (order M f) F (m.scalar f p) (times (order M f) (inverse (order M f) (m.scalar f j)) (e j)) (scalar_at p inside) (F.times_below _ _)
-        (sym (standard_by Linear M N m shaped standard valid takes f l p inside e ((standard_coordinates Linear M N m shaped standard valid takes f l p inside).2) j o
-        ∙ ap (λ t. times (order M f) (m.scalar f p) (times (order M f) (inverse (order M f) (m.scalar f j)) (raised (order M f) t (e j)))) (valid.allowed f l)) ∙ z))
+        (sym (standard_by Linear M N m shaped standard valid takes f l p inside e
+        ((standard_coordinates Linear M N m shaped standard valid takes f l p inside).2) j o
+        ∙ ap (λ t. times (order M f) (m.scalar f p)
+        (times (order M f) (inverse (order M f) (m.scalar f j)) (raised (order M f) t (e j)))) (valid.allowed f l)) ∙ z))
 
     -- in factor f alone the coordinates at the trail's elements, where all codes before row k are 0
     module _ (z : (j : ℕ) → j < k → matrix N f j p ≡ 0) where
@@ -73,14 +79,19 @@ module _ (M : Rep) (shaped : IsShaped M) (some : 0 < count M) (d : Trail) (h : I
         scale = 1;
         scalar = one_scalar (order M f) F;
         combined = λ i' b'.
-            sum_same (order M f) F M.rank (λ j. times (order M f) (matrix M f i' (d.label j)) (times (order M f) (d.scalar f j) (v j))) (λ j. times (order M f) (matrix M f i' (m.label j)) (e j)) (same i')
+            sum_same (order M f) F M.rank
+            (λ j. times (order M f) (matrix M f i' (d.label j)) (times (order M f) (d.scalar f j) (v j)))
+            (λ j. times (order M f) (matrix M f i' (m.label j)) (e j)) (same i')
             ∙ ((standard_coordinates Linear M N m shaped standard valid takes f l p inside).2) i' b'
             ∙ sym (F.times_one (matrix M f i' (m.label p)) (shaped.codes f i' (m.label p) l b' x_below));
       }
         where
-          same : (i' j : ℕ) → j < M.rank → times (order M f) (matrix M f i' (d.label j)) (times (order M f) (d.scalar f j) (v j)) ≡ times (order M f) (matrix M f i' (m.label j)) (e j)
+          same : (i' j : ℕ) → j < M.rank →
+              times (order M f) (matrix M f i' (d.label j)) (times (order M f) (d.scalar f j) (v j)) ≡ times (order M f)
+              (matrix M f i' (m.label j)) (e j)
           same i' j o =
-              ap (times (order M f) (matrix M f i' (d.label j))) (undone_back (order M f) F (d.scalar f j) (e j) (row_scalars M shaped d h f j l o) (e_code j o))
+              ap (times (order M f) (matrix M f i' (d.label j)))
+              (undone_back (order M f) F (d.scalar f j) (e j) (row_scalars M shaped d h f j l o) (e_code j o))
               ∙ (elim (cases_lt j k) [
                 | inl b' ↦ (let n : e j ≡ 0 = coordinate_zero j o (z j b') in
                     ap (times (order M f) (matrix M f i' (d.label j))) n ∙ times_zero (order M f) F (matrix M f i' (d.label j))
@@ -91,10 +102,12 @@ module _ (M : Rep) (shaped : IsShaped M) (some : 0 < count M) (d : Trail) (h : I
       none_before : c f i ≡ 0
       none_before =
           zero_in_both_in M shaped d h f l (m.label p) v (c f) v_coordinates (in_factor M shaped d h f l (m.label p) c a) i (omega arith)
-          (ap (times (order M f) (inverse (order M f) (d.scalar f i))) (coordinate_zero i (omega arith) (z i b)) ∙ times_zero (order M f) F (inverse (order M f) (d.scalar f i)))
+          (ap (times (order M f) (inverse (order M f) (d.scalar f i))) (coordinate_zero i (omega arith) (z i b))
+          ∙ times_zero (order M f) F (inverse (order M f) (d.scalar f i)))
 
     pub some_before : (j : ℕ) × (j < k) × (matrix N f j p ≢ 0)
-    some_before = elim (search_below k (λ j. matrix N f j p ≢ 0) (λ j. matrix N f j p ≡ 0) (λ j _. elim (cases_eq (matrix N f j p) 0) [ inl e ↦ inr e | inr n ↦ inl n ])) [
-      | inl w ↦ w
-      | inr z ↦ absurd (ne (none_before z))
-    ]
+    some_before = elim (search_below k (λ j. matrix N f j p ≢ 0) (λ j. matrix N f j p ≡ 0)
+        (λ j _. elim (cases_eq (matrix N f j p) 0) [ inl e ↦ inr e | inr n ↦ inl n ])) [
+          | inl w ↦ w
+          | inr z ↦ absurd (ne (none_before z))
+        ]

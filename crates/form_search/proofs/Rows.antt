@@ -32,9 +32,12 @@ pub record IsDivided (M : Rep) (k : ℕ) (E : Entries) (b p : ℕ) (minus : ℕ 
   pub rest_codes : (e : ℕ) → IsThere rest e → (f i : ℕ) → f < count M → i < M.rank → pivoted M p k minus (E.codes e) f i ≡ rest.codes e f i
   pub both : (e : ℕ) → IsThere E e → e ≢ b → IsThere layer e ⊎ IsThere rest e
 
-module _ (M : Rep) (shaped : IsShaped M) (some : 0 < count M) (k : ℕ) (groups : ℕ → ℕ) (settled : List ℕ) (E : Entries) (d : Trail) (h : IsFrame M (suc k) groups settled E d)
-    (b : ℕ) (there : IsThere E b) (p : ℕ) (p_most : p ≤ k) (ones : (f : ℕ) → f < count M → E.codes b f p ≡ 1) (zeros : (f i : ℕ) → f < count M → i < p → E.codes b f i ≡ 0)
-    (minus : ℕ → ℕ → ℕ) (minus_code : (f i : ℕ) → f < count M → i < M.rank → minus f i < order M f) (opposite : (f i : ℕ) → f < count M → i < M.rank → plus (order M f) (E.codes b f i) (minus f i) ≡ 0)
+module _ (M : Rep) (shaped : IsShaped M) (some : 0 < count M) (k : ℕ) (groups : ℕ → ℕ) (settled : List ℕ) (E : Entries) (d : Trail)
+    (h : IsFrame M (suc k) groups settled E d)
+    (b : ℕ) (there : IsThere E b) (p : ℕ) (p_most : p ≤ k) (ones : (f : ℕ) → f < count M → E.codes b f p ≡ 1)
+    (zeros : (f i : ℕ) → f < count M → i < p → E.codes b f i ≡ 0)
+    (minus : ℕ → ℕ → ℕ) (minus_code : (f i : ℕ) → f < count M → i < M.rank → minus f i < order M f)
+    (opposite : (f i : ℕ) → f < count M → i < M.rank → plus (order M f) (E.codes b f i) (minus f i) ≡ 0)
     (layer rest : Entries) (division : IsDivided M k E b p minus layer rest) where
   abbrev s : ℕ
   s = length settled
@@ -65,7 +68,8 @@ module _ (M : Rep) (shaped : IsShaped M) (some : 0 < count M) (k : ℕ) (groups 
 
   -- the element of the row is at row p or after the columns placed
   own_row : d.place x < M.rank → d.place x ≡ p
-  own_row = let w = let a = h.entries in a.each b there in own_place M shaped some k s groups d h.trail (E.element b) w.below w.unsettled (E.codes b) w.coordinates p p_most ones
+  own_row = let w = let a = h.entries in a.each b there in
+      own_place M shaped some k s groups d h.trail (E.element b) w.below w.unsettled (E.codes b) w.coordinates p p_most ones
 
   -- the places of the others
   place_other : (y : ℕ) → y < size M → y ≢ x → (d.place y < suc k) ⊎ (M.rank + s ≤ d.place y) → (with_row.place y < k) ⊎ (M.rank + s ≤ with_row.place y)
@@ -77,11 +81,13 @@ module _ (M : Rep) (shaped : IsShaped M) (some : 0 < count M) (k : ℕ) (groups 
             let far : M.rank ≤ d.place x = at_least differ z in
             let v = x_entry in
             let px : M.rank + s ≤ d.place x = elim v.unsettled [ inl l ↦ (let r : k < M.rank = k_in_rank in absurd (omega arith)) | inr l ↦ l ] in
-            let e2 : exchange p k (d.place x) ≡ d.place x = exchange_other p k (d.place x) (λ q. (let r : k < M.rank = k_in_rank in absurd (omega arith))) (λ q. (let r : k < M.rank = k_in_rank in absurd (omega arith))) in
+            let e2 : exchange p k (d.place x) ≡ d.place x = exchange_other p k (d.place x)
+            (λ q. (let r : k < M.rank = k_in_rank in absurd (omega arith))) (λ q. (let r : k < M.rank = k_in_rank in absurd (omega arith))) in
             let e : with_row.place y ≡ d.place x = ap (exchange p k) e1 ∙ e2 in inr (omega arith))
         | inr n ↦ (let e1 : exchange p (d.place x) (d.place y) ≡ d.place y = exchange_other p (d.place x) (d.place y) n differ in
             elim (cases_eq (d.place y) k) [
-              | inl z ↦ (let e : with_row.place y ≡ p = ap (exchange p k) (e1 ∙ z) ∙ exchange_two p k in let o : p ≢ k = (λ q. n (z ∙ sym q)) in inl (omega arith))
+              | inl z ↦ (let e : with_row.place y ≡ p = ap (exchange p k) (e1 ∙ z) ∙ exchange_two p k in
+                  let o : p ≢ k = (λ q. n (z ∙ sym q)) in inl (omega arith))
               | inr n' ↦ (let e : with_row.place y ≡ d.place y = ap (exchange p k) e1 ∙ exchange_other p k (d.place y) n n' in
                   elim u [ inl l ↦ inl (omega arith) | inr l ↦ inr (omega arith) ])
             ])
@@ -90,7 +96,8 @@ module _ (M : Rep) (shaped : IsShaped M) (some : 0 < count M) (k : ℕ) (groups 
       at_least : d.place y ≢ d.place x → d.place y ≡ p → M.rank ≤ d.place x
       at_least differ z = elim (cases_lt (d.place x) M.rank) [ inl l ↦ absurd (differ (z ∙ sym (own_row l))) | inr g ↦ g ]
 
-  entry_of : (y : ℕ) (c v : ℕ → ℕ → ℕ) → IsEntry M (suc k) s d y c → y ≢ x → ((f i : ℕ) → f < count M → i < M.rank → pivoted M p k minus c f i ≡ v f i) → IsEntry M k s with_row y v
+  entry_of : (y : ℕ) (c v : ℕ → ℕ → ℕ) → IsEntry M (suc k) s d y c → y ≢ x →
+      ((f i : ℕ) → f < count M → i < M.rank → pivoted M p k minus c f i ≡ v f i) → IsEntry M k s with_row y v
   entry_of y c v w ne e = record {
     below = w.below;
     coordinates = coordinates_same M shaped with_row y (pivoted M p k minus c) v (pivoted_coordinates y c w.coordinates) e;
@@ -105,13 +112,17 @@ module _ (M : Rep) (shaped : IsShaped M) (some : 0 < count M) (k : ℕ) (groups 
   some_left e t = elim (search_below (count M) (λ f. (i : ℕ) × (i < k) × (rest.codes e f i ≢ 0)) (λ f. (i : ℕ) → i < k → rest.codes e f i ≡ 0) row) [
     | inl w ↦ (let (i, l, n) = w.2 in (w.0, i, w.1, l, n))
     | inr z ↦ absurd (division.rest_other e t (λ f i l o.
-        (let w = let a = h.entries in a.each e ((division.rest_there e t).0) in let v = let a = h.entries in a.each b there in let u = h.led e ((division.rest_there e t).0) in
-        head_same M shaped p k p_most k_in_rank minus (E.codes e) (E.codes b) (let q = v.coordinates in q.codes) (let q = w.coordinates in q.codes) minus_code opposite ones
-        (λ f i l q. division.rest_codes e t f i l (let r : k < M.rank = k_in_rank in omega arith) ∙ z f l i q) zeros u.lead (let q = u.lead_before in omega arith) u.ones u.zeros f i l o)))
+        (let w = let a = h.entries in a.each e ((division.rest_there e t).0) in let v = let a = h.entries in a.each b there in
+        let u = h.led e ((division.rest_there e t).0) in
+        head_same M shaped p k p_most k_in_rank minus (E.codes e) (E.codes b) (let q = v.coordinates in q.codes)
+        (let q = w.coordinates in q.codes) minus_code opposite ones
+        (λ f i l q. division.rest_codes e t f i l (let r : k < M.rank = k_in_rank in omega arith) ∙ z f l i q) zeros u.lead
+        (let q = u.lead_before in omega arith) u.ones u.zeros f i l o)))
   ]
     where
       row : (f : ℕ) → f < count M → ((i : ℕ) × (i < k) × (rest.codes e f i ≢ 0)) ⊎ ((i : ℕ) → i < k → rest.codes e f i ≡ 0)
-      row f _ = search_below k (λ i. rest.codes e f i ≢ 0) (λ i. rest.codes e f i ≡ 0) (λ i _. elim (cases_eq (rest.codes e f i) 0) [ inl z ↦ inr z | inr n ↦ inl n ])
+      row f _ = search_below k (λ i. rest.codes e f i ≢ 0) (λ i. rest.codes e f i ≡ 0)
+          (λ i _. elim (cases_eq (rest.codes e f i) 0) [ inl z ↦ inr z | inr n ↦ inl n ])
 
   pub chosen_state : IsPlacing M k groups settled layer rest with_row
   chosen_state = record {
@@ -121,16 +132,21 @@ module _ (M : Rep) (shaped : IsShaped M) (some : 0 < count M) (k : ℕ) (groups 
       each = λ e t. (let (te, n) = division.layer_there e t in
           subst (λ (y : ℕ). IsEntry M k s with_row y (layer.codes e)) (λ i. sym division.layer_element i e)
           (entry_of (E.element e) (E.codes e) (layer.codes e) (let a = h.entries in a.each e te) (apart_from e te n) (division.layer_codes e t)));
-      apart = λ e g t u z. (let a = h.entries in a.apart e g (division.layer_there e t).0 (division.layer_there g u).0 ((λ i. sym division.layer_element i e) ∙ z ∙ (λ i. division.layer_element i g)));
+      apart = λ e g t u z. (let a = h.entries in
+          a.apart e g (division.layer_there e t).0 (division.layer_there g u).0
+          ((λ i. sym division.layer_element i e) ∙ z ∙ (λ i. division.layer_element i g)));
     };
     zeros = λ e t f i l o. sym (division.layer_codes e t f i l (let r : k < M.rank = k_in_rank in omega arith)) ∙
         (let w = let a = h.entries in a.each e ((division.layer_there e t).0) in let v = let a = h.entries in a.each b there in
-        layer_before M shaped p k p_most k_in_rank minus (E.codes e) (E.codes b) (let q = v.coordinates in q.codes) (let q = w.coordinates in q.codes) minus_code opposite ones (division.layer_same e t) f i l o);
+        layer_before M shaped p k p_most k_in_rank minus (E.codes e) (E.codes b) (let q = v.coordinates in q.codes)
+        (let q = w.coordinates in q.codes) minus_code opposite ones (division.layer_same e t) f i l o);
     others = record {
       each = λ e t. (let (te, n) = division.rest_there e t in
           subst (λ (y : ℕ). IsEntry M k s with_row y (rest.codes e)) (λ i. sym division.rest_element i e)
           (entry_of (E.element e) (E.codes e) (rest.codes e) (let a = h.entries in a.each e te) (apart_from e te n) (division.rest_codes e t)));
-      apart = λ e g t u z. (let a = h.entries in a.apart e g (division.rest_there e t).0 (division.rest_there g u).0 ((λ i. sym division.rest_element i e) ∙ z ∙ (λ i. division.rest_element i g)));
+      apart = λ e g t u z. (let a = h.entries in
+          a.apart e g (division.rest_there e t).0 (division.rest_there g u).0
+          ((λ i. sym division.rest_element i e) ∙ z ∙ (λ i. division.rest_element i g)));
     };
     outside = some_left;
     whole = whole;
@@ -170,8 +186,11 @@ module _ (M : Rep) (shaped : IsShaped M) (some : 0 < count M) (k : ℕ) (groups 
                   | inr g' ↦ inr g'
                   | inl l ↦ (let e = let a = h.entries in a.each b there in
                       let z : with_row.label (d.place (with_row.label q)) ≡ with_row.label q =
-                      chosen_after M shaped some k s groups d h.trail (E.element b) e.below e.unsettled (E.codes b) e.coordinates p p_most ones (d.place (with_row.label q)) g l ∙ v.back (with_row.label q) (w.below q bq) in
-                      let y : d.place (with_row.label q) ≡ q = sym (w.there (d.place (with_row.label q)) (v.inverse_below (with_row.label q) (w.below q bq))) ∙ ap with_row.place z ∙ w.there q bq in
+                      chosen_after M shaped some k s groups d h.trail (E.element b) e.below e.unsettled
+                      (E.codes b) e.coordinates p p_most ones (d.place (with_row.label q)) g l ∙ v.back (with_row.label q) (w.below q bq) in
+                      let y : d.place (with_row.label q) ≡ q =
+                      sym (w.there (d.place (with_row.label q)) (v.inverse_below (with_row.label q) (w.below q bq)))
+                      ∙ ap with_row.place z ∙ w.there q bq in
                       elim u [ inl a ↦ inl (omega arith) | inr a ↦ inr (omega arith) ])
                 ]
               ]
@@ -180,8 +199,11 @@ module _ (M : Rep) (shaped : IsShaped M) (some : 0 < count M) (k : ℕ) (groups 
   pub follows_chosen : (m : Move) → Follows M d (suc k) s m → m.label k ≡ x → Follows M with_row k s m
   follows_chosen m f e = let w = let a = h.entries in a.each b there in record {
     same = λ q a l. elim (cases_lt k q) [
-      | inl g ↦ f.same q g l ∙ sym (chosen_after M shaped some k s groups d h.trail (E.element b) w.below w.unsettled (E.codes b) w.coordinates p p_most ones q g l)
-      | inr g ↦ (let z : k ≡ q = omega arith in ap m.label (sym z) ∙ e ∙ sym (chosen_here M shaped some k s groups d h.trail (E.element b) w.below w.unsettled (E.codes b) w.coordinates p p_most ones) ∙ ap with_row.label z)
+      | inl g ↦ f.same q g l ∙ sym
+          (chosen_after M shaped some k s groups d h.trail (E.element b) w.below w.unsettled (E.codes b) w.coordinates p p_most ones q g l)
+      | inr g ↦ (let z : k ≡ q = omega arith in ap m.label (sym z) ∙ e
+          ∙ sym (chosen_here M shaped some k s groups d h.trail (E.element b) w.below w.unsettled
+          (E.codes b) w.coordinates p p_most ones) ∙ ap with_row.label z)
     ];
   }
 
@@ -194,7 +216,8 @@ module _ (M : Rep) (k : ℕ) (groups : ℕ → ℕ) (settled : List ℕ) (E : En
       let r : suc k ≤ M.rank = t.rows in let q : M.rank ≤ size M = o.room in
       let kb : k < size M = omega arith in
       let b : m.label k < size M = w.below k kb in
-      let c = h.whole (d.place (m.label k)) (v.inverse_below (m.label k) b) (place (d.place (m.label k)) (v.back (m.label k) b) (v.inverse_below (m.label k) b) kb) in
+      let c = h.whole (d.place (m.label k)) (v.inverse_below (m.label k) b)
+      (place (d.place (m.label k)) (v.back (m.label k) b) (v.inverse_below (m.label k) b) kb) in
       (c.0, c.1, c.2 ∙ v.back (m.label k) b)
     where
       place : (p : ℕ) → d.label p ≡ m.label k → p < size M → k < size M → (p < suc k) ⊎ (M.rank + length settled ≤ p)
@@ -202,24 +225,28 @@ module _ (M : Rep) (k : ℕ) (groups : ℕ → ℕ) (settled : List ℕ) (E : En
         | inl l ↦ inl l
         | inr g ↦ elim (cases_lt p (M.rank + length settled)) [
           | inr g' ↦ inr g'
-          | inl l ↦ (let w = reach.valid.labels in let z : p ≡ k = sym (w.there p pb) ∙ ap m.place (follows.same p g l ∙ e) ∙ w.there k kb in absurd (omega arith))
+          | inl l ↦ (let w = reach.valid.labels in let z : p ≡ k = sym (w.there p pb) ∙ ap m.place (follows.same p g l ∙ e)
+              ∙ w.there k kb in absurd (omega arith))
         ]
       ]
 
 -- ---- the elements outside become the next frame
 
 -- multiples of coordinates are coordinates
-pub coordinates_multiple : (M : Rep) → IsShaped M → (d : Trail) (x : ℕ) (c v : ℕ → ℕ → ℕ) (multiple : ℕ → ℕ) → ((f : ℕ) → f < count M → IsScalar (order M f) (multiple f))
+pub coordinates_multiple : (M : Rep) → IsShaped M → (d : Trail) (x : ℕ) (c v : ℕ → ℕ → ℕ) (multiple : ℕ → ℕ) →
+    ((f : ℕ) → f < count M → IsScalar (order M f) (multiple f))
     → ((f i : ℕ) → f < count M → i < M.rank → v f i ≡ times (order M f) (multiple f) (c f i)) → AreCoordinates M d x c → AreCoordinates M d x v
 coordinates_multiple M shaped d x c v multiple w e a = record {
   codes = λ f i l b. subst (λ y. y < order M f) (sym (e f i l b)) (let F = field M shaped f l in F.times_below _ _);
   scale = λ f. times (order M f) (multiple f) (a.scale f);
   scale_code = λ f l. let F = field M shaped f l in F.times_below _ _;
-  scale_nonzero = λ f l. let t = times_scalar (order M f) (field M shaped f l) (multiple f) (a.scale f) (w f l) (record { code = a.scale_code f l; nonzero = a.scale_nonzero f l }) in t.nonzero;
+  scale_nonzero = λ f l. let t = times_scalar (order M f) (field M shaped f l) (multiple f) (a.scale f) (w f l)
+      (record { code = a.scale_code f l; nonzero = a.scale_nonzero f l }) in t.nonzero;
   combined = λ f i l b. let F = field M shaped f l in
       sum_same (order M f) F M.rank (λ j. times (order M f) (matrix M f i (d.label j)) (times (order M f) (d.scalar f j) (v f j)))
       (λ j. times (order M f) (matrix M f i (d.label j)) (times (order M f) (multiple f) (times (order M f) (d.scalar f j) (c f j))))
-      (λ j o. ap (times (order M f) (matrix M f i (d.label j))) (ap (times (order M f) (d.scalar f j)) (e f j l o) ∙ times_turn (order M f) F (d.scalar f j) (multiple f) (c f j)))
+      (λ j o. ap (times (order M f) (matrix M f i (d.label j)))
+      (ap (times (order M f) (d.scalar f j)) (e f j l o) ∙ times_turn (order M f) F (d.scalar f j) (multiple f) (c f j)))
       ∙ combination-scaled (order M f) F M.rank (λ i l. matrix M f i (d.label l)) (multiple f) (λ j. times (order M f) (d.scalar f j) (c f j)) i
       ∙ ap (times (order M f) (multiple f)) (a.combined f i l b) ∙ sym (F.times_assoc (multiple f) (a.scale f) (matrix M f i x));
 }
@@ -230,10 +257,12 @@ pub record IsScaledTo (M : Rep) (k : ℕ) (rest E : Entries) : Type 0 where
   pub same_element : E.element ≡ rest.element
   pub there : (e : ℕ) → IsThere E e → IsThere rest e
   pub back : (e : ℕ) → IsThere rest e → IsThere E e
-  pub multiple : (e : ℕ) → IsThere E e → (u : ℕ → ℕ) × ((f : ℕ) → f < count M → IsScalar (order M f) (u f)) × ((f i : ℕ) → f < count M → i < M.rank → E.codes e f i ≡ times (order M f) (u f) (rest.codes e f i))
+  pub multiple : (e : ℕ) → IsThere E e → (u : ℕ → ℕ) × ((f : ℕ) → f < count M → IsScalar (order M f) (u f))
+      × ((f i : ℕ) → f < count M → i < M.rank → E.codes e f i ≡ times (order M f) (u f) (rest.codes e f i))
   pub led : (e : ℕ) → IsThere E e → IsLed M k (E.codes e)
 
-pub next_frame : (M : Rep) → IsShaped M → (k : ℕ) (groups : ℕ → ℕ) (settled : List ℕ) (layer rest E : Entries) (d : Trail) → IsPlacing M k groups settled layer rest d
+pub next_frame : (M : Rep) → IsShaped M → (k : ℕ) (groups : ℕ → ℕ) (settled : List ℕ) (layer rest E : Entries) (d : Trail) →
+    IsPlacing M k groups settled layer rest d
     → ((e : ℕ) → IsThere layer e → ⊥) → IsScaledTo M k rest E → IsFrame M k groups settled E d
 next_frame M shaped k groups settled layer rest E d h none w = record {
   trail = h.trail;
@@ -241,7 +270,12 @@ next_frame M shaped k groups settled layer rest E d h none w = record {
   entries = record {
     each = λ e t. (let r = let a = h.others in a.each e (w.there e t) in let (u, us, ue) = w.multiple e t in
         subst (λ (y : ℕ). IsEntry M k (length settled) d y (E.codes e)) (λ i. sym w.same_element i e)
-        (record { below = r.below; coordinates = coordinates_multiple M shaped d (rest.element e) (rest.codes e) (E.codes e) u us ue r.coordinates; unsettled = r.unsettled }));
+        (record {
+          below = r.below;
+          coordinates = coordinates_multiple M shaped d (rest.element e) (rest.codes e)
+              (E.codes e) u us ue r.coordinates;
+          unsettled = r.unsettled;
+        }));
     apart = λ e g t t' z. (let a = h.others in a.apart e g (w.there e t) (w.there g t') ((λ i. sym w.same_element i e) ∙ z ∙ (λ i. w.same_element i g)));
   };
   led = w.led;

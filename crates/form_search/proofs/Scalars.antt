@@ -50,7 +50,8 @@ module _ (q : ℕ) (F : IsField q) where
   pub factored : (t o s c : ℕ) → IsScalar q t → IsScalar q o → IsScalar q s → c < q
       → times q (inverse q (times q t (inverse q o))) (times q (inverse q s) (times q t c)) ≡ times q o (times q (inverse q s) c)
   factored t o s c a b e l =
-      ap (times q (inverse q (times q t (inverse q o)))) known ∙ undone (times q t (inverse q o)) (times q o (times q (inverse q s) c)) m (F.times_below o (times q (inverse q s) c))
+      ap (times q (inverse q (times q t (inverse q o)))) known
+      ∙ undone (times q t (inverse q o)) (times q o (times q (inverse q s) c)) m (F.times_below o (times q (inverse q s) c))
     where
       m : IsScalar q (times q t (inverse q o))
       m = times_scalar t (inverse q o) a (inverse_scalar o b)

@@ -41,11 +41,17 @@ pub record AreSame (M : Rep) (E E' : Entries) : Type 0 where
 pub entries_same : (M : Rep) → IsShaped M → (k s : ℕ) (d : Trail) (E E' : Entries) → AreSame M E E' → AreEntries M k s d E → AreEntries M k s d E'
 entries_same M shaped k s d E E' w a = record {
   each = λ e t. (let r = a.each e (w.there e t) in subst (λ (y : ℕ). IsEntry M k s d y (E'.codes e)) (sym (w.element e))
-      (record { below = r.below; coordinates = coordinates_same M shaped d (E.element e) (E.codes e) (E'.codes e) r.coordinates (w.codes e t); unsettled = r.unsettled }));
+      (record {
+        below = r.below;
+        coordinates = coordinates_same M shaped d (E.element e) (E.codes e) (E'.codes e) r.coordinates
+            (w.codes e t);
+        unsettled = r.unsettled;
+      }));
   apart = λ e g t u z. a.apart e g (w.there e t) (w.there g u) (sym (w.element e) ∙ z ∙ w.element g);
 }
 
-pub placing_same : (M : Rep) → IsShaped M → (k : ℕ) (groups : ℕ → ℕ) (settled : List ℕ) (layer rest layer' rest' : Entries) (d : Trail) → AreSame M layer layer' → AreSame M rest rest'
+pub placing_same : (M : Rep) → IsShaped M →
+    (k : ℕ) (groups : ℕ → ℕ) (settled : List ℕ) (layer rest layer' rest' : Entries) (d : Trail) → AreSame M layer layer' → AreSame M rest rest'
     → IsPlacing M k groups settled layer rest d → IsPlacing M k groups settled layer' rest' d
 placing_same M shaped k groups settled layer rest layer' rest' d v w h = record {
   trail = h.trail;
@@ -53,7 +59,8 @@ placing_same M shaped k groups settled layer rest layer' rest' d v w h = record 
   inside = entries_same M shaped k (length settled) d layer layer' v h.inside;
   zeros = λ e t f i l b. sym (v.codes e t f i l (let q = h.trail in let r : k ≤ M.rank = q.rows in omega arith)) ∙ h.zeros e (v.there e t) f i l b;
   others = entries_same M shaped k (length settled) d rest rest' w h.others;
-  outside = λ e t. (let (f, i, l, b, n) = h.outside e (w.there e t) in (f, i, l, b, λ z. n (w.codes e t f i l (let q = h.trail in let r : k ≤ M.rank = q.rows in omega arith) ∙ z)));
+  outside = λ e t. (let (f, i, l, b, n) = h.outside e (w.there e t) in
+      (f, i, l, b, λ z. n (w.codes e t f i l (let q = h.trail in let r : k ≤ M.rank = q.rows in omega arith) ∙ z)));
   whole = λ p b u. elim (h.whole p b u) [
     | inl c ↦ inl (c.0, v.back c.0 c.1, v.element c.0 ∙ c.2)
     | inr c ↦ inr (c.0, w.back c.0 c.1, w.element c.0 ∙ c.2)
@@ -92,15 +99,22 @@ module _ (M : Rep) (shaped : IsShaped M) (standard : IsStandard M) where
     scale_code = λ f l. let F = field M shaped f l in F.two;
     scale_nonzero = λ f l z. absurd (omega arith);
     combined = λ f i l m. let F = field M shaped f l in
-        sum_same (order M f) F M.rank (λ j. times (order M f) (matrix M f i j) (times (order M f) 1 (matrix M f j e))) (λ j. times (order M f) (unit i j) (matrix M f j e))
+        sum_same (order M f) F M.rank (λ j. times (order M f) (matrix M f i j) (times (order M f) 1 (matrix M f j e)))
+        (λ j. times (order M f) (unit i j) (matrix M f j e))
         (λ j o. (λ t. times (order M f) (standard.units f i j l m o t) (F.times_one (matrix M f j e) (shaped.codes f j e l o b) t)))
         ∙ combination-unit (order M f) F M.rank (λ j. matrix M f j e) i m (shaped.codes f i e l m b)
         ∙ sym (F.times_one (matrix M f i e) (shaped.codes f i e l m b));
   }
 
-module _ (M : Rep) (shaped : IsShaped M) (some : 0 < count M) (standard : IsStandard M) (groups : ℕ → ℕ) (fresh : AreFresh M groups) (none : ℕ → Bool) (test : IsZeroTest M none) where
+module _ (M : Rep) (shaped : IsShaped M) (some : 0 < count M) (standard : IsStandard M) (groups : ℕ → ℕ) (fresh : AreFresh M groups)
+    (none : ℕ → Bool) (test : IsZeroTest M none) where
   start_entry : (e : ℕ) → e < size M → IsEntry M M.rank 0 start_trail e (λ f i. matrix M f i e)
-  start_entry e b = record { below = b; coordinates = start_coordinates M shaped standard e b; unsettled = elim (cases_lt e M.rank) [ inl l ↦ inl l | inr g ↦ inr (omega arith) ] }
+  start_entry e b = record {
+    below = b;
+    coordinates = start_coordinates M shaped standard e b;
+    unsettled =
+        elim (cases_lt e M.rank) [ inl l ↦ inl l | inr g ↦ inr (omega arith) ];
+  }
 
   zero_there : (i e : ℕ) → IsThere (zero_layer M none i) e → (i ≤ e) × (none e ≡ true)
   zero_there i e t = let (a, b) = and_true (nat_le i e) (none e) t.passes in (leb-true i e a, b)
@@ -142,7 +156,8 @@ module _ (M : Rep) (shaped : IsShaped M) (some : 0 < count M) (standard : IsStan
   ones_factors : ℕ → ℕ → ℕ
   ones_factors f g = 1
 
-  module _ (i : ℕ) (settled : List ℕ) (d : Trail) (h : IsPlacing M M.rank groups settled (zero_layer M none i) (others_of M none) d) (i_below : i < size M) (is_zero : none i ≡ true) where
+  module _ (i : ℕ) (settled : List ℕ) (d : Trail) (h : IsPlacing M M.rank groups settled (zero_layer M none i) (others_of M none) d)
+      (i_below : i < size M) (is_zero : none i ≡ true) where
     pub there : IsThere (zero_layer M none i) i
     there = record { below = i_below; passes = both_true (nat_le i i) (none i) (le_true i i (omega arith)) is_zero }
 
@@ -172,7 +187,8 @@ module _ (M : Rep) (shaped : IsShaped M) (some : 0 < count M) (standard : IsStan
 
     zero_number : number M (scaled M groups (λ _ _. 1) (λ f j. matrix M f j i)) ≡ 0
     zero_number =
-        number_entries M (scaled M groups (λ _ _. 1) (λ f j. matrix M f j i)) (λ _ _. 0) (λ f j l b. ap (times (order M f) 1) (zero_codes f j l b) ∙ times_zero (order M f) (field M shaped f l) 1)
+        number_entries M (scaled M groups (λ _ _. 1) (λ f j. matrix M f j i)) (λ _ _. 0)
+        (λ f j l b. ap (times (order M f) 1) (zero_codes f j l b) ∙ times_zero (order M f) (field M shaped f l) 1)
         ∙ nothing (M.rank * count M)
       where
         nothing : (n : ℕ) → weighed (λ _. 0) n ≡ 0
@@ -189,7 +205,8 @@ module _ (M : Rep) (shaped : IsShaped M) (some : 0 < count M) (standard : IsStan
           element = λ y. refl;
           there = λ y t. (let (a, b) = zero_there (suc i) y t in record {
             below = t.below;
-            passes = both_true (not (y == i)) (nat_le i y && none y) (ap not (other_number y i (λ z. absurd (omega arith)))) (both_true (nat_le i y) (none y) (le_true i y (omega arith)) b);
+            passes = both_true (not (y == i)) (nat_le i y && none y) (ap not (other_number y i (λ z. absurd (omega arith))))
+                (both_true (nat_le i y) (none y) (le_true i y (omega arith)) b);
           });
           back = λ y t. (let (n, p) = and_true (not (y == i)) (nat_le i y && none y) t.passes in let (a, b) = and_true (nat_le i y) (none y) p in
               let l : i ≤ y = leb-true i y a in let o : y ≢ i = (λ z. not_same (y == i) n (ap (λ y. y == i) z ∙ same_number i)) in
@@ -202,7 +219,8 @@ module _ (M : Rep) (shaped : IsShaped M) (some : 0 < count M) (standard : IsStan
           back = λ y t. record { below = t.below; passes = t.passes };
           codes = λ y t f j l b. one_scaled (λ f j. matrix M f j y) f j l (shaped.codes f j y l b t.below);
         })
-        (placed_state M shaped some M.rank groups settled (zero_layer M none i) (others_of M none) d h i there (λ _ _. 1) ones groups ties longer (e ∙ ap (λ v. settled ++ v ∷ []) (sym zero_number)))
+        (placed_state M shaped some M.rank groups settled (zero_layer M none i) (others_of M none) d h i there
+        (λ _ _. 1) ones groups ties longer (e ∙ ap (λ v. settled ++ v ∷ []) (sym zero_number)))
 
     -- a form that is reached with these choices is reached with the zero column next too
     module _ (m : Move) (N : Rep) (reach : ReachesForm M m N) (follows : Follows M d M.rank (length settled) m) where
@@ -244,7 +262,9 @@ module _ (M : Rep) (shaped : IsShaped M) (some : 0 < count M) (standard : IsStan
               let s = reach.takes.same_shape in let t = reach.takes.shaped in
               let f' : e % count M < count M = mod-lt e some in
               let fN : e % count M < count N = subst (λ (S : Shape). e % count M < length S.factors) (sym s) f' in
-              let c : matrix N (e % count M) (e / count M) p < order N (e % count M) = t.codes (e % count M) (e / count M) p fN (subst (λ (S : Shape). e / count M < S.rank) (sym s) (row_below e (count M) M.rank some o)) (subst (λ (S : Shape). p < S.size) (sym s) p_below) in
+              let c : matrix N (e % count M) (e / count M) p < order N (e % count M) = t.codes (e % count M) (e / count M) p fN
+              (subst (λ (S : Shape). e / count M < S.rank) (sym s) (row_below e (count M) M.rank some o))
+              (subst (λ (S : Shape). p < S.size) (sym s) p_below) in
               let v : order N (e % count M) ≤ 13 = order_most (order N (e % count M)) (t.orders (e % count M) fN) in omega arith
 
       -- what the rows make of an element
@@ -257,19 +277,27 @@ module _ (M : Rep) (shaped : IsShaped M) (some : 0 < count M) (standard : IsStan
 
       made_of_next : (f j : ℕ) → f < count M → j < M.rank → made_of f j (m.label p) ≡ 0
       made_of_next f j l b =
-          zero_factor (order M f) (field M shaped f l) (m.scalar f p) (made_of f j (m.label p)) (record { code = reach.valid.scalars f p l p_below; nonzero = reach.valid.nonzero f p l p_below })
+          zero_factor (order M f) (field M shaped f l) (m.scalar f p) (made_of f j (m.label p))
+          (record { code = reach.valid.scalars f p l p_below; nonzero = reach.valid.nonzero f p l p_below })
           (sum_below-code (order M f) (field M shaped f l) M.rank _) (sym (reach.takes.codes f j p l b p_below) ∙ next_zero f j l b)
 
       abbrev turned : Move
       turned = record m { label = λ y. m.label (exchange p q y); place = λ y. exchange p q (m.place y) }
 
-      turned_entry : (f j y : ℕ) → f < count M → j < M.rank → y < size M → matrix N f j y ≡ times (order M f) (m.scalar f y) (made_of f j (m.label (exchange p q y)))
+      turned_entry : (f j y : ℕ) → f < count M → j < M.rank → y < size M →
+          matrix N f j y ≡ times (order M f) (m.scalar f y) (made_of f j (m.label (exchange p q y)))
       turned_entry f j y l b o = elim (cases_eq y p) [
         | inl e ↦ ap (matrix N f j) e ∙ next_zero f j l b ∙ sym (ap (times (order M f) (m.scalar f y)) (ap (λ y. made_of f j (m.label (exchange p q y))) e
-            ∙ ap (λ y. made_of f j (m.label y)) (exchange_one p q) ∙ ap (made_of f j) (let w = reach.valid.labels in w.back i i_below) ∙ made_of_zero f j l) ∙ times_zero (order M f) (field M shaped f l) (m.scalar f y))
+            ∙ ap (λ y. made_of f j (m.label y)) (exchange_one p q)
+            ∙ ap (made_of f j) (let w = reach.valid.labels in w.back i i_below) ∙ made_of_zero f j l)
+            ∙ times_zero (order M f) (field M shaped f l) (m.scalar f y))
         | inr n ↦ elim (cases_eq y q) [
-          | inl e ↦ reach.takes.codes f j y l b o ∙ ap (times (order M f) (m.scalar f y)) (ap (λ y. made_of f j (m.label y)) e ∙ ap (made_of f j) (let w = reach.valid.labels in w.back i i_below) ∙ made_of_zero f j l)
-              ∙ sym (ap (times (order M f) (m.scalar f y)) (ap (λ y. made_of f j (m.label (exchange p q y))) e ∙ ap (λ y. made_of f j (m.label y)) (exchange_two p q) ∙ made_of_next f j l b))
+          | inl e ↦ reach.takes.codes f j y l b o
+              ∙ ap (times (order M f) (m.scalar f y))
+              (ap (λ y. made_of f j (m.label y)) e ∙ ap (made_of f j) (let w = reach.valid.labels in w.back i i_below) ∙ made_of_zero f j l)
+              ∙ sym (ap (times (order M f) (m.scalar f y))
+              (ap (λ y. made_of f j (m.label (exchange p q y))) e ∙ ap (λ y. made_of f j (m.label y)) (exchange_two p q)
+              ∙ made_of_next f j l b))
           | inr n' ↦ reach.takes.codes f j y l b o ∙ ap (λ y'. times (order M f) (m.scalar f y) (made_of f j (m.label y'))) (sym (exchange_other p q y n n'))
         ]
       ]
@@ -293,7 +321,11 @@ module _ (M : Rep) (shaped : IsShaped M) (some : 0 < count M) (standard : IsStan
       turned_follows : Follows M zero_after M.rank (suc (length settled)) turned
       turned_follows =
           follows_after M shaped some M.rank groups settled (zero_layer M none i) (others_of M none) d h i there (λ _ _. 1) ones groups ties turned
-          (record { same = λ y a b. ap m.label (exchange_other p q y (λ e. absurd (omega arith)) (λ e. (let z : p ≤ q = after_p in absurd (omega arith)))) ∙ follows.same y a b })
+          (record {
+            same = λ y a b.
+                ap m.label (exchange_other p q y (λ e. absurd (omega arith)) (λ e. (let z : p ≤ q = after_p in absurd (omega arith))))
+                ∙ follows.same y a b;
+          })
           (ap m.label (exchange_one p q) ∙ (let w = reach.valid.labels in w.back i i_below))
 
     pub zero_covers : (found : Option (List ℕ)) → Covers M zero_after M.rank (suc (length settled)) found → Covers M d M.rank (length settled) found
@@ -301,7 +333,8 @@ module _ (M : Rep) (shaped : IsShaped M) (some : 0 < count M) (standard : IsStan
 
 -- ---- so far
 
-module _ (M : Rep) (shaped : IsShaped M) (some : 0 < count M) (standard : IsStandard M) (groups : ℕ → ℕ) (fresh : AreFresh M groups) (none : ℕ → Bool) (test : IsZeroTest M none) where
+module _ (M : Rep) (shaped : IsShaped M) (some : 0 < count M) (standard : IsStandard M) (groups : ℕ → ℕ) (fresh : AreFresh M groups)
+    (none : ℕ → Bool) (test : IsZeroTest M none) where
   pub started : IsStarted M groups none 0 []
   started = record {
     trail = start_trail;
@@ -309,7 +342,8 @@ module _ (M : Rep) (shaped : IsShaped M) (some : 0 < count M) (standard : IsStan
     covers = λ found c m N reach. c m N reach (record { same = λ p a b. absurd (omega arith) });
   }
 
-  pub started_zero : (i : ℕ) (settled longer : List ℕ) → IsStarted M groups none i settled → i < size M → none i ≡ true → longer ≡ settled ++ 0 ∷ [] → IsStarted M groups none (suc i) longer
+  pub started_zero : (i : ℕ) (settled longer : List ℕ) → IsStarted M groups none i settled → i < size M → none i ≡ true →
+      longer ≡ settled ++ 0 ∷ [] → IsStarted M groups none (suc i) longer
   started_zero i settled longer w b z e = record {
     trail = zero_after M shaped some standard groups fresh none test i settled w.trail w.state b z;
     state = zero_state M shaped some standard groups fresh none test i settled w.trail w.state b z longer e;
@@ -343,7 +377,8 @@ module _ (M : Rep) (shaped : IsShaped M) (some : 0 < count M) (standard : IsStan
   -- a zero column leaves room
   pub started_room : (i : ℕ) (settled : List ℕ) → IsStarted M groups none i settled → i < size M → none i ≡ true → M.rank + length settled < size M
   started_room i settled w b z =
-      let p : M.rank + length settled ≤ (let d = w.trail in d.place i) = open_place M shaped some M.rank groups settled (zero_layer M none i) (others_of M none) w.trail w.state i
+      let p : M.rank + length settled ≤ (let d = w.trail in d.place i) = open_place M shaped some M.rank groups settled
+      (zero_layer M none i) (others_of M none) w.trail w.state i
       (there M shaped some standard groups fresh none test i settled w.trail w.state b z) in
       let o = let s = w.state in let q = s.trail in q.ordered in let v = o.labels in
       let l : (let d = w.trail in d.place i) < size M = v.inverse_below i b in omega arith

@@ -37,7 +37,8 @@ module _ (M : Rep) (shaped : IsShaped M) (d : Trail) (h : IsOrdered M d) (x : �
   label_row l b n = ap d.label (exchange_other p (d.place x) l n (λ e. absurd (omega arith)))
 
   permutation : ArePermutation (size M) label place
-  permutation = exchanged_permutation p (d.place x) (size M) d.label d.place (let r = h.room in omega arith) (let w = h.labels in w.inverse_below x below) h.labels
+  permutation = exchanged_permutation p (d.place x) (size M) d.label d.place (let r = h.room in omega arith)
+      (let w = h.labels in w.inverse_below x below) h.labels
 
   -- in a factor where the coordinate isn't 0 the element can take the row
   module _ (g : ℕ) (l : g < count M) (ne : c g p ≢ 0) where
@@ -67,25 +68,31 @@ module _ (M : Rep) (shaped : IsShaped M) (d : Trail) (h : IsOrdered M d) (x : �
     scalars j b = elim (cases_eq j p) [
       | inl e ↦ subst (IsScalar (order M g)) (sym (ap (λ b. cond b (times (order M g) by (a.scale g)) (d.scalar g j)) (ap (λ y. y == p) e ∙ same_number p)))
           (times_scalar (order M g) F by (a.scale g) by_scalar (record { code = a.scale_code g l; nonzero = a.scale_nonzero g l }))
-      | inr n ↦ subst (IsScalar (order M g)) (sym (ap (λ b. cond b (times (order M g) by (a.scale g)) (d.scalar g j)) (other_number j p n))) (row_scalars M shaped d h g j l b)
+      | inr n ↦ subst (IsScalar (order M g))
+          (sym (ap (λ b. cond b (times (order M g) by (a.scale g)) (d.scalar g j)) (other_number j p n))) (row_scalars M shaped d h g j l b)
     ]
 
-    same_pivoted : (i j : ℕ) → i < M.rank → j < M.rank → pivoted (order M g) F M.rank U p p_below B one i j ≡ times (order M g) (matrix M g i (label j)) (scalar j)
+    same_pivoted : (i j : ℕ) → i < M.rank → j < M.rank →
+        pivoted (order M g) F M.rank U p p_below B one i j ≡ times (order M g) (matrix M g i (label j)) (scalar j)
     same_pivoted i j b o = elim (cases_eq j p) [
       | inl e ↦ ap (λ b. cond b (base (order M g) F M.rank U p p_below B one i) (U i j)) (ap (λ y. y == p) e ∙ same_number p)
           ∙ combination-scaled (order M g) F M.rank U by (c g) i
-          ∙ ap (times (order M g) by) (combination_factors (order M g) F M.rank (λ i l. matrix M g i (d.label l)) (d.scalar g) (λ j o. row_scalars M shaped d h g j l o) M.rank (c g) i ∙ a.combined g i l b)
+          ∙ ap (times (order M g) by)
+          (combination_factors (order M g) F M.rank (λ i l. matrix M g i (d.label l)) (d.scalar g)
+          (λ j o. row_scalars M shaped d h g j l o) M.rank (c g) i ∙ a.combined g i l b)
           ∙ sym (F.times_assoc by (a.scale g) (matrix M g i x)) ∙ F.times_comm (times (order M g) by (a.scale g)) (matrix M g i x)
           ∙ sym (ap (λ j. times (order M g) (matrix M g i (label j)) (scalar j)) e
           ∙ (λ t. times (order M g) (matrix M g i (label_here t)) (ap (λ b. cond b (times (order M g) by (a.scale g)) (d.scalar g p)) (same_number p) t)))
       | inr n ↦ ap (λ b. cond b (base (order M g) F M.rank U p p_below B one i) (U i j)) (other_number j p n)
-          ∙ sym (λ t. times (order M g) (matrix M g i (label_row j o n t)) (ap (λ b. cond b (times (order M g) by (a.scale g)) (d.scalar g j)) (other_number j p n) t))
+          ∙ sym (λ t. times (order M g) (matrix M g i (label_row j o n t))
+          (ap (λ b. cond b (times (order M g) by (a.scale g)) (d.scalar g j)) (other_number j p n) t))
     ]
 
     row_taken : Independent (order M g) M.rank M.rank (λ i j. matrix M g i (label j))
     row_taken =
         unscaled_independent (order M g) F M.rank (λ i j. matrix M g i (label j)) scalar scalars
-        (IsIndependent-codes (order M g) M.rank M.rank (pivoted (order M g) F M.rank U p p_below B one) (λ i j. times (order M g) (matrix M g i (label j)) (scalar j)) _ same_pivoted
+        (IsIndependent-codes (order M g) M.rank M.rank (pivoted (order M g) F M.rank U p p_below B one)
+        (λ i j. times (order M g) (matrix M g i (label j)) (scalar j)) _ same_pivoted
         (pivoted_independent (order M g) F M.rank U p p_below B one
         (scaled_independent (order M g) F M.rank (λ i j. matrix M g i (d.label j)) (d.scalar g) (λ j o. row_scalars M shaped d h g j l o) (h.independent g l))))
 
@@ -94,7 +101,8 @@ module _ (M : Rep) (shaped : IsShaped M) (d : Trail) (h : IsOrdered M d) (x : �
   row_refused f l z w =
       a.scale_nonzero f l
       ((sym (times_one_right (order M f) F (a.scale f) (a.scale_code f l)) ∙ ap (λ b. times (order M f) (a.scale f) (cond b 1 0)) (sym (same_number p)))
-      ∙ sym (same_coefficients (order M f) F M.rank M.rank (λ i j. matrix M f i (label j)) w (λ j. times (order M f) (d.scalar f j) (c f j)) (λ j. times (order M f) (a.scale f) (unit j p))
+      ∙ sym (same_coefficients (order M f) F M.rank M.rank (λ i j. matrix M f i (label j)) w
+      (λ j. times (order M f) (d.scalar f j) (c f j)) (λ j. times (order M f) (a.scale f) (unit j p))
       (λ j _. F_below (d.scalar f j) (c f j)) (λ j _. F_below (a.scale f) (unit j p)) rows p p_below)
       ∙ ap (times (order M f) (d.scalar f p)) z ∙ times_zero (order M f) F (d.scalar f p))
     where
@@ -104,20 +112,23 @@ module _ (M : Rep) (shaped : IsShaped M) (d : Trail) (h : IsOrdered M d) (x : �
       F_below : (x y : ℕ) → times (order M f) x y < order M f
       F_below x y = let G = field M shaped f l in G.times_below x y
 
-      term : (i j : ℕ) → j < M.rank → times (order M f) (matrix M f i (label j)) (times (order M f) (d.scalar f j) (c f j)) ≡ times (order M f) (matrix M f i (d.label j)) (times (order M f) (d.scalar f j) (c f j))
+      term : (i j : ℕ) → j < M.rank → times (order M f) (matrix M f i (label j)) (times (order M f) (d.scalar f j) (c f j)) ≡ times
+          (order M f) (matrix M f i (d.label j)) (times (order M f) (d.scalar f j) (c f j))
       term i j o = elim (cases_eq j p) [
         | inl e ↦ nothing (matrix M f i (label j)) e ∙ sym (nothing (matrix M f i (d.label j)) e)
         | inr n ↦ ap (λ y. times (order M f) (matrix M f i y) (times (order M f) (d.scalar f j) (c f j))) (label_row j o n)
       ]
         where
           nothing : (y : ℕ) → j ≡ p → times (order M f) y (times (order M f) (d.scalar f j) (c f j)) ≡ 0
-          nothing y e = ap (λ j. times (order M f) y (times (order M f) (d.scalar f j) (c f j))) e ∙ ap (λ v. times (order M f) y (times (order M f) (d.scalar f p) v)) z
+          nothing y e = ap (λ j. times (order M f) y (times (order M f) (d.scalar f j) (c f j))) e
+              ∙ ap (λ v. times (order M f) y (times (order M f) (d.scalar f p) v)) z
               ∙ ap (times (order M f) y) (times_zero (order M f) (field M shaped f l) (d.scalar f p)) ∙ times_zero (order M f) (field M shaped f l) y
 
       rows : (i : ℕ) → i < M.rank → combination (order M f) M.rank (λ i j. matrix M f i (label j)) (λ j. times (order M f) (d.scalar f j) (c f j)) i
           ≡ combination (order M f) M.rank (λ i j. matrix M f i (label j)) (λ j. times (order M f) (a.scale f) (unit j p)) i
       rows i b =
-          sum_same (order M f) F M.rank (λ j. times (order M f) (matrix M f i (label j)) (times (order M f) (d.scalar f j) (c f j))) (λ j. times (order M f) (matrix M f i (d.label j)) (times (order M f) (d.scalar f j) (c f j))) (term i)
+          sum_same (order M f) F M.rank (λ j. times (order M f) (matrix M f i (label j)) (times (order M f) (d.scalar f j) (c f j)))
+          (λ j. times (order M f) (matrix M f i (d.label j)) (times (order M f) (d.scalar f j) (c f j))) (term i)
           ∙ a.combined f i l b
           ∙ ap (λ y. times (order M f) (a.scale f) (matrix M f i y)) (sym label_here)
           ∙ sym (combination-scaled (order M f) F M.rank (λ i j. matrix M f i (label j)) (a.scale f) (λ j. unit j p) i
@@ -130,7 +141,8 @@ module _ (M : Rep) (shaped : IsShaped M) (d : Trail) (h : IsOrdered M d) (x : �
       | inl e ↦ e
       | inr ne ↦ absurd (row_refused f l z
           (ordered_independent (order M f) (field M shaped f l) M.rank (size M) (matrix M f) label place h.room permutation
-          (let b = agrees.same g f m l (λ j. nat_lt (place j) M.rank) (first_basis M shaped label place permutation h.room g m (row_taken g m ne)) in b.independent)))
+          (let b = agrees.same g f m l (λ j. nat_lt (place j) M.rank)
+          (first_basis M shaped label place permutation h.room g m (row_taken g m ne)) in b.independent)))
     ]
 
 pub same_support : (M : Rep) → IsShaped M → Agrees M → (d : Trail) → IsOrdered M d → (x : ℕ) → x < size M → (c : ℕ → ℕ → ℕ) → AreCoordinates M d x c

@@ -14,7 +14,8 @@ use Rattle.matroid_theory.proofs.Sums.{times_zero}
 abbrev pub IsSupported : Rep → (ℕ → ℕ → ℕ) → Type 0
 IsSupported M c = (f g i : ℕ) → f < count M → g < count M → i < M.rank → c f i ≡ 0 → c g i ≡ 0
 
-module _ (M : Rep) (shaped : IsShaped M) (some : 0 < count M) (k : ℕ) (groups : ℕ → ℕ) (c : ℕ → ℕ → ℕ) (supported : IsSupported M c) (zeros : AreZeroBefore M k c) where
+module _ (M : Rep) (shaped : IsShaped M) (some : 0 < count M) (k : ℕ) (groups : ℕ → ℕ) (c : ℕ → ℕ → ℕ) (supported : IsSupported M c)
+    (zeros : AreZeroBefore M k c) where
   -- groups that have a row that isn't 0 in the first factor are met
   met_by : (i : ℕ) → i < M.rank → c 0 i ≢ 0 → IsMet M groups c (groups i)
   met_by i l n = (i, l, refl, λ f b e. n (supported f 0 i b some l e))
@@ -25,10 +26,11 @@ module _ (M : Rep) (shaped : IsShaped M) (some : 0 < count M) (k : ℕ) (groups 
       (fresh : (i l : ℕ) → i < k → l < M.rank → groups i ≡ groups l → (i ≡ l) ⊎ ((f : ℕ) → f < count M → order M f ≡ 2))
       (more : ℕ → ℕ) (more_is : (i : ℕ) → i < M.rank → more i ≡ cond (met (groups i)) (groups p) (groups i)) where
     decided : (i : ℕ) → i < M.rank → ((met (groups i) ≡ true) × (more i ≡ groups p)) ⊎ ((met (groups i) ≡ false) × (more i ≡ groups i))
-    decided i l = elim (met (groups i)) as (λ b. met (groups i) ≡ b → ((met (groups i) ≡ true) × (more i ≡ groups p)) ⊎ ((met (groups i) ≡ false) × (more i ≡ groups i))) [
-      | true ↦ λ z. inl (z, more_is i l ∙ ap (λ b. cond b (groups p) (groups i)) z)
-      | false ↦ λ z. inr (z, more_is i l ∙ ap (λ b. cond b (groups p) (groups i)) z)
-    ] refl
+    decided i l = elim (met (groups i)) as
+        (λ b. met (groups i) ≡ b → ((met (groups i) ≡ true) × (more i ≡ groups p)) ⊎ ((met (groups i) ≡ false) × (more i ≡ groups i))) [
+          | true ↦ λ z. inl (z, more_is i l ∙ ap (λ b. cond b (groups p) (groups i)) z)
+          | false ↦ λ z. inr (z, more_is i l ∙ ap (λ b. cond b (groups p) (groups i)) z)
+        ] refl
 
     differ : true ≡ false → ⊥
     differ e = cc
@@ -81,18 +83,23 @@ module _ (M : Rep) (shaped : IsShaped M) (some : 0 < count M) (k : ℕ) (groups 
 -- ---- factors of groups
 
 -- the same product whatever the factors of the groups that aren't met
-pub ones_same : (M : Rep) → IsShaped M → 0 < count M → (groups : ℕ → ℕ) (c own other : ℕ → ℕ → ℕ) → ((f i : ℕ) → f < count M → i < M.rank → c f i < order M f) → MakesOnes M groups c own → MakesOnes M groups c other
+pub ones_same : (M : Rep) → IsShaped M → 0 < count M → (groups : ℕ → ℕ) (c own other : ℕ → ℕ → ℕ) →
+    ((f i : ℕ) → f < count M → i < M.rank → c f i < order M f) → MakesOnes M groups c own → MakesOnes M groups c other
     → number M (scaled M groups own c) ≡ number M (scaled M groups other c)
 ones_same M shaped some groups c own other codes a b = number_entries M (scaled M groups own c) (scaled M groups other c) (λ f i l m. by_first f i l m)
   where
     -- at the first row of the group that isn't 0 the factors agree
     at_first : (f j : ℕ) → f < count M → j < M.rank → ((e : ℕ) → e < j → groups e ≡ groups j → c f e ≡ 0) → c f j ≢ 0 → own f (groups j) ≡ other f (groups j)
     at_first f j l m z n = let F = field M shaped f l in
-        inverse_only (order M f) F (c f j) (own f (groups j)) (record { code = codes f j l m; nonzero = n }) (a.codes f (groups j) l) (F.times_comm (c f j) (own f (groups j)) ∙ a.leads f j l m z n)
-        ∙ sym (inverse_only (order M f) F (c f j) (other f (groups j)) (record { code = codes f j l m; nonzero = n }) (b.codes f (groups j) l) (F.times_comm (c f j) (other f (groups j)) ∙ b.leads f j l m z n))
+        inverse_only (order M f) F (c f j) (own f (groups j)) (record { code = codes f j l m; nonzero = n })
+        (a.codes f (groups j) l) (F.times_comm (c f j) (own f (groups j)) ∙ a.leads f j l m z n)
+        ∙ sym (inverse_only (order M f) F (c f j) (other f (groups j)) (record { code = codes f j l m; nonzero = n })
+        (b.codes f (groups j) l) (F.times_comm (c f j) (other f (groups j)) ∙ b.leads f j l m z n))
 
     -- a row that isn't 0 has a first one in its group
-    first_of : (f g n : ℕ) → ((e : ℕ) → e < n → groups e ≡ g → c f e ≡ 0) ⊎ ((j : ℕ) × (j < n) × (groups j ≡ g) × (c f j ≢ 0) × ((e : ℕ) → e < j → groups e ≡ g → c f e ≡ 0))
+    first_of : (f g n : ℕ) →
+        ((e : ℕ) → e < n → groups e ≡ g → c f e ≡ 0)
+        ⊎ ((j : ℕ) × (j < n) × (groups j ≡ g) × (c f j ≢ 0) × ((e : ℕ) → e < j → groups e ≡ g → c f e ≡ 0))
     first_of f g zero = inl (λ e l. absurd (omega arith))
     first_of f g (suc n) = elim (first_of f g n) [
       | inr w ↦ (let (j, l, e, m, z) = w in inr (j, omega arith, e, m, z))

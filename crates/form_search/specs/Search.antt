@@ -103,7 +103,8 @@ abbrev pub Stands : Bool → Option (List ℕ) → List ℕ → Type 0
 Stands true found settled = MatchOption found ⊥ (λ least. BeginsWith settled least)
 Stands false found settled = IfSome found (λ least. IsBelow settled least)
 
--- what a part of the search made of what was found: it is still of the class and not above what it was, and where it was replaced it begins with what was settled
+-- what a part of the search made of what was found: it is still of the class and not above what it was, and where it
+-- was replaced it begins with what was settled
 pub record Improves (M : Rep) (old new : Option (List ℕ)) (settled : List ℕ) (replaced : Bool) : Type 0 where
   pub sound : IfSome new (AreOfClass M)
   pub lower : (numbers : List ℕ) → IsAtMost old numbers → IsAtMost new numbers

@@ -13,7 +13,8 @@ pub record ReachesForm (M : Rep) (m : Move) (N : Rep) : Type 0 where
   pub takes : TakesTo M m N
   pub form : IsForm Linear N
 
--- an order of all elements, a scalar for each row of each factor, and the codes of the columns that are placed after the unit columns, by number, factor and row.
+-- an order of all elements, a scalar for each row of each factor, and the codes of the columns that are placed after
+-- the unit columns, by number, factor and row.
 --     Only the elements of the last rows and those of the columns placed are chosen; the others stand in any order.
 pub record Trail : Type 0 where
   pub label : ℕ → ℕ
@@ -28,7 +29,8 @@ pub record AreCoordinates (M : Rep) (d : Trail) (x : ℕ) (c : ℕ → ℕ → �
   pub scale_code : (f : ℕ) → f < count M → scale f < order M f
   pub scale_nonzero : (f : ℕ) → f < count M → scale f ≢ 0
   pub combined : (f i : ℕ) → f < count M → i < M.rank →
-      combination (order M f) M.rank (λ i l. matrix M f i (d.label l)) (λ l. times (order M f) (d.scalar f l) (c f l)) i ≡ times (order M f) (scale f) (matrix M f i x)
+      combination (order M f) M.rank (λ i l. matrix M f i (d.label l)) (λ l. times (order M f) (d.scalar f l) (c f l)) i
+      ≡ times (order M f) (scale f) (matrix M f i x)
 
 -- they are 0 in the rows before k
 abbrev pub AreZeroBefore : Rep → ℕ → (ℕ → ℕ → ℕ) → Type 0
@@ -55,7 +57,8 @@ pub record ArePlaced (M : Rep) (k s : ℕ) (groups : ℕ → ℕ) (d : Trail) : 
   pub room : M.rank + s ≤ size M
   pub coordinates : (j : ℕ) → j < s → AreCoordinates M d (d.label (M.rank + j)) (d.columns j)
   pub zeros : (j : ℕ) → j < s → AreZeroBefore M k (d.columns j)
-  pub in_one_group : (j f g i l : ℕ) → j < s → f < count M → g < count M → i < M.rank → l < M.rank → d.columns j f i ≢ 0 → d.columns j g l ≢ 0 → groups i ≡ groups l
+  pub in_one_group : (j f g i l : ℕ) → j < s → f < count M → g < count M → i < M.rank → l < M.rank → d.columns j f i ≢ 0 →
+      d.columns j g l ≢ 0 → groups i ≡ groups l
 
 -- what holds of each form that a move with these choices reaches: the rows of a group have one factor, and the first later columns are these
 pub record Determines (M : Rep) (k s : ℕ) (groups : ℕ → ℕ) (d : Trail) : Type 0 where
@@ -80,6 +83,7 @@ IsMet M groups c g = (i : ℕ) × (i < M.rank) × (groups i ≡ g) × ((f : ℕ)
 -- the groups that the column with these codes meets become one
 pub record TiesGroups (M : Rep) (k : ℕ) (groups : ℕ → ℕ) (c : ℕ → ℕ → ℕ) (more : ℕ → ℕ) : Type 0 where
   pub kept : (i l : ℕ) → i < M.rank → l < M.rank → groups i ≡ groups l → more i ≡ more l
-  pub merged : (i l : ℕ) → k ≤ i → i < M.rank → k ≤ l → l < M.rank → more i ≡ more l → (groups i ≡ groups l) ⊎ (IsMet M groups c (groups i) × IsMet M groups c (groups l))
+  pub merged : (i l : ℕ) → k ≤ i → i < M.rank → k ≤ l → l < M.rank → more i ≡ more l →
+      (groups i ≡ groups l) ⊎ (IsMet M groups c (groups i) × IsMet M groups c (groups l))
   pub together : (f g i l : ℕ) → f < count M → g < count M → i < M.rank → l < M.rank → c f i ≢ 0 → c g l ≢ 0 → more i ≡ more l
   pub fresh : (i l : ℕ) → i < k → l < M.rank → more i ≡ more l → (i ≡ l) ⊎ ((f : ℕ) → f < count M → order M f ≡ 2)

@@ -21,7 +21,8 @@ pub text-append : (xs ys : List Block) → text_of_blocks (xs ++ ys) ≡ text_of
 text-append xs ys = flat_map-append concat xs ys
 
 -- more levels put blocks behind those of some levels
-pub more_levels : (q : Request) (x : LevelEntry) (xs ys : List LevelEntry) → level_blocks q ((x ∷ xs) ++ ys) ≡ level_blocks q (x ∷ xs) ++ map (level_pieces q.print) ys
+pub more_levels : (q : Request) (x : LevelEntry) (xs ys : List LevelEntry) →
+    level_blocks q ((x ∷ xs) ++ ys) ≡ level_blocks q (x ∷ xs) ++ map (level_pieces q.print) ys
 more_levels q x xs ys = ap (λ (bs : List Block). (head_text q ∷ level_pieces q.print x) ∷ bs) (map-append (level_pieces q.print) xs ys)
 
 -- while levels are missing there is no end line
@@ -31,8 +32,10 @@ blocks_of_some q levels some =
     ∙ ap (with_front (head_text q)) (append-nil (map (level_pieces q.print) levels))
 
 -- after all levels it is there
-pub blocks_of_all : (q : Request) (x : LevelEntry) (levels : List LevelEntry) → length (x ∷ levels) ≡ level_count q → listing_blocks q (x ∷ levels) ≡ level_blocks q (x ∷ levels) ++ (end_text ∷ []) ∷ []
-blocks_of_all q x levels all = ap (λ b. with_front (head_text q) (map (level_pieces q.print) (x ∷ levels) ++ end_blocks b)) (eq-eqb (length (x ∷ levels)) (level_count q) all)
+pub blocks_of_all : (q : Request) (x : LevelEntry) (levels : List LevelEntry) → length (x ∷ levels) ≡ level_count q →
+    listing_blocks q (x ∷ levels) ≡ level_blocks q (x ∷ levels) ++ (end_text ∷ []) ∷ []
+blocks_of_all q x levels all = ap (λ b. with_front (head_text q) (map (level_pieces q.print) (x ∷ levels) ++ end_blocks b))
+    (eq-eqb (length (x ∷ levels)) (level_count q) all)
 
 end_is_long : 0 < length end_text
 unfolding end_text
@@ -40,7 +43,14 @@ end_is_long = omega arith
 
 -- blocks with the end line have bytes
 ends : (blocks : List Block) → 0 < length (text_of_blocks (blocks ++ (end_text ∷ []) ∷ []))
-ends blocks = omega (arith, end_is_long, ap length (text-append blocks ((end_text ∷ []) ∷ [])), length-append (text_of_blocks blocks) ((end_text ++ []) ++ []), length-append (end_text ++ []) [], length-append end_text [])
+ends blocks = omega (
+  arith,
+  end_is_long,
+  ap length (text-append blocks ((end_text ∷ []) ∷ [])),
+  length-append (text_of_blocks blocks) ((end_text ++ []) ++ []),
+  length-append (end_text ++ []) [],
+  length-append end_text [],
+)
 
 -- what comes behind the blocks of some first levels
 record IsContinued (q : Request) (xs ys : List LevelEntry) : Type 0 where
@@ -106,6 +116,7 @@ up_to_is_front q text written n listing part =
     let on = continued q part.levels listing.levels part.are listing.are in
     record {
       rest = text_of_blocks on.more;
-      split = listing.is ∙ ap text_of_blocks on.split ∙ text-append (listing_blocks q part.levels) on.more ∙ ap (λ (t : List ℕ). t ++ text_of_blocks on.more) (sym part.is);
+      split = listing.is ∙ ap text_of_blocks on.split ∙ text-append (listing_blocks q part.levels) on.more
+          ∙ ap (λ (t : List ℕ). t ++ text_of_blocks on.more) (sym part.is);
       proper = on.some (omega (arith, part.count, part.not_all));
     }

@@ -74,7 +74,9 @@ small_stands entries q is all of_version few not_often asked limits =
     (omega (arith, text_length entries all))
 
 -- what holds of the entries of a list holds of those of one kind, made anew of their values
-values_kept : {Y : Type 0} (P : Statement → Type 0) (value : Statement → Option Y) (made : Y → Statement) → ((e : Statement) (y : Y) → value e ≡ Some y → e ≡ made y) → (entries : List Statement) → AllByRecursion P entries → AllByRecursion P (map made (filter_map value entries))
+values_kept : {Y : Type 0} (P : Statement → Type 0) (value : Statement → Option Y) (made : Y → Statement) →
+    ((e : Statement) (y : Y) → value e ≡ Some y → e ≡ made y) → (entries : List Statement) → AllByRecursion P entries →
+    AllByRecursion P (map made (filter_map value entries))
 values_kept P value made inverse [] all = tt
 values_kept {Y = Y} P value made inverse (e ∷ entries) all = at (value e) refl (filter_map value entries) (values_kept P value made inverse entries all.1)
   where
@@ -167,12 +169,14 @@ all_cosimple : (P : Statement → Type 0) (q : Request) → P ListsCosimple → 
 all_cosimple P q c rest = all_append P (where_set q.cosimple ListsCosimple) (distinct_part q) (all_where P q.cosimple ListsCosimple c) rest
 
 all_three : (P : Statement → Type 0) (q : Request) → P ListsThreeConnected → AllByRecursion P (cosimple_part q) → AllByRecursion P (three_part q)
-all_three P q t rest = all_append P (where_set q.three_connected ListsThreeConnected) (cosimple_part q) (all_where P q.three_connected ListsThreeConnected t) rest
+all_three P q t rest = all_append P (where_set q.three_connected ListsThreeConnected) (cosimple_part q)
+    (all_where P q.three_connected ListsThreeConnected t) rest
 
 all_connected : (P : Statement → Type 0) (q : Request) → P ListsConnected → AllByRecursion P (three_part q) → AllByRecursion P (connected_part q)
 all_connected P q k rest = all_append P (where_set q.connected ListsConnected) (three_part q) (all_where P q.connected ListsConnected k) rest
 
-all_filters : (P : Statement → Type 0) (q : Request) → P ListsConnected → P ListsThreeConnected → P ListsCosimple → P ListsDistinct → AllByRecursion P (has_part q) → AllByRecursion P (connected_part q)
+all_filters : (P : Statement → Type 0) (q : Request) → P ListsConnected → P ListsThreeConnected → P ListsCosimple →
+    P ListsDistinct → AllByRecursion P (has_part q) → AllByRecursion P (connected_part q)
 all_filters P q k t c d rest = all_connected P q k (all_three P q t (all_cosimple P q c (all_distinct P q d rest)))
 
 -- the same of what holds of an entry of each kind
@@ -193,20 +197,26 @@ all_mode P q m rest =
     (all_where P (is_semilinear q.mode) (EquivalenceIs Semilinear) m) rest
 
 each_part : (P : Statement → Type 0) (q : Request) → OfEach P → AllByRecursion P (mode_part q)
-each_part P q e = all_mode P q e.mode (all_append P (map Forbids q.forbid) (connected_part q) (all_map P Forbids e.forbids q.forbid) (all_filters P q e.connected e.three e.cosimple e.distinct (all_has P q (all_map P ListsWith e.has (option_to_list q.has)) (e.prints q.print))))
+each_part P q e = all_mode P q e.mode
+    (all_append P (map Forbids q.forbid) (connected_part q) (all_map P Forbids e.forbids q.forbid)
+    (all_filters P q e.connected e.three e.cosimple e.distinct
+    (all_has P q (all_map P ListsWith e.has (option_to_list q.has)) (e.prints q.print))))
 
 -- entries that tell nothing of what is asked for
 no_values : {Y : Type 0} (value : Statement → Option Y) (xs : List Statement) → AllByRecursion (λ e. value e ≡ None) xs → filter_map value xs ≡ []
 no_values value [] all = refl
 no_values {Y = Y} value (x ∷ xs) all = ap (λ (o : Option Y). cons_option o (filter_map value xs)) all.0 ∙ no_values value xs all.1
 
-skip_values : {Y : Type 0} (value : Statement → Option Y) (xs ys : List Statement) → AllByRecursion (λ e. value e ≡ None) xs → filter_map value (xs ++ ys) ≡ filter_map value ys
+skip_values : {Y : Type 0} (value : Statement → Option Y) (xs ys : List Statement) → AllByRecursion (λ e. value e ≡ None) xs →
+    filter_map value (xs ++ ys) ≡ filter_map value ys
 skip_values value [] ys all = refl
 skip_values {Y = Y} value (x ∷ xs) ys all = ap (λ (o : Option Y). cons_option o (filter_map value (xs ++ ys))) all.0 ∙ skip_values value xs ys all.1
 
-made_values : {Y : Type 0} (value : Statement → Option Y) (made : Y → Statement) → ((y : Y) → value (made y) ≡ Some y) → (ys : List Y) (rest : List Statement) → filter_map value rest ≡ [] → filter_map value (map made ys ++ rest) ≡ ys
+made_values : {Y : Type 0} (value : Statement → Option Y) (made : Y → Statement) → ((y : Y) → value (made y) ≡ Some y) →
+    (ys : List Y) (rest : List Statement) → filter_map value rest ≡ [] → filter_map value (map made ys ++ rest) ≡ ys
 made_values value made is [] rest none = none
-made_values {Y = Y} value made is (y ∷ ys) rest none = ap (λ (o : Option Y). cons_option o (filter_map value (map made ys ++ rest))) (is y) ∙ ap (λ (l : List Y). y ∷ l) (made_values value made is ys rest none)
+made_values {Y = Y} value made is (y ∷ ys) rest none = ap (λ (o : Option Y). cons_option o (filter_map value (map made ys ++ rest)))
+    (is y) ∙ ap (λ (l : List Y). y ∷ l) (made_values value made is ys rest none)
 
 none_pass : (test : Statement → Bool) (xs : List Statement) → AllByRecursion (λ e. test e ≡ false) xs → list_any test xs ≡ false
 none_pass test [] all = refl
@@ -216,26 +226,68 @@ skip_test : (test : Statement → Bool) (xs ys : List Statement) → AllByRecurs
 skip_test test [] ys all = refl
 skip_test test (x ∷ xs) ys all = ap (λ (b : Bool). b || list_any test (xs ++ ys)) all.0 ∙ skip_test test xs ys all.1
 
-flag_test : (test : Statement → Bool) (b : Bool) (e : Statement) (ys : List Statement) → test e ≡ true → list_any test ys ≡ false → list_any test (where_set b e ++ ys) ≡ b
+flag_test : (test : Statement → Bool) (b : Bool) (e : Statement) (ys : List Statement) → test e ≡ true → list_any test ys ≡ false →
+    list_any test (where_set b e ++ ys) ≡ b
 flag_test test true e ys is none = ap (λ (b : Bool). b || list_any test ys) is
 flag_test test false e ys is none = none
 
 -- the head asks for what it is made of
 head_rank : (q : Request) → filter_map rank_in (head_parts q) ≡ q.rank ∷ []
-head_rank q = ap (λ (l : List ℕ). q.rank ∷ l) (no_values rank_in (mode_part q) (each_part (λ e. rank_in e ≡ None) q (record { mode = refl; forbids = λ m. refl; connected = refl; three = refl; cosimple = refl; distinct = refl; has = λ m. refl; prints = λ mode. refl })))
+head_rank q = ap (λ (l : List ℕ). q.rank ∷ l)
+    (no_values rank_in (mode_part q)
+    (each_part (λ e. rank_in e ≡ None) q
+    (record {
+      mode = refl;
+      forbids = λ m. refl;
+      connected = refl;
+      three = refl;
+      cosimple = refl;
+      distinct = refl;
+      has =
+          λ m. refl;
+      prints = λ mode. refl;
+    })))
 
 head_field : (q : Request) → filter_map field_in (head_parts q) ≡ q.factors ∷ []
-head_field q = ap (λ (l : List (List ℕ)). q.factors ∷ l) (no_values field_in (mode_part q) (each_part (λ e. field_in e ≡ None) q (record { mode = refl; forbids = λ m. refl; connected = refl; three = refl; cosimple = refl; distinct = refl; has = λ m. refl; prints = λ mode. refl })))
+head_field q = ap (λ (l : List (List ℕ)). q.factors ∷ l)
+    (no_values field_in (mode_part q)
+    (each_part (λ e. field_in e ≡ None) q
+    (record {
+      mode = refl;
+      forbids = λ m. refl;
+      connected = refl;
+      three = refl;
+      cosimple = refl;
+      distinct = refl;
+      has =
+          λ m. refl;
+      prints = λ mode. refl;
+    })))
 
 head_size : (q : Request) → filter_map size_in (head_parts q) ≡ q.size ∷ []
-head_size q = ap (λ (l : List ℕ). q.size ∷ l) (no_values size_in (mode_part q) (each_part (λ e. size_in e ≡ None) q (record { mode = refl; forbids = λ m. refl; connected = refl; three = refl; cosimple = refl; distinct = refl; has = λ m. refl; prints = λ mode. refl })))
+head_size q = ap (λ (l : List ℕ). q.size ∷ l)
+    (no_values size_in (mode_part q)
+    (each_part (λ e. size_in e ≡ None) q
+    (record {
+      mode = refl;
+      forbids = λ m. refl;
+      connected = refl;
+      three = refl;
+      cosimple = refl;
+      distinct = refl;
+      has =
+          λ m. refl;
+      prints = λ mode. refl;
+    })))
 
 head_forbid : (q : Request) → filter_map forbidden_in (head_parts q) ≡ q.forbid
 head_forbid q =
     let silent : Statement → Type 0 = λ e. forbidden_in e ≡ None in
     skip_values forbidden_in (where_set (is_semilinear q.mode) (EquivalenceIs Semilinear)) (forbid_part q)
     (all_where silent (is_semilinear q.mode) (EquivalenceIs Semilinear) refl)
-    ∙ made_values forbidden_in Forbids (λ m. refl) q.forbid (connected_part q) (no_values forbidden_in (connected_part q) (all_filters silent q refl refl refl refl (all_has silent q (all_map silent ListsWith (λ m. refl) (option_to_list q.has)) refl)))
+    ∙ made_values forbidden_in Forbids (λ m. refl) q.forbid (connected_part q)
+    (no_values forbidden_in (connected_part q)
+    (all_filters silent q refl refl refl refl (all_has silent q (all_map silent ListsWith (λ m. refl) (option_to_list q.has)) refl)))
 
 head_has : (q : Request) → filter_map wanted_in (head_parts q) ≡ option_to_list q.has
 head_has q =
@@ -263,21 +315,26 @@ skip_forbids test q mode fails =
 skip_flag : (test : Statement → Bool) (b : Bool) (e : Statement) (ys : List Statement) → test e ≡ false → list_any test (where_set b e ++ ys) ≡ list_any test ys
 skip_flag test b e ys fails = skip_test test (where_set b e) ys (all_where (λ e. test e ≡ false) b e fails)
 
-has_fails : (test : Statement → Bool) (q : Request) → ((m : MinorName) → test (ListsWith m) ≡ false) → test (Prints q.print) ≡ false → AllByRecursion (λ e. test e ≡ false) (has_part q)
+has_fails : (test : Statement → Bool) (q : Request) → ((m : MinorName) → test (ListsWith m) ≡ false) →
+    test (Prints q.print) ≡ false → AllByRecursion (λ e. test e ≡ false) (has_part q)
 has_fails test q fails print = all_has (λ e. test e ≡ false) q (all_map (λ e. test e ≡ false) ListsWith fails (option_to_list q.has)) print
 
 head_connected : (q : Request) → has_kind ListsConnected (head_parts q) ≡ q.connected
 head_connected q =
     let fails : Statement → Type 0 = λ e. is_kind 5 e ≡ false in
     skip_forbids (is_kind 5) q refl (λ m. refl)
-    ∙ flag_test (is_kind 5) q.connected ListsConnected (three_part q) refl (none_pass (is_kind 5) (three_part q) (all_three fails q refl (all_cosimple fails q refl (all_distinct fails q refl (has_fails (is_kind 5) q (λ m. refl) refl)))))
+    ∙ flag_test (is_kind 5) q.connected ListsConnected (three_part q) refl
+    (none_pass (is_kind 5) (three_part q)
+    (all_three fails q refl (all_cosimple fails q refl (all_distinct fails q refl (has_fails (is_kind 5) q (λ m. refl) refl)))))
 
 head_three : (q : Request) → has_kind ListsThreeConnected (head_parts q) ≡ q.three_connected
 head_three q =
     let fails : Statement → Type 0 = λ e. is_kind 6 e ≡ false in
     skip_forbids (is_kind 6) q refl (λ m. refl)
     ∙ skip_flag (is_kind 6) q.connected ListsConnected (three_part q) refl
-    ∙ flag_test (is_kind 6) q.three_connected ListsThreeConnected (cosimple_part q) refl (none_pass (is_kind 6) (cosimple_part q) (all_cosimple fails q refl (all_distinct fails q refl (has_fails (is_kind 6) q (λ m. refl) refl))))
+    ∙ flag_test (is_kind 6) q.three_connected ListsThreeConnected (cosimple_part q) refl
+    (none_pass (is_kind 6) (cosimple_part q)
+    (all_cosimple fails q refl (all_distinct fails q refl (has_fails (is_kind 6) q (λ m. refl) refl))))
 
 head_cosimple : (q : Request) → has_kind ListsCosimple (head_parts q) ≡ q.cosimple
 head_cosimple q =
@@ -285,7 +342,8 @@ head_cosimple q =
     skip_forbids (is_kind 7) q refl (λ m. refl)
     ∙ skip_flag (is_kind 7) q.connected ListsConnected (three_part q) refl
     ∙ skip_flag (is_kind 7) q.three_connected ListsThreeConnected (cosimple_part q) refl
-    ∙ flag_test (is_kind 7) q.cosimple ListsCosimple (distinct_part q) refl (none_pass (is_kind 7) (distinct_part q) (all_distinct fails q refl (has_fails (is_kind 7) q (λ m. refl) refl)))
+    ∙ flag_test (is_kind 7) q.cosimple ListsCosimple (distinct_part q) refl
+    (none_pass (is_kind 7) (distinct_part q) (all_distinct fails q refl (has_fails (is_kind 7) q (λ m. refl) refl)))
 
 head_distinct : (q : Request) → has_kind ListsDistinct (head_parts q) ≡ q.distinct
 head_distinct q =
@@ -325,15 +383,35 @@ head_print q =
     ∙ skip_flag prints_counts q.three_connected ListsThreeConnected (cosimple_part q) refl
     ∙ skip_flag prints_counts q.cosimple ListsCosimple (distinct_part q) refl
     ∙ skip_flag prints_counts q.distinct ListsDistinct (has_part q) refl
-    ∙ skip_test prints_counts (map ListsWith (option_to_list q.has)) (print_part q) (all_map (λ e. prints_counts e ≡ false) ListsWith (λ m. refl) (option_to_list q.has)))
+    ∙ skip_test prints_counts (map ListsWith (option_to_list q.has)) (print_part q)
+    (all_map (λ e. prints_counts e ≡ false) ListsWith (λ m. refl) (option_to_list q.has)))
     ∙ print_kept q.print
 
 head_asks : (q : Request) → AskFor (head_parts q) q
-head_asks q = record { rank = head_rank q; field = head_field q; size = head_size q; forbid = head_forbid q; connected = head_connected q; three_connected = head_three q; cosimple = head_cosimple q; distinct = head_distinct q; has = head_has q; print = head_print q; mode = head_mode q }
+head_asks q = record {
+  rank = head_rank q;
+  field = head_field q;
+  size = head_size q;
+  forbid = head_forbid q;
+  connected =
+      head_connected q;
+  three_connected = head_three q;
+  cosimple = head_cosimple q;
+  distinct = head_distinct q;
+  has =
+      head_has q;
+  print = head_print q;
+  mode = head_mode q;
+}
 
 -- each kind stands in the head as often as it may
 abbrev kinds_bound : ℕ → ℕ
-kinds_bound kind = cond (0 == kind) 1 0 + (cond (2 == kind) 1 0 + (cond (1 == kind) 1 0 + (cond (3 == kind) 1 0 + (cond (4 == kind) 8 0 + (cond (5 == kind) 1 0 + (cond (6 == kind) 1 0 + (cond (7 == kind) 1 0 + (cond (8 == kind) 1 0 + (cond (9 == kind) 1 0 + (cond (10 == kind) 1 0 + cond (11 == kind) 1 0))))))))))
+kinds_bound kind = cond (0 == kind) 1
+    0 + (cond (2 == kind) 1 0 + (cond
+    (1 == kind) 1 0 + (cond (3 == kind) 1
+    0 + (cond (4 == kind) 8 0 + (cond
+    (5 == kind) 1 0 + (cond (6 == kind) 1
+    0 + (cond (7 == kind) 1 0 + (cond (8 == kind) 1 0 + (cond (9 == kind) 1 0 + (cond (10 == kind) 1 0 + cond (11 == kind) 1 0))))))))))
 
 kind_differs : (m n kind : ℕ) → m < kind → cond (m == kind) n 0 ≡ 0
 kind_differs m n kind lt = grind (arith, nat_tests)
@@ -341,7 +419,22 @@ kind_differs m n kind lt = grind (arith, nat_tests)
 -- there is none beyond the last kind
 no_kind : (kind : ℕ) → 11 < kind → kinds_bound kind ≤ most_of_kind kind
 no_kind kind lt =
-    omega (arith, some_of_kind kind, kind_differs 0 1 kind (omega arith), kind_differs 1 1 kind (omega arith), kind_differs 2 1 kind (omega arith), kind_differs 3 1 kind (omega arith), kind_differs 4 8 kind (omega arith), kind_differs 5 1 kind (omega arith), kind_differs 6 1 kind (omega arith), kind_differs 7 1 kind (omega arith), kind_differs 8 1 kind (omega arith), kind_differs 9 1 kind (omega arith), kind_differs 10 1 kind (omega arith), kind_differs 11 1 kind (omega arith))
+    omega (
+      arith,
+      some_of_kind kind,
+      kind_differs 0 1 kind (omega arith),
+      kind_differs 1 1 kind (omega arith),
+      kind_differs 2 1 kind (omega arith),
+      kind_differs 3 1 kind (omega arith),
+      kind_differs 4 8 kind (omega arith),
+      kind_differs 5 1 kind (omega arith),
+      kind_differs 6 1 kind (omega arith),
+      kind_differs 7 1 kind (omega arith),
+      kind_differs 8 1 kind (omega arith),
+      kind_differs 9 1 kind (omega arith),
+      kind_differs 10 1 kind (omega arith),
+      kind_differs 11 1 kind (omega arith),
+    )
 
 kinds_bound_small : (kind : ℕ) → kinds_bound kind ≤ most_of_kind kind
 kinds_bound_small zero = lit≤ tt
@@ -356,7 +449,8 @@ kinds_bound_small (suc (suc (suc (suc (suc (suc (suc (suc zero)))))))) = lit≤ 
 kinds_bound_small (suc (suc (suc (suc (suc (suc (suc (suc (suc zero))))))))) = lit≤ tt
 kinds_bound_small (suc (suc (suc (suc (suc (suc (suc (suc (suc (suc zero)))))))))) = lit≤ tt
 kinds_bound_small (suc (suc (suc (suc (suc (suc (suc (suc (suc (suc (suc zero))))))))))) = lit≤ tt
-kinds_bound_small (suc (suc (suc (suc (suc (suc (suc (suc (suc (suc (suc (suc kind)))))))))))) = no_kind (suc (suc (suc (suc (suc (suc (suc (suc (suc (suc (suc (suc kind)))))))))))) (omega arith)
+kinds_bound_small (suc (suc (suc (suc (suc (suc (suc (suc (suc (suc (suc (suc kind)))))))))))) =
+    no_kind (suc (suc (suc (suc (suc (suc (suc (suc (suc (suc (suc (suc kind)))))))))))) (omega arith)
 
 -- how many of a kind stand in a part
 where_count : (kind : ℕ) (b : Bool) (e : Statement) → count_of_kind kind (where_set b e) ≤ cond (kind_number e == kind) 1 0
@@ -437,7 +531,8 @@ head_kept P entries q version mode connected three cosimple distinct print all a
     let ranks = subst (λ (l : List ℕ). AllByRecursion P (map RankIs l)) asked.rank (values_kept P rank_in RankIs rank_made entries all) in
     let fields = subst (λ (l : List (List ℕ)). AllByRecursion P (map FieldIs l)) asked.field (values_kept P field_in FieldIs field_made entries all) in
     let sizes = subst (λ (l : List ℕ). AllByRecursion P (map SizeIs l)) asked.size (values_kept P size_in SizeIs size_made entries all) in
-    let forbids = subst (λ (l : List MinorName). AllByRecursion P (map Forbids l)) asked.forbid (values_kept P forbidden_in Forbids forbidden_made entries all) in
+    let forbids = subst (λ (l : List MinorName). AllByRecursion P (map Forbids l)) asked.forbid
+    (values_kept P forbidden_in Forbids forbidden_made entries all) in
     let has = subst (λ (l : List MinorName). AllByRecursion P (map ListsWith l)) asked.has (values_kept P wanted_in ListsWith wanted_made entries all) in
     let minors = all_append P (map Forbids q.forbid) (connected_part q) forbids (all_filters P q connected three cosimple distinct (all_has P q has print)) in
     (version, (fields.0, (ranks.0, (sizes.0, all_mode P q mode minors))))
@@ -446,7 +541,8 @@ head_kept P entries q version mode connected three cosimple distinct print all a
 few_forbidden : (entries : List Statement) (q : Request) → AreInOrder entries → AskFor entries q → length q.forbid ≤ 8
 few_forbidden entries q in_order asked = omega (arith, forbidden_count entries, in_order.not_often forbid_kind, ap length asked.forbid)
 
-all_small : (entries : List Statement) → AllByRecursion IsStatement entries → AllByRecursion (λ entry. named_elements entry ≤ 10) entries → AllByRecursion IsSmall entries
+all_small : (entries : List Statement) → AllByRecursion IsStatement entries →
+    AllByRecursion (λ entry. named_elements entry ≤ 10) entries → AllByRecursion IsSmall entries
 all_small [] may not_big = tt
 all_small (e ∷ entries) may not_big = (record { may = may.0; not_big = not_big.0 }, all_small entries may.1 not_big.1)
 

@@ -32,7 +32,8 @@ all_end P [] e all p = (p, tt)
 all_end P (x ∷ es) e all p = (all.0, all_end P es e all.1 p)
 
 -- the entries stay in order by one of a kind of which there were fewer than may be
-pub order_end : (es : List Statement) (e : Statement) → AreInOrder es → named_elements e ≤ 10 → count_of_kind (kind_number e) es < most_of_kind (kind_number e) → AreInOrder (es ++ e ∷ [])
+pub order_end : (es : List Statement) (e : Statement) → AreInOrder es → named_elements e ≤ 10 →
+    count_of_kind (kind_number e) es < most_of_kind (kind_number e) → AreInOrder (es ++ e ∷ [])
 order_end es e order small fewer = record {
   not_often = λ kind. often kind;
   not_big = all_end (λ x. named_elements x ≤ 10) es e order.not_big small;
@@ -81,11 +82,13 @@ wanted_count (ListsWith minor ∷ es) = omega (arith, count_cons 9 (ListsWith mi
 wanted_count (e ∷ es) = omega (arith, count_cons 9 e es, wanted_count es)
 
 -- no entry of a kind more
-pub count_kept : (kind : ℕ) (es : List Statement) (e : Statement) (n : ℕ) → count_of_kind kind es ≡ n → of_kind kind e ≡ 0 → count_of_kind kind (es ++ e ∷ []) ≡ n
+pub count_kept : (kind : ℕ) (es : List Statement) (e : Statement) (n : ℕ) → count_of_kind kind es ≡ n → of_kind kind e ≡ 0 →
+    count_of_kind kind (es ++ e ∷ []) ≡ n
 count_kept kind es e n held none = omega (arith, count_end kind es e, held, none)
 
 -- one value more
-pub values_end : {X : Type 0} (value : Statement → Option X) (es : List Statement) (e : Statement) (o : Option X) → filter_map value es ≡ [] → value e ≡ o → filter_map value (es ++ e ∷ []) ≡ option_to_list o
+pub values_end : {X : Type 0} (value : Statement → Option X) (es : List Statement) (e : Statement) (o : Option X) →
+    filter_map value es ≡ [] → value e ≡ o → filter_map value (es ++ e ∷ []) ≡ option_to_list o
 values_end value es e o none is = filter_map-append value es (e ∷ []) ∙ ap (λ l. l ++ filter_map value (e ∷ [])) none ∙ one o is
   where
     one : (o : Option _) → value e ≡ o → filter_map value (e ∷ []) ≡ option_to_list o
@@ -93,11 +96,14 @@ values_end value es e o none is = filter_map-append value es (e ∷ []) ∙ ap (
     one (Some x) is = ap (λ o. cons_option o []) is
 
 -- no value more
-pub values_kept : {X : Type 0} (value : Statement → Option X) (es : List Statement) (e : Statement) (xs : List X) → filter_map value es ≡ xs → value e ≡ None → filter_map value (es ++ e ∷ []) ≡ xs
-values_kept value es e xs held none = filter_map-append value es (e ∷ []) ∙ ap (λ o. filter_map value es ++ cons_option o []) none ∙ append-nil (filter_map value es) ∙ held
+pub values_kept : {X : Type 0} (value : Statement → Option X) (es : List Statement) (e : Statement) (xs : List X) →
+    filter_map value es ≡ xs → value e ≡ None → filter_map value (es ++ e ∷ []) ≡ xs
+values_kept value es e xs held none = filter_map-append value es (e ∷ []) ∙ ap (λ o. filter_map value es ++ cons_option o []) none
+    ∙ append-nil (filter_map value es) ∙ held
 
 -- one value more after others
-pub values_more : {X : Type 0} (value : Statement → Option X) (es : List Statement) (e : Statement) (x : X) (xs : List X) → filter_map value es ≡ xs → value e ≡ Some x → filter_map value (es ++ e ∷ []) ≡ xs ++ x ∷ []
+pub values_more : {X : Type 0} (value : Statement → Option X) (es : List Statement) (e : Statement) (x : X) (xs : List X) →
+    filter_map value es ≡ xs → value e ≡ Some x → filter_map value (es ++ e ∷ []) ≡ xs ++ x ∷ []
 values_more value es e x xs held is = filter_map-append value es (e ∷ []) ∙ ap (λ o. filter_map value es ++ cons_option o []) is ∙ ap (λ l. l ++ x ∷ []) held
 
 -- a kind that has a value was there

@@ -31,7 +31,8 @@ number_length n lt = length-decimal-le 9 n (omega arith) (omega arith) (omega ar
 order_length : (n : ℕ) → n < 14 → length (decimal n) ≤ 2
 order_length n lt = length-decimal-le 2 n (omega arith) (omega arith) (omega arith)
 
-columns_weight : (rows : ℕ) (columns : List (List ℕ)) → rows ≤ 6 → AllByRecursion (λ column. length column ≡ rows) columns → weight (map column_word columns) ≤ 7 * length columns
+columns_weight : (rows : ℕ) (columns : List (List ℕ)) → rows ≤ 6 → AllByRecursion (λ column. length column ≡ rows) columns →
+    weight (map column_word columns) ≤ 7 * length columns
 columns_weight rows [] few all = omega arith
 columns_weight rows (column ∷ columns) few all = omega (arith, length-map column entry_letter, all.0, columns_weight rows columns few all.1)
 
@@ -48,10 +49,12 @@ minor_weight NonFano may few = omega arith
 minor_weight KFour may few = omega arith
 minor_weight KFive may few = omega arith
 
-factors_weight : (factors : List ℕ) → length factors ≤ 3 → ((f : ℕ) → f < length factors → IsOrder (slice_index factors f)) → weight (parted (codes "x") (map (λ order. decimal order ∷ []) factors)) ≤ 5 * length factors
+factors_weight : (factors : List ℕ) → length factors ≤ 3 → ((f : ℕ) → f < length factors → IsOrder (slice_index factors f)) →
+    weight (parted (codes "x") (map (λ order. decimal order ∷ []) factors)) ≤ 5 * length factors
 factors_weight [] few all = omega arith
 factors_weight (x ∷ []) few all = omega (arith, order_length x (order_small x (all 0 (omega arith))))
-factors_weight (x ∷ y ∷ ys) few all = omega (arith, order_length x (order_small x (all 0 (omega arith))), factors_weight (y ∷ ys) (omega arith) (λ f l. all (suc f) (omega arith)))
+factors_weight (x ∷ y ∷ ys) few all =
+    omega (arith, order_length x (order_small x (all 0 (omega arith))), factors_weight (y ∷ ys) (omega arith) (λ f l. all (suc f) (omega arith)))
 
 -- what a line may say, of a matroid with at most ten elements
 pub record IsSmall (entry : Statement) : Type 0 where
@@ -77,4 +80,10 @@ entry_weight (Prints Counts) small = omega arith
 pub text_length : (entries : List Statement) → AllByRecursion IsSmall entries → length (text_of_statements entries) ≤ 128 * length entries
 text_length [] all = omega arith
 text_length (e ∷ entries) all =
-    omega (arith, line_length (spelling e), entry_weight e all.0, text_length entries all.1, length-append (line_of_words (spelling e)) (text_of_statements entries))
+    omega (
+      arith,
+      line_length (spelling e),
+      entry_weight e all.0,
+      text_length entries all.1,
+      length-append (line_of_words (spelling e)) (text_of_statements entries),
+    )

@@ -56,12 +56,17 @@ entry_same : (q : Request) (x y : LevelEntry) → x.size ≡ y.size → q.rank �
 entry_same q x y sizes low a b =
     let family : a.family ≡ b.family = family_same q a.family b.family a.grows b.grows in
     let filters : a.filters ≡ b.filters = filters_same q a.filters b.filters a.keeps b.keeps in
-    let level : IsLevel b.family y.size a.forms = subst (λ (n : ℕ). IsLevel b.family n a.forms) sizes (subst (λ (F : Family). IsLevel F x.size a.forms) family a.are_level) in
+    let level : IsLevel b.family y.size a.forms = subst (λ (n : ℕ). IsLevel b.family n a.forms) sizes
+    (subst (λ (F : Family). IsLevel F x.size a.forms) family a.are_level) in
     let forms : a.forms ≡ b.forms = rising_list_unique (IsLevelForm b.family y.size) a.forms b.forms level b.are_level in
     let listed : IsListed b.family y.size b.filters a.shown =
-    subst (λ (f : Filters). IsListed b.family y.size f a.shown) filters (subst (λ (n : ℕ). IsListed b.family n a.filters a.shown) sizes (subst (λ (F : Family). IsListed F x.size a.filters a.shown) family a.are_listed)) in
-    let shown : a.shown ≡ b.shown = rising_list_unique (λ M. IsLevelForm b.family y.size M × Passes b.family y.size b.filters M) a.shown b.shown listed b.are_listed in
-    let tries : HasTries b.family y.size x.tried = subst (λ (n : ℕ). HasTries b.family n x.tried) sizes (subst (λ (F : Family). HasTries F x.size x.tried) family a.tries) in
+    subst (λ (f : Filters). IsListed b.family y.size f a.shown) filters
+    (subst (λ (n : ℕ). IsListed b.family n a.filters a.shown) sizes
+    (subst (λ (F : Family). IsListed F x.size a.filters a.shown) family a.are_listed)) in
+    let shown : a.shown ≡ b.shown = rising_list_unique (λ M. IsLevelForm b.family y.size M × Passes b.family y.size b.filters M)
+    a.shown b.shown listed b.are_listed in
+    let tries : HasTries b.family y.size x.tried = subst (λ (n : ℕ). HasTries b.family n x.tried) sizes
+    (subst (λ (F : Family). HasTries F x.size x.tried) family a.tries) in
     let ranks : b.family.rank ≡ q.rank = b.grows.rank_is in
     let tried : x.tried ≡ y.tried = tries_same b.family (y.size - b.family.rank) y.size x.tried y.tried (omega arith) tries b.tries in
     let classes : x.classes ≡ y.classes = a.classes_are ∙ ap length forms ∙ sym b.classes_are in
@@ -69,7 +74,8 @@ entry_same q x y sizes low a b =
     λ i. record { size = sizes i; classes = classes i; listed = told i; tried = tried i }
 
 -- levels from a size on are one list
-entries_same : (q : Request) (a n : ℕ) (xs ys : List LevelEntry) → q.rank ≤ a → map (λ l. l.size) xs ≡ range_with_len a n → map (λ l. l.size) ys ≡ range_with_len a n → AllByRecursion (IsLevelEntry q) xs → AllByRecursion (IsLevelEntry q) ys → xs ≡ ys
+entries_same : (q : Request) (a n : ℕ) (xs ys : List LevelEntry) → q.rank ≤ a → map (λ l. l.size) xs ≡ range_with_len a n →
+    map (λ l. l.size) ys ≡ range_with_len a n → AllByRecursion (IsLevelEntry q) xs → AllByRecursion (IsLevelEntry q) ys → xs ≡ ys
 entries_same q a zero [] [] low e f h g = refl
 entries_same q a zero [] (y ∷ ys) low e f h g = cc (f)
 entries_same q a zero (x ∷ xs) ys low e f h g = cc (e)
@@ -85,7 +91,9 @@ entries_same q a (suc n) (x ∷ xs) (y ∷ ys) low e f h g =
     λ i. first i ∷ rest i
 
 -- the first levels from a size on begin any longer list of them
-front_of_entries : (q : Request) (a m n : ℕ) (xs ys : List LevelEntry) → q.rank ≤ a → m ≤ n → map (λ l. l.size) xs ≡ range_with_len a m → map (λ l. l.size) ys ≡ range_with_len a n → AllByRecursion (IsLevelEntry q) xs → AllByRecursion (IsLevelEntry q) ys → (zs : List LevelEntry) × (ys ≡ xs ++ zs)
+front_of_entries : (q : Request) (a m n : ℕ) (xs ys : List LevelEntry) → q.rank ≤ a → m ≤ n →
+    map (λ l. l.size) xs ≡ range_with_len a m → map (λ l. l.size) ys ≡ range_with_len a n → AllByRecursion (IsLevelEntry q) xs →
+    AllByRecursion (IsLevelEntry q) ys → (zs : List LevelEntry) × (ys ≡ xs ++ zs)
 front_of_entries q a zero n [] ys low most e f h g = (ys, refl)
 front_of_entries q a zero n (x ∷ xs) ys low most e f h g = cc (e)
 front_of_entries q a (suc m) n [] ys low most e f h g = cc (e)

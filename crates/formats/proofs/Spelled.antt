@@ -110,7 +110,8 @@ line_words : (words : List (List ℕ)) → IsLine words → AreWords words
 line_words [] line = tt
 line_words (word ∷ words) line = line
 
-factors_words : (factors : List ℕ) → ((f : ℕ) → f < length factors → IsOrder (slice_index factors f)) → AreWords (parted (codes "x") (map (λ order. decimal order ∷ []) factors))
+factors_words : (factors : List ℕ) → ((f : ℕ) → f < length factors → IsOrder (slice_index factors f)) →
+    AreWords (parted (codes "x") (map (λ order. decimal order ∷ []) factors))
 factors_words [] all = tt
 factors_words (x ∷ []) all = let small = order_small x (all 0 (omega arith)) in (decimal_word x (omega (arith, small)), tt)
 factors_words (x ∷ y ∷ ys) all =
@@ -156,7 +157,8 @@ cut_at_blanks : (words : List (List ℕ)) → IsLine words → slice_split is_bl
 cut_at_blanks [] line = absurd line
 cut_at_blanks (word ∷ []) line = slice_split_none is_blank word (All-from_recursion (λ b. is_blank b ≡ false) word (none_blank word (word_bytes word line.0)))
 cut_at_blanks (word ∷ next ∷ more) line =
-    slice_split_at is_blank word 32 (join_with_byte 32 (next ∷ more)) (All-from_recursion (λ b. is_blank b ≡ false) word (none_blank word (word_bytes word line.0))) refl
+    slice_split_at is_blank word 32 (join_with_byte 32 (next ∷ more))
+    (All-from_recursion (λ b. is_blank b ≡ false) word (none_blank word (word_bytes word line.0))) refl
     ∙ ap (λ (l : List (List ℕ)). word ∷ l) (cut_at_blanks (next ∷ more) line.1)
 
 kept_words : (words : List (List ℕ)) → AreWords words → filter has_bytes words ≡ words
@@ -187,7 +189,8 @@ bytes_text (b ∷ bytes) p = (omega (arith, p.0), bytes_text bytes p.1)
 joined_text : (words : List (List ℕ)) → AreWords words → AreText (join_with_byte 32 words)
 joined_text [] all = tt
 joined_text (word ∷ []) all = bytes_text word (word_bytes word all.0)
-joined_text (word ∷ next ∷ more) all = text_append word (32 ∷ join_with_byte 32 (next ∷ more)) (word_bytes word all.0) (omega arith, joined_text (next ∷ more) all.1)
+joined_text (word ∷ next ∷ more) all = text_append word (32 ∷ join_with_byte 32 (next ∷ more)) (word_bytes word all.0)
+    (omega arith, joined_text (next ∷ more) all.1)
 
 no_end : (bytes : List ℕ) → AreText bytes → AllByRecursion (λ b. (b == 10) ≡ false) bytes
 no_end [] all = tt
@@ -199,13 +202,15 @@ text_at bytes i all lt = All-from_recursion (λ b. 32 ≤ b) bytes all i 0 lt
 -- a line doesn't end with a byte 13
 not_return : (bytes : List ℕ) → AreText bytes → (slice_index bytes (length bytes - 1) == 13) ≡ false
 not_return [] all = refl
-not_return (b ∷ bytes) all = let h : 32 ≤ slice_index (b ∷ bytes) (length (b ∷ bytes) - 1) = text_at (b ∷ bytes) (length (b ∷ bytes) - 1) all (omega arith) in grind (arith, nat_tests)
+not_return (b ∷ bytes) all = let h : 32 ≤ slice_index (b ∷ bytes) (length (b ∷ bytes) - 1) =
+    text_at (b ∷ bytes) (length (b ∷ bytes) - 1) all (omega arith) in grind (arith, nat_tests)
 
 whole : (bytes : List ℕ) → AreText bytes → strip_carriage_return bytes ≡ bytes
 whole bytes all = ap (λ (b : Bool). cond b (take (length bytes - 1) bytes) bytes) (not_return bytes all)
 
 -- the first line of a text
-pub pieces_cons : (line : List ℕ) (pieces : List (List ℕ)) → 0 < length pieces → lines_of_pieces (line ∷ pieces) ≡ strip_carriage_return line ∷ lines_of_pieces pieces
+pub pieces_cons : (line : List ℕ) (pieces : List (List ℕ)) → 0 < length pieces →
+    lines_of_pieces (line ∷ pieces) ≡ strip_carriage_return line ∷ lines_of_pieces pieces
 pieces_cons line [] some = absurd (omega arith)
 pieces_cons line (next ∷ more) some = refl
 
@@ -215,7 +220,8 @@ first_line line text all =
     ∙ pieces_cons line (slice_split (λ b. b == 10) text) (omega (arith, length-slice_split (λ (b : ℕ). b == 10) text))
     ∙ ap (λ (l : List ℕ). l ∷ lines_of text) (whole line all)
 
-pub first_statement : (words : List (List ℕ)) (text : List ℕ) → IsLine words → statements_of (lines_of (line_of_words words ++ text)) ≡ words ∷ statements_of (lines_of text)
+pub first_statement : (words : List (List ℕ)) (text : List ℕ) → IsLine words →
+    statements_of (lines_of (line_of_words words ++ text)) ≡ words ∷ statements_of (lines_of text)
 first_statement words text line =
     let joined = join_with_byte 32 words in
     let is = words_of_joined words line in

@@ -63,7 +63,8 @@ letter_from code = grind (arith, nat_tests)
 pub letter_same : (m n : ℕ) → m < 14 → n < 14 → entry_letter m ≡ entry_letter n → m ≡ n
 letter_same m n p q e = grind (arith, nat_tests)
 
-column_same : (m n : ℕ) (xs ys : List ℕ) → m < 14 → n < 14 → AllByRecursion (λ code. code < m) xs → AllByRecursion (λ code. code < n) ys → column_word xs ≡ column_word ys → xs ≡ ys
+column_same : (m n : ℕ) (xs ys : List ℕ) → m < 14 → n < 14 → AllByRecursion (λ code. code < m) xs →
+    AllByRecursion (λ code. code < n) ys → column_word xs ≡ column_word ys → xs ≡ ys
 column_same m n [] [] p q a b e = refl
 column_same m n [] (y ∷ ys) p q a b e = cc (e)
 column_same m n (x ∷ xs) [] p q a b e = cc (e)
@@ -73,7 +74,9 @@ column_same m n (x ∷ xs) (y ∷ ys) p q a b e =
     let same : x ≡ y = letter_same x y (omega (arith, a.0)) (omega (arith, b.0)) h in
     cc (same, column_same m n xs ys p q a.1 b.1 t)
 
-columns_same : (m n : ℕ) (xs ys : List (List ℕ)) → m < 14 → n < 14 → AllByRecursion (λ column. AllByRecursion (λ code. code < m) column) xs → AllByRecursion (λ column. AllByRecursion (λ code. code < n) column) ys → map column_word xs ≡ map column_word ys → xs ≡ ys
+columns_same : (m n : ℕ) (xs ys : List (List ℕ)) → m < 14 → n < 14 →
+    AllByRecursion (λ column. AllByRecursion (λ code. code < m) column) xs →
+    AllByRecursion (λ column. AllByRecursion (λ code. code < n) column) ys → map column_word xs ≡ map column_word ys → xs ≡ ys
 columns_same m n [] [] p q a b e = refl
 columns_same m n [] (y ∷ ys) p q a b e = cc (e)
 columns_same m n (x ∷ xs) [] p q a b e = cc (e)
@@ -102,7 +105,8 @@ second_letters (word ∷ words) = first_letters words
 pub minor_same : (m n : MinorName) → IsMinorName m → IsMinorName n → minor_words m ≡ minor_words n → m ≡ n
 minor_same (Uniform r s) (Uniform r' s') p q e =
     let t : decimal r ++ 44 ∷ decimal s ≡ decimal r' ++ 44 ∷ decimal s' = cc (e) in
-    let parts = split_comma (decimal r) (decimal s) (decimal r') (decimal s') (decimal_no_comma r (omega (arith, p.low, p.short))) (decimal_no_comma r' (omega (arith, q.low, q.short))) t in
+    let parts = split_comma (decimal r) (decimal s) (decimal r') (decimal s') (decimal_no_comma r (omega (arith, p.low, p.short)))
+    (decimal_no_comma r' (omega (arith, q.low, q.short))) t in
     let ranks = same_decimal r r' (omega (arith, p.low, p.short)) (omega (arith, q.low, q.short)) parts.0 in
     let sizes = same_decimal s s' p.short q.short parts.1 in
     cc (ranks, sizes)
@@ -127,7 +131,9 @@ minor_same (ByMatrix order columns) (ByMatrix order' columns') p q e =
 minor_same (ByMatrix order columns) _ p q e = absurd (omega (arith, ap initial e))
 
 -- the orders of a field line
-factors_same : (xs ys : List ℕ) → ((f : ℕ) → f < length xs → IsOrder (slice_index xs f)) → ((f : ℕ) → f < length ys → IsOrder (slice_index ys f)) → parted (codes "x") (map (λ order. decimal order ∷ []) xs) ≡ parted (codes "x") (map (λ order. decimal order ∷ []) ys) → xs ≡ ys
+factors_same : (xs ys : List ℕ) → ((f : ℕ) → f < length xs → IsOrder (slice_index xs f)) →
+    ((f : ℕ) → f < length ys → IsOrder (slice_index ys f)) →
+    parted (codes "x") (map (λ order. decimal order ∷ []) xs) ≡ parted (codes "x") (map (λ order. decimal order ∷ []) ys) → xs ≡ ys
 factors_same [] [] a b e = refl
 factors_same [] (y ∷ []) a b e = cc (e)
 factors_same [] (y ∷ y' ∷ ys) a b e = cc (e)
@@ -245,13 +251,15 @@ cond_append : (b : Bool) (w : List (List ℕ)) (xs ys : List (List (List ℕ))) 
 cond_append true w xs ys = refl
 cond_append false w xs ys = refl
 
-pub statements_split : (before : List (List ℕ)) (line : List ℕ) (after : List (List ℕ)) → is_skipped (words_of line) ≡ false → statements_of (before ++ line ∷ after) ≡ statements_of before ++ words_of line ∷ statements_of after
+pub statements_split : (before : List (List ℕ)) (line : List ℕ) (after : List (List ℕ)) → is_skipped (words_of line) ≡ false →
+    statements_of (before ++ line ∷ after) ≡ statements_of before ++ words_of line ∷ statements_of after
 statements_split [] line after counts = ap (λ (b : Bool). cond (not b) (words_of line ∷ statements_of after) (statements_of after)) counts
 statements_split (x ∷ before) line after counts =
     ap (λ (l : List (List (List ℕ))). cond (not (is_skipped (words_of x))) (words_of x ∷ l) l) (statements_split before line after counts)
     ∙ cond_append (not (is_skipped (words_of x))) (words_of x) (statements_of before) (words_of line ∷ statements_of after)
 
-big_at : (xs : List Statement) (e : Statement) (ys : List Statement) → AllByRecursion (λ entry. named_elements entry ≤ 10) (xs ++ e ∷ ys) → named_elements e ≤ 10
+big_at : (xs : List Statement) (e : Statement) (ys : List Statement) →
+    AllByRecursion (λ entry. named_elements entry ≤ 10) (xs ++ e ∷ ys) → named_elements e ≤ 10
 big_at [] e ys all = all.0
 big_at (x ∷ xs) e ys all = big_at xs e ys all.1
 
@@ -274,19 +282,22 @@ data Places (before : List (List ℕ)) (line : List ℕ) (before' : List (List �
   Sooner : (rest : List (List ℕ)) → before' ≡ before ++ line ∷ rest → Places before line before' line'
   Later : (rest : List (List ℕ)) → before ≡ before' ++ line' ∷ rest → Places before line before' line'
 
-more_places : (x : List ℕ) (before : List (List ℕ)) (line : List ℕ) (before' : List (List ℕ)) (line' : List ℕ) → Places before line before' line' → Places (x ∷ before) line (x ∷ before') line'
+more_places : (x : List ℕ) (before : List (List ℕ)) (line : List ℕ) (before' : List (List ℕ)) (line' : List ℕ) →
+    Places before line before' line' → Places (x ∷ before) line (x ∷ before') line'
 more_places x before line before' line' (SamePlace e f) = SamePlace (ap (λ (l : List (List ℕ)). x ∷ l) e) f
 more_places x before line before' line' (Sooner rest e) = Sooner rest (ap (λ (l : List (List ℕ)). x ∷ l) e)
 more_places x before line before' line' (Later rest e) = Later rest (ap (λ (l : List (List ℕ)). x ∷ l) e)
 
-places : (before : List (List ℕ)) (line : List ℕ) (after before' : List (List ℕ)) (line' : List ℕ) (after' : List (List ℕ)) → before ++ line ∷ after ≡ before' ++ line' ∷ after' → Places before line before' line'
+places : (before : List (List ℕ)) (line : List ℕ) (after before' : List (List ℕ)) (line' : List ℕ) (after' : List (List ℕ)) →
+    before ++ line ∷ after ≡ before' ++ line' ∷ after' → Places before line before' line'
 places [] line after [] line' after' e = SamePlace refl (cc (e))
 places [] line after (y ∷ before') line' after' e = let h : line ≡ y = cc (e) in Sooner before' (ap (λ (l : List ℕ). l ∷ before') (sym h))
 places (x ∷ before) line after [] line' after' e = let h : x ≡ line' = cc (e) in Later before (ap (λ (l : List ℕ). l ∷ before) h)
 places (x ∷ before) line after (y ∷ before') line' after' e =
     let h : x ≡ y = cc (e) in
     let t : before ++ line ∷ after ≡ before' ++ line' ∷ after' = cc (e) in
-    subst (λ (z : List ℕ). Places (x ∷ before) line (z ∷ before') line') h (more_places x before line before' line' (places before line after before' line' after' t))
+    subst (λ (z : List ℕ). Places (x ∷ before) line (z ∷ before') line') h
+    (more_places x before line before' line' (places before line after before' line' after' t))
 
 refusal_at : Fault → ℕ → Refusal
 refusal_at NoForm n = refusal.BadLine n
@@ -313,7 +324,8 @@ missing_same entries Size Field a b = absurd (a.1 b.1)
 missing_same entries Size Size a b = refl
 
 -- where all values are there, none is missing
-missing_values : (entries : List Statement) (word : Word) (rank : ℕ) (factors : List ℕ) (size : ℕ) → IsMissing entries word → AreValues entries rank factors size → ⊥
+missing_values : (entries : List Statement) (word : Word) (rank : ℕ) (factors : List ℕ) (size : ℕ) → IsMissing entries word →
+    AreValues entries rank factors size → ⊥
 missing_values entries Rank rank factors size m v = let f = v.rank_said in cc (f, m)
 missing_values entries Field rank factors size m v = let f = v.field_said in let g = m.1 in cc (f, g)
 missing_values entries Size rank factors size m v = let f = v.size_said in let g = m.2 in cc (f, g)
@@ -348,7 +360,8 @@ module _ (version : ℕ) where
     says : Says version words entry
 
   -- after one more entry
-  more_found : (x : Statement) (xs : List Statement) (front : List (List (List ℕ))) (words : List (List ℕ)) → IsStatement x → IsOfVersion version x → Found xs front words → Found (x ∷ xs) (spelling x ∷ front) words
+  more_found : (x : Statement) (xs : List Statement) (front : List (List (List ℕ))) (words : List (List ℕ)) → IsStatement x →
+      IsOfVersion version x → Found xs front words → Found (x ∷ xs) (spelling x ∷ front) words
   more_found x xs front words may of_version rest = record {
     earlier = x ∷ rest.earlier;
     entry = rest.entry;
@@ -360,37 +373,58 @@ module _ (version : ℕ) where
     says = rest.says;
   }
 
-  found : (entries : List Statement) (front back : List (List (List ℕ))) (words : List (List ℕ)) → AllByRecursion IsStatement entries → AllByRecursion (IsOfVersion version) entries → map spelling entries ≡ front ++ words ∷ back → Found entries front words
+  found : (entries : List Statement) (front back : List (List (List ℕ))) (words : List (List ℕ)) →
+      AllByRecursion IsStatement entries → AllByRecursion (IsOfVersion version) entries →
+      map spelling entries ≡ front ++ words ∷ back → Found entries front words
   found [] [] back words may of_version e = cc (e)
   found [] (f ∷ front) back words may of_version e = cc (e)
-  found (x ∷ xs) [] back words may of_version e = let h : spelling x ≡ words = cc (e) in record { earlier = []; entry = x; later = xs; split = refl; spelled = refl; may_earlier = tt; of_earlier = tt; says = record { may = may.0; of_version = of_version.0; spelled = sym h } }
+  found (x ∷ xs) [] back words may of_version e = let h : spelling x ≡ words = cc (e) in
+      record {
+        earlier = [];
+        entry = x;
+        later = xs;
+        split = refl;
+        spelled = refl;
+        may_earlier = tt;
+        of_earlier = tt;
+        says =
+            record { may = may.0; of_version = of_version.0; spelled = sym h };
+      }
   found (x ∷ xs) (f ∷ front) back words may of_version e =
       let h : spelling x ≡ f = cc (e) in
       let t : map spelling xs ≡ front ++ words ∷ back = cc (e) in
-      subst (λ (w : List (List ℕ)). Found (x ∷ xs) (w ∷ front) words) h (more_found x xs front words may.0 of_version.0 (found xs front back words may.1 of_version.1 t))
+      subst (λ (w : List (List ℕ)). Found (x ∷ xs) (w ∷ front) words) h
+      (more_found x xs front words may.0 of_version.0 (found xs front back words may.1 of_version.1 t))
 
   says_same : (words : List (List ℕ)) (a b : Statement) → Says version words a → Says version words b → a ≡ b
   says_same words a b p q = entry_same a b p.may q.may (sym p.spelled ∙ q.spelled)
 
   -- in lines that are in order no line has a fault
-  pub no_fault : (lines before : List (List ℕ)) (line : List ℕ) (after : List (List ℕ)) (entries said : List Statement) (fault : Fault) → lines ≡ before ++ line ∷ after → SayInTurn version lines entries → AreInOrder entries → SayInTurn version before said → is_skipped (words_of line) ≡ false → HasFault version said (words_of line) fault → ⊥
+  pub no_fault : (lines before : List (List ℕ)) (line : List ℕ) (after : List (List ℕ)) (entries said : List Statement)
+      (fault : Fault) → lines ≡ before ++ line ∷ after → SayInTurn version lines entries → AreInOrder entries →
+      SayInTurn version before said → is_skipped (words_of line) ≡ false → HasFault version said (words_of line) fault → ⊥
   no_fault lines before line after entries said fault split all in_order some counts wrong =
-      let spelled : map spelling entries ≡ statements_of before ++ words_of line ∷ statements_of after = sym all.spelled ∙ ap statements_of split ∙ statements_split before line after counts in
+      let spelled : map spelling entries ≡ statements_of before ++ words_of line ∷ statements_of after = sym all.spelled
+      ∙ ap statements_of split ∙ statements_split before line after counts in
       let at = found entries (statements_of before) (statements_of after) (words_of line) all.may all.of_version spelled in
       let same : at.earlier ≡ said = entries_same at.earlier said at.may_earlier some.may (at.spelled ∙ some.spelled) in
-      let order : AreInOrder (said ++ at.entry ∷ at.later) = subst AreInOrder (at.split ∙ ap (λ (l : List Statement). l ++ at.entry ∷ at.later) same) in_order in
+      let order : AreInOrder (said ++ at.entry ∷ at.later) =
+      subst AreInOrder (at.split ∙ ap (λ (l : List Statement). l ++ at.entry ∷ at.later) same) in_order in
       contradiction fault said (words_of line) at.entry at.later at.says order wrong
     where
-      contradiction : (fault : Fault) (said : List Statement) (words : List (List ℕ)) (e : Statement) (later : List Statement) → Says version words e → AreInOrder (said ++ e ∷ later) → HasFault version said words fault → ⊥
+      contradiction : (fault : Fault) (said : List Statement) (words : List (List ℕ)) (e : Statement) (later : List Statement) →
+          Says version words e → AreInOrder (said ++ e ∷ later) → HasFault version said words fault → ⊥
       contradiction NoForm said words e later says order wrong = wrong e says
       contradiction Again said words e later says order wrong =
           let one = says_same words wrong.0 e wrong.1 says in
-          let often : most_of_kind (kind_number e) ≤ count_of_kind (kind_number e) said = subst (λ (x : Statement). most_of_kind (kind_number x) ≤ count_of_kind (kind_number x) said) one wrong.3 in
+          let often : most_of_kind (kind_number e) ≤ count_of_kind (kind_number e) said =
+          subst (λ (x : Statement). most_of_kind (kind_number x) ≤ count_of_kind (kind_number x) said) one wrong.3 in
           omega (arith, often, count_at said e later, order.not_often (kind_number e))
       contradiction NinthForbid said words e later says order wrong =
           let one = says_same words wrong.0 e wrong.1 says in
           let forbids : kind_number e ≡ forbid_kind = subst (λ (x : Statement). kind_number x ≡ forbid_kind) one wrong.2 in
-          let often : most_of_kind (kind_number e) ≤ count_of_kind (kind_number e) said = subst (λ (k : ℕ). most_of_kind k ≤ count_of_kind k said) (sym forbids) wrong.3 in
+          let often : most_of_kind (kind_number e) ≤ count_of_kind (kind_number e) said =
+          subst (λ (k : ℕ). most_of_kind k ≤ count_of_kind k said) (sym forbids) wrong.3 in
           omega (arith, often, count_at said e later, order.not_often (kind_number e))
       contradiction TooBig said words e later says order wrong =
           let one = says_same words wrong.0 e wrong.1 says in
@@ -427,10 +461,12 @@ module _ (version : ℕ) where
 -- a text stands for one request
 pub request_same : (text : List ℕ) (q r : Request) → StandsFor text q → StandsFor text r → q ≡ r
 request_same text q r a b =
-    asked_same b.entries q r (sym a.version ∙ b.version) (subst (λ (es : List Statement). AskFor es q) (said_same (version_of text) _ a.entries b.entries a.said b.said) a.asked) b.asked
+    asked_same b.entries q r (sym a.version ∙ b.version)
+    (subst (λ (es : List Statement). AskFor es q) (said_same (version_of text) _ a.entries b.entries a.said b.said) a.asked) b.asked
 
 first_fault_stands : (text : List ℕ) (q : Request) (n : ℕ) (fault : Fault) → StandsFor text q → FirstFault text n fault → ⊥
-first_fault_stands text q n fault a b = no_fault (version_of text) _ b.before b.line b.after a.entries b.said fault b.split a.said a.in_order b.says b.counts b.wrong
+first_fault_stands text q n fault a b = no_fault (version_of text) _ b.before b.line b.after a.entries b.said fault b.split a.said
+    a.in_order b.says b.counts b.wrong
 
 -- a text that stands for a request isn't refused
 pub not_both : (text : List ℕ) (q : Request) (why : Refusal) → StandsFor text q → HasRefusal text why → ⊥
@@ -439,7 +475,9 @@ not_both text q (refusal.BadLine n) a b = first_fault_stands text q n NoForm a b
 not_both text q (refusal.Twice n) a b = first_fault_stands text q n Again a b
 not_both text q (refusal.TooManyForbidden n) a b = first_fault_stands text q n NinthForbid a b
 not_both text q (refusal.ForbidTooBig n) a b = first_fault_stands text q n TooBig a b
-not_both text q (refusal.Missing word) a b = missing_stands q b.0 word (subst (λ (es : List Statement). AskFor es q) (said_same (version_of text) _ a.entries b.0 a.said b.1.said) a.asked) b.2
+not_both text q (refusal.Missing word) a b =
+    missing_stands q b.0 word
+    (subst (λ (es : List Statement). AskFor es q) (said_same (version_of text) _ a.entries b.0 a.said b.1.said) a.asked) b.2
 not_both text q (refusal.Rank v) a b =
     let values = b.2 in
     let asked = subst (λ (es : List Statement). AskFor es q) (said_same (version_of text) _ a.entries values.entries a.said values.none.said) a.asked in
@@ -466,8 +504,10 @@ first_fault_same text m n f g a b = at (places a.before a.line a.after b.before 
   where
     at : Places a.before a.line b.before b.line → (m ≡ n) × (f ≡ g)
     at (SamePlace e l) =
-        let said : a.said ≡ b.said = said_same (version_of text) _ a.said b.said (subst (λ (ls : List (List ℕ)). SayInTurn (version_of text) ls a.said) e a.says) b.says in
-        let wrong = subst (λ (es : List Statement). HasFault (version_of text) es (words_of b.line) f) said (subst (λ (line : List ℕ). HasFault (version_of text) a.said (words_of line) f) l a.wrong) in
+        let said : a.said ≡ b.said = said_same (version_of text) _ a.said b.said
+        (subst (λ (ls : List (List ℕ)). SayInTurn (version_of text) ls a.said) e a.says) b.says in
+        let wrong = subst (λ (es : List Statement). HasFault (version_of text) es (words_of b.line) f) said
+        (subst (λ (line : List ℕ). HasFault (version_of text) a.said (words_of line) f) l a.wrong) in
         (omega (arith, a.place, b.place, ap length e), fault_same (version_of text) b.said (words_of b.line) f g wrong b.wrong)
     at (Sooner rest e) = absurd (no_fault (version_of text) b.before a.before a.line rest b.said a.said f e b.says b.in_order a.says a.counts a.wrong)
     at (Later rest e) = absurd (no_fault (version_of text) a.before b.before b.line rest a.said b.said g e a.says a.in_order b.says b.counts b.wrong)
@@ -500,16 +540,23 @@ stage_same text v w (Long a e) (AtLine n g b f) = absurd (omega (arith, a, b.sho
 stage_same text v w (Long a e) (Lacks word es b c f) = absurd (omega (arith, a, b.short))
 stage_same text v w (Long a e) (OutOf r fs s b c) = absurd (omega (arith, a, b.none.short))
 stage_same text v w (AtLine n g b f) (Long a e) = absurd (omega (arith, a, b.short))
-stage_same text v w (AtLine m f a e) (AtLine n g b h) = let same = first_fault_same text m n f g a b in e ∙ ap (λ (k : ℕ). refusal_at f k) same.0 ∙ ap (λ (k : Fault). refusal_at k n) same.1 ∙ sym h
+stage_same text v w (AtLine m f a e) (AtLine n g b h) = let same = first_fault_same text m n f g a b in
+    e ∙ ap (λ (k : ℕ). refusal_at f k) same.0 ∙ ap (λ (k : Fault). refusal_at k n) same.1 ∙ sym h
 stage_same text v w (AtLine m f a e) (Lacks word es b c h) = absurd (line_none text m f es a b)
 stage_same text v w (AtLine m f a e) (OutOf r fs s b c) = absurd (line_none text m f b.entries a b.none)
 stage_same text v w (Lacks word es b c f) (Long a e) = absurd (omega (arith, a, b.short))
 stage_same text v w (Lacks word es b c h) (AtLine m f a e) = absurd (line_none text m f es a b)
-stage_same text v w (Lacks word es a c e) (Lacks word' es' b d f) = e ∙ ap refusal.Missing (missing_same es' word word' (subst (λ (l : List Statement). IsMissing l word) (said_same (version_of text) _ es es' a.said b.said) c) d) ∙ sym f
-stage_same text v w (Lacks word es a c e) (OutOf r fs s b d) = absurd (missing_values b.entries word r fs s (subst (λ (l : List Statement). IsMissing l word) (said_same (version_of text) _ es b.entries a.said b.none.said) c) b.values)
+stage_same text v w (Lacks word es a c e) (Lacks word' es' b d f) = e
+    ∙ ap refusal.Missing (missing_same es' word word'
+    (subst (λ (l : List Statement). IsMissing l word) (said_same (version_of text) _ es es' a.said b.said) c) d) ∙ sym f
+stage_same text v w (Lacks word es a c e) (OutOf r fs s b d) =
+    absurd (missing_values b.entries word r fs s
+    (subst (λ (l : List Statement). IsMissing l word) (said_same (version_of text) _ es b.entries a.said b.none.said) c) b.values)
 stage_same text v w (OutOf r fs s b c) (Long a e) = absurd (omega (arith, a, b.none.short))
 stage_same text v w (OutOf r fs s b c) (AtLine m f a e) = absurd (line_none text m f b.entries a b.none)
-stage_same text v w (OutOf r fs s b d) (Lacks word es a c e) = absurd (missing_values b.entries word r fs s (subst (λ (l : List Statement). IsMissing l word) (said_same (version_of text) _ es b.entries a.said b.none.said) c) b.values)
+stage_same text v w (OutOf r fs s b d) (Lacks word es a c e) =
+    absurd (missing_values b.entries word r fs s
+    (subst (λ (l : List Statement). IsMissing l word) (said_same (version_of text) _ es b.entries a.said b.none.said) c) b.values)
 stage_same text v w (OutOf r fs s a c) (OutOf r' fs' s' b d) =
     let one = said_same (version_of text) _ a.entries b.entries a.none.said b.none.said in
     let values = subst (λ (l : List Statement). AreValues l r fs s) one a.values in

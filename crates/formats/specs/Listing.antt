@@ -35,7 +35,9 @@ unfoldable pub head_text : Request → List ℕ
 head_text q = codes "macek listing 1\n" ++ text_of_statements (head_statements q)
 
 unfoldable pub level_text : ℕ → ℕ → ℕ → ℕ → List ℕ
-level_text size classes listed tried = line_of_words (codes "level" ∷ decimal size ∷ codes "classes" ∷ decimal classes ∷ codes "listed" ∷ decimal listed ∷ codes "tried" ∷ decimal tried ∷ [])
+level_text size classes listed tried = line_of_words
+    (codes "level" ∷ decimal size ∷ codes "classes" ∷ decimal classes
+    ∷ codes "listed" ∷ decimal listed ∷ codes "tried" ∷ decimal tried ∷ [])
 
 -- a form, as the columns of each factor
 abbrev pub Form : Type 0

@@ -18,9 +18,12 @@ pub data Fault : Type 0 where
 -- What is wrong with a line of these words, in a text of the version, after lines that said those entries.
 abbrev pub HasFault : ℕ → List Statement → List (List ℕ) → Fault → Type 0
 HasFault version said words NoForm = (entry : Statement) → Says version words entry → ⊥
-HasFault version said words Again = (entry : Statement) × Says version words entry × (kind_number entry ≢ forbid_kind) × (most_of_kind (kind_number entry) ≤ count_of_kind (kind_number entry) said)
-HasFault version said words NinthForbid = (entry : Statement) × Says version words entry × (kind_number entry ≡ forbid_kind) × (most_of_kind forbid_kind ≤ count_of_kind forbid_kind said)
-HasFault version said words TooBig = (entry : Statement) × Says version words entry × (count_of_kind (kind_number entry) said < most_of_kind (kind_number entry)) × (10 < named_elements entry)
+HasFault version said words Again = (entry : Statement) × Says version words entry × (kind_number entry ≢ forbid_kind)
+    × (most_of_kind (kind_number entry) ≤ count_of_kind (kind_number entry) said)
+HasFault version said words NinthForbid = (entry : Statement) × Says version words entry × (kind_number entry ≡ forbid_kind)
+    × (most_of_kind forbid_kind ≤ count_of_kind forbid_kind said)
+HasFault version said words TooBig = (entry : Statement) × Says version words entry
+    × (count_of_kind (kind_number entry) said < most_of_kind (kind_number entry)) × (10 < named_elements entry)
 
 -- The line of this number is the first at fault: those before it are in order.
 pub record FirstFault (text : List ℕ) (number : ℕ) (fault : Fault) : Type 0 where
@@ -70,4 +73,5 @@ HasRefusal text (refusal.ForbidTooBig n) = FirstFault text n TooBig
 HasRefusal text (refusal.Missing word) = (entries : List Statement) × NoFault text entries × IsMissing entries word
 HasRefusal text (refusal.Rank v) = (factors : List ℕ) × (size : ℕ) × HasValues text v factors size × (IsRankInRange v → ⊥)
 HasRefusal text (refusal.Size v) = (rank : ℕ) × (factors : List ℕ) × HasValues text rank factors v × IsRankInRange rank × (IsSizeInRange rank v → ⊥)
-HasRefusal text (refusal.TooWide c) = (rank : ℕ) × (factors : List ℕ) × (size : ℕ) × HasValues text rank factors size × IsRankInRange rank × IsSizeInRange rank size × (c ≡ column_count rank factors) × (most_columns < c)
+HasRefusal text (refusal.TooWide c) = (rank : ℕ) × (factors : List ℕ) × (size : ℕ) × HasValues text rank factors size
+    × IsRankInRange rank × IsSizeInRange rank size × (c ≡ column_count rank factors) × (most_columns < c)

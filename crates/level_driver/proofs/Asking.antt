@@ -36,7 +36,8 @@ same_filters q f filters asked keeps = λ i. record {
 }
   where
     has : filters.has ≡ wanted_matroid f
-    has = matroid_same filters.has (wanted_matroid f) (given_same (map given_as (option_to_list q.has)) (option_to_list filters.has) (option_to_list (wanted_matroid f)) keeps.has asked.given)
+    has = matroid_same filters.has (wanted_matroid f)
+        (given_same (map given_as (option_to_list q.has)) (option_to_list filters.has) (option_to_list (wanted_matroid f)) keeps.has asked.given)
 
 -- the form passes alone, and none before it has its matroid, where that is asked
 pub record PassesAt (f : Filters) (forms : List Rep) (i : ℕ) (M : Rep) : Type 0 where
@@ -60,7 +61,8 @@ tells q f asked forms i M at listed told n family filters N grows keeps level at
     subst (λ (L : Rep). IsTrue listed ↔ Passes family n filters L) same ((λ t. is.0 (told.0 t)), (λ p. told.1 (is.1 p)))
 
 -- so do filters that are asked of the form, and of the matroids where forms are compared
-pub told_by : (f : Filters) (forms : List Rep) (matroids : List Matroid) → (IsTrue f.distinct → AreMatroidsOf forms matroids) → (i : ℕ) (M : Rep) → slice_get forms i ≡ Some M
+pub told_by : (f : Filters) (forms : List Rep) (matroids : List Matroid) → (IsTrue f.distinct → AreMatroidsOf forms matroids) →
+    (i : ℕ) (M : Rep) → slice_get forms i ≡ Some M
     → (listed : Bool) → IsTrue listed ↔ (PassesAlone (filters_of f) M × (IsTrue f.distinct → IsFirst matroids i)) → IsTrue listed ↔ PassesAt f forms i M
 told_by f forms matroids h i M at listed told = (
   (λ t. let both = told.0 t in record { alone = both.0; distinct = λ compared. earliest forms matroids (h compared) i M at (both.1 compared) }),
@@ -72,7 +74,8 @@ pub stands_at : (forms items : List Rep) (i : ℕ) (M : Rep) → items ≡ forms
 stands_at forms items i M same l e = ap (λ (fs : List Rep). slice_get fs i) (sym same) ∙ slice_get_read items (length items) i M refl l e
 
 -- each form of a level agrees
-pub form_agrees : (q : Request) (forbidden : List Matroid) → AreGivenBy (map given_as q.forbid) forbidden → (n : ℕ) (forms : List Rep) → IsLevelOf q n forms → (i : ℕ) (M : Rep) → slice_get forms i ≡ Some M → Agrees M
+pub form_agrees : (q : Request) (forbidden : List Matroid) → AreGivenBy (map given_as q.forbid) forbidden →
+    (n : ℕ) (forms : List Rep) → IsLevelOf q n forms → (i : ℕ) (M : Rep) → slice_get forms i ≡ Some M → Agrees M
 form_agrees q forbidden given n forms level i M at =
     let family : Family = record { factors = q.factors; rank = q.rank; mode = q.mode; forbidden = forbidden } in
     let rising : IsLevel family n forms = level family (record { factors_are = refl; rank_is = refl; mode_is = refl; forbids = given }) in

@@ -12,7 +12,8 @@ use Rattle.minor_test.specs.declared.test.Embedding.{Embedding}
 use Rattle.level_driver.specs.Forbidden.{matroids_of, Avoids}
 
 -- where the matroid was found, it is a minor
-pub found_one : (N : Matroid) (M : Rep) (found : Option Embedding) → is_some found ≡ true → IfSome found (λ e. IsMinorBy N M (slice_index e.image.items) (members e.contracted)) → IsMinor N M
+pub found_one : (N : Matroid) (M : Rep) (found : Option Embedding) → is_some found ≡ true →
+    IfSome found (λ e. IsMinorBy N M (slice_index e.image.items) (members e.contracted)) → IsMinor N M
 found_one N M None some is = cc (some)
 found_one N M (Some e) some is = (slice_index e.image.items, members e.contracted, is)
 
@@ -28,7 +29,8 @@ module _ (items : List NamedMatroid) (i : ℕ) (item : NamedMatroid) (l : i < le
   pub avoids_more : Avoids (matroids_of (take i items)) M → ¬ (IsMinor item.matroid M) → Avoids (matroids_of (take (i + 1) items)) M
   avoids_more avoids not_this =
       subst (λ (Ns : List Matroid). Avoids Ns M)
-      (sym (ap matroids_of (take_more items i item l ∙ ap (λ (last : NamedMatroid). take i items ++ last ∷ []) (sym is)) ∙ map-append (λ item. item.matroid) (take i items) (item ∷ [])))
+      (sym (ap matroids_of (take_more items i item l ∙ ap (λ (last : NamedMatroid). take i items ++ last ∷ []) (sym is))
+      ∙ map-append (λ item. item.matroid) (take i items) (item ∷ [])))
       (All-push (λ N. ¬ (IsMinor N M)) (matroids_of (take i items)) item.matroid avoids not_this)
 
 -- all of them

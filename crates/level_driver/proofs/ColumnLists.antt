@@ -9,7 +9,9 @@ use Rattle.matroid_theory.specs.Level.{followed_by}
 use Rattle.level_driver.specs.Children.{rep_of}
 
 -- one more column is taken
-pub taken_more : (columns : List (List ℕ)) (so_far new : List (ArrayVec ℕ)) (j : ℕ) (v : ArrayVec ℕ) → map (λ c. c.items) so_far ≡ take j columns → slice_get columns j ≡ Some v.items → new ≡ so_far ++ v ∷ [] → map (λ c. c.items) new ≡ take (j + 1) columns
+pub taken_more : (columns : List (List ℕ)) (so_far new : List (ArrayVec ℕ)) (j : ℕ) (v : ArrayVec ℕ) →
+    map (λ c. c.items) so_far ≡ take j columns → slice_get columns j ≡ Some v.items → new ≡ so_far ++ v ∷ [] →
+    map (λ c. c.items) new ≡ take (j + 1) columns
 taken_more columns so_far new j v e at is =
     let same : get_or columns j [] ≡ v.items = get_or_from_slice_get columns j v.items [] at in
     ap (map (λ c. c.items)) is

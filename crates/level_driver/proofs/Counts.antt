@@ -42,10 +42,12 @@ module _ {X : Type 0} where
   there x z xs h = (suc h.0, (let l = h.1 in omega arith), h.2)
 
   -- two lists without repeats that have nothing in common have no repeats together
-  pub append_apart : (xs ys : List X) → AllPairs (λ x y. x ≢ y) xs → AllPairs (λ x y. x ≢ y) ys → ((x : X) → Contains xs x → Contains ys x → ⊥) → AllPairs (λ x y. x ≢ y) (xs ++ ys)
+  pub append_apart : (xs ys : List X) → AllPairs (λ x y. x ≢ y) xs → AllPairs (λ x y. x ≢ y) ys →
+      ((x : X) → Contains xs x → Contains ys x → ⊥) → AllPairs (λ x y. x ≢ y) (xs ++ ys)
   append_apart [] ys a b apart = b
   append_apart (x ∷ xs) ys a b apart =
-      AllPairs-cons (λ x y. x ≢ y) x (xs ++ ys) new (append_apart xs ys (λ i j d l m. a (suc i) (suc j) d (omega arith) (omega arith)) b (λ z c. apart z (there x z xs c)))
+      AllPairs-cons (λ x y. x ≢ y) x (xs ++ ys) new
+      (append_apart xs ys (λ i j d l m. a (suc i) (suc j) d (omega arith) (omega arith)) b (λ z c. apart z (there x z xs c)))
     where
       not_later : Contains xs x → ⊥
       not_later (k, l, e) = a 0 (suc k) x (omega arith) (omega arith) (sym e)
@@ -85,7 +87,8 @@ module _ {X Y : Type 0} (f : X → Y) where
       let n : length (map f (x ∷ xs)) ≡ length (x ∷ xs) = length-map (x ∷ xs) f in
       let j' : j < length (x ∷ xs) = omega arith in
       let i' : i < length (x ∷ xs) = omega arith in
-      λ e. a i j x l j' (one (slice_index_or (x ∷ xs) i x) (slice_index_or (x ∷ xs) j x) (sym (get_or-map f (x ∷ xs) i x d i') ∙ e ∙ get_or-map f (x ∷ xs) j x d j'))
+      λ e. a i j x l j' (one (slice_index_or (x ∷ xs) i x) (slice_index_or (x ∷ xs) j x)
+      (sym (get_or-map f (x ∷ xs) i x d i') ∙ e ∙ get_or-map f (x ∷ xs) j x d j'))
 
   -- of the images under a map that takes no two values to one
   pub count_images : (P : X → Type 0) (n : ℕ) → ((x y : X) → f x ≡ f y → x ≡ y) → IsCount P n → IsCount (λ y. (x : X) × P x × (f x ≡ y)) n

@@ -21,7 +21,11 @@ module _ (forms : List Rep) (matroids : List Matroid) (h : AreMatroidsOf forms m
   none = record { rank = 0; size = 0; bases = [] }
 
   matroid_at : (k : ℕ) (N : Rep) → slice_get forms k ≡ Some N → (A : Matroid) × (slice_get matroids k ≡ Some A)
-  matroid_at k N e = (get_or matroids k none, slice_get-get_or matroids k none (let l : k < length forms = slice_get_within forms k N e in let s : length matroids ≡ length forms = h.number in omega arith))
+  matroid_at k N e = (
+    get_or matroids k none,
+    slice_get-get_or matroids k none
+        (let l : k < length forms = slice_get_within forms k N e in let s : length matroids ≡ length forms = h.number in omega arith),
+  )
 
   pub earliest : IsFirst matroids i → IsEarliest forms i M
   earliest first j N l e same =
@@ -35,7 +39,8 @@ module _ (forms : List Rep) (matroids : List Matroid) (h : AreMatroidsOf forms m
       let d : slice_get forms j ≡ Some (get_or forms j M) = slice_get-get_or forms j M (omega arith) in
       earliest j (get_or forms j M) l d (same_matroid (get_or forms j M) M A B (h.each j (get_or forms j M) A d e) (h.each i M B at f) same)
 
-module _ (family : Family) (n : ℕ) (filters : Filters) (forms : List Rep) (i : ℕ) (M : Rep) (level : IsLevel family n forms) (at : slice_get forms i ≡ Some M) where
+module _ (family : Family) (n : ℕ) (filters : Filters) (forms : List Rep) (i : ℕ) (M : Rep) (level : IsLevel family n forms)
+    (at : slice_get forms i ≡ Some M) where
   is_at : (d : Rep) → get_or forms i d ≡ M
   is_at d = get_or_from_slice_get forms i M d at
 

@@ -54,7 +54,8 @@ module _ {K : Type 0} (R : K → K → Ordering) (exact : CmpEqualImpliesEq R) (
   inserted [] q c = elim (first_or_later k q [] c) [ inl e ↦ inr (sym e) | inr (i, l, e) ↦ absurd (omega arith) ]
   inserted (x ∷ xs) q c = by_order (inserted xs q) (R k x) c
     where
-      by_order : (Contains (insert_key R xs k) q → Contains xs q ⊎ (q ≡ k)) → (r : Ordering) → Contains (match_ordering r (k ∷ x ∷ xs) (x ∷ xs) (x ∷ insert_key R xs k)) q → Contains (x ∷ xs) q ⊎ (q ≡ k)
+      by_order : (Contains (insert_key R xs k) q → Contains xs q ⊎ (q ≡ k)) → (r : Ordering) →
+          Contains (match_ordering r (k ∷ x ∷ xs) (x ∷ xs) (x ∷ insert_key R xs k)) q → Contains (x ∷ xs) q ⊎ (q ≡ k)
       by_order more Less c = elim (first_or_later k q (x ∷ xs) c) [ inl e ↦ inr (sym e) | inr d ↦ inl d ]
       by_order more Equal c = inl c
       by_order more Greater c =
@@ -86,7 +87,8 @@ module _ {K : Type 0} (R : K → K → Ordering) (exact : CmpEqualImpliesEq R) (
       by_order more Greater e = there x k (insert_key R xs k) more
 
 -- the lists of columns after an insertion
-pub adds : (old : List (ArrayVec (ArrayVec ℕ))) (key : ArrayVec (ArrayVec ℕ)) (columns : List (List ℕ)) → columns_of_key key ≡ columns → Adds (map columns_of_key old) (map columns_of_key (insert_key key_cmp old key)) columns
+pub adds : (old : List (ArrayVec (ArrayVec ℕ))) (key : ArrayVec (ArrayVec ℕ)) (columns : List (List ℕ)) →
+    columns_of_key key ≡ columns → Adds (map columns_of_key old) (map columns_of_key (insert_key key_cmp old key)) columns
 adds old key columns is other = (
   λ c.
       let b = Contains-from_map columns_of_key (insert_key key_cmp old key) other c in
@@ -97,8 +99,10 @@ adds old key columns is other = (
   λ h.
       elim h [
         | inl c ↦ (let b = Contains-from_map columns_of_key old other c in
-            subst (Contains (map columns_of_key (insert_key key_cmp old key))) b.2 (Contains-map columns_of_key (insert_key key_cmp old key) b.0 (kept key_cmp exact_keys key old b.0 b.1)))
-        | inr e ↦ subst (Contains (map columns_of_key (insert_key key_cmp old key))) (is ∙ sym e) (Contains-map columns_of_key (insert_key key_cmp old key) key (added key_cmp exact_keys key old))
+            subst (Contains (map columns_of_key (insert_key key_cmp old key))) b.2
+            (Contains-map columns_of_key (insert_key key_cmp old key) b.0 (kept key_cmp exact_keys key old b.0 b.1)))
+        | inr e ↦ subst (Contains (map columns_of_key (insert_key key_cmp old key))) (is ∙ sym e)
+            (Contains-map columns_of_key (insert_key key_cmp old key) key (added key_cmp exact_keys key old))
       ],
 )
 
@@ -110,7 +114,8 @@ same_order (v ∷ vs) [] = refl
 same_order (v ∷ vs) (w ∷ ws) = ap (ordering_then (slice_cmp nat_cmp v.items w.items)) (same_order vs ws)
 
 -- so the representations rise
-pub rising : (factors : List ℕ) (rank : ℕ) (keys : List (ArrayVec (ArrayVec ℕ))) → IsStrictlySortedBy key_cmp keys → AllPairs (λ M N. rep_cmp M N ≡ Less) (map (rep_of factors rank) (map columns_of_key keys))
+pub rising : (factors : List ℕ) (rank : ℕ) (keys : List (ArrayVec (ArrayVec ℕ))) → IsStrictlySortedBy key_cmp keys →
+    AllPairs (λ M N. rep_cmp M N ≡ Less) (map (rep_of factors rank) (map columns_of_key keys))
 rising factors rank [] sorted i j d l m = absurd (omega arith)
 rising factors rank (k ∷ ks) sorted i j d l m =
     subst (λ M. rep_cmp M (slice_index_or reps j d) ≡ Less) (sym (at i (let j'' : j < length (k ∷ ks) = j' in omega arith)))
@@ -131,11 +136,13 @@ rising factors rank (k ∷ ks) sorted i j d l m =
 
     at : (i : ℕ) → i < length (k ∷ ks) → slice_index_or reps i d ≡ of (slice_index_or (k ∷ ks) i k)
     at i l =
-        get_or-map (rep_of factors rank) (map columns_of_key (k ∷ ks)) i (columns_of_key k) d (let n : length (map columns_of_key (k ∷ ks)) ≡ length (k ∷ ks) = length-map (k ∷ ks) columns_of_key in omega arith)
+        get_or-map (rep_of factors rank) (map columns_of_key (k ∷ ks)) i (columns_of_key k) d
+        (let n : length (map columns_of_key (k ∷ ks)) ≡ length (k ∷ ks) = length-map (k ∷ ks) columns_of_key in omega arith)
         ∙ ap (rep_of factors rank) (get_or-map columns_of_key (k ∷ ks) i k (columns_of_key k) l)
 
 -- the representations of keys that were gone through by reference
-pub forms_of_keys : (factors : List ℕ) (rank : ℕ) (yielded : List (Bor (ArrayVec (ArrayVec ℕ)))) → map (λ key. rep_of factors rank (columns_of_key key.now)) yielded ≡ map (rep_of factors rank) (map columns_of_key (map deref yielded))
+pub forms_of_keys : (factors : List ℕ) (rank : ℕ) (yielded : List (Bor (ArrayVec (ArrayVec ℕ)))) →
+    map (λ key. rep_of factors rank (columns_of_key key.now)) yielded ≡ map (rep_of factors rank) (map columns_of_key (map deref yielded))
 forms_of_keys factors rank [] = refl
 forms_of_keys factors rank (key ∷ keys) = ap (λ (Ms : List Rep). rep_of factors rank (columns_of_key key.now) ∷ Ms) (forms_of_keys factors rank keys)
 

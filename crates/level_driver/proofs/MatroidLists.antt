@@ -30,7 +30,8 @@ module _ {X : Type 0} where
 pub none_yet : AreMatroidsOf [] []
 none_yet = record { number = refl; each = λ k M N e f. cc }
 
-pushed : (forms : List Rep) (matroids : List Matroid) (M : Rep) (N : Matroid) → AreMatroidsOf forms matroids → IsMatroidOf M N → AreMatroidsOf (forms ++ M ∷ []) (matroids ++ N ∷ [])
+pushed : (forms : List Rep) (matroids : List Matroid) (M : Rep) (N : Matroid) → AreMatroidsOf forms matroids → IsMatroidOf M N →
+    AreMatroidsOf (forms ++ M ∷ []) (matroids ++ N ∷ [])
 pushed forms matroids M N h is = record { number = number; each = each }
   where
     number : length (matroids ++ N ∷ []) ≡ length (forms ++ M ∷ [])
@@ -45,21 +46,26 @@ pushed forms matroids M N h is = record { number = number; each = each }
           | inr g ↦ (let at : k ≡ length forms = omega (arith, length-append forms (M ∷ [])) in
               let also_at : k ≡ length matroids = omega arith in
               let is_L : M ≡ L = (let d : slice_get (forms ++ M ∷ []) k ≡ Some M = ap (slice_get (forms ++ M ∷ [])) at ∙ get_last forms M in cc) in
-              let is_A : N ≡ A = (let d : slice_get (matroids ++ N ∷ []) k ≡ Some N = ap (slice_get (matroids ++ N ∷ [])) also_at ∙ get_last matroids N in cc) in
+              let is_A : N ≡ A = (let d : slice_get (matroids ++ N ∷ []) k ≡ Some N = ap (slice_get (matroids ++ N ∷ [])) also_at
+              ∙ get_last matroids N in cc) in
               subst (λ (L : Rep). IsMatroidOf L A) is_L (subst (IsMatroidOf M) is_A is))
         ]
 
 -- one more
-pub more_matroids : (forms : List Rep) (i : ℕ) (M : Rep) → i < length forms → M ≡ get_or forms i M → (matroids new : List Matroid) (N : Matroid) → AreMatroidsOf (take i forms) matroids → IsMatroidOf M N → new ≡ matroids ++ N ∷ [] → AreMatroidsOf (take (i + 1) forms) new
+pub more_matroids : (forms : List Rep) (i : ℕ) (M : Rep) → i < length forms → M ≡ get_or forms i M →
+    (matroids new : List Matroid) (N : Matroid) → AreMatroidsOf (take i forms) matroids → IsMatroidOf M N → new ≡ matroids ++ N ∷ [] →
+    AreMatroidsOf (take (i + 1) forms) new
 more_matroids forms i M l e matroids new N so_far is new_is =
     subst (λ (fs : List Rep). AreMatroidsOf fs new) (sym (take_more forms i M l ∙ ap (λ (L : Rep). take i forms ++ L ∷ []) (sym e)))
     (subst (AreMatroidsOf (take i forms ++ M ∷ [])) (sym new_is) (pushed (take i forms) matroids M N so_far is))
 
-pub same_lists : (forms others : List Rep) (matroids more : List Matroid) → forms ≡ others → more ≡ matroids → AreMatroidsOf forms matroids → AreMatroidsOf others more
+pub same_lists : (forms others : List Rep) (matroids more : List Matroid) → forms ≡ others → more ≡ matroids →
+    AreMatroidsOf forms matroids → AreMatroidsOf others more
 same_lists forms others matroids more e f h = subst (λ (fs : List Rep). AreMatroidsOf fs more) e (subst (AreMatroidsOf forms) (sym f) h)
 
 -- the forms up to one tell whether it is the first with its matroid
-module _ (forms : List Rep) (i : ℕ) (M : Rep) (at : slice_get forms i ≡ Some M) (matroids : List Matroid) (h : AreMatroidsOf (take (i + 1) forms) matroids) where
+module _ (forms : List Rep) (i : ℕ) (M : Rep) (at : slice_get forms i ≡ Some M) (matroids : List Matroid)
+    (h : AreMatroidsOf (take (i + 1) forms) matroids) where
   in_front : slice_get (take (i + 1) forms) i ≡ Some M
   in_front = get_in_front forms (i + 1) i (omega arith) ∙ at
 

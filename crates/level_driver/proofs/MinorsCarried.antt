@@ -49,16 +49,21 @@ module _ (mode : Mode) (M L : Rep) (e : AreEquivalent mode M L) (some : 0 < coun
     record {
       injection = record {
         below = λ x l. subst (λ n. place (f x) < n) (sym as_large) (labels.inverse_below (f x) (h.injection.below x l));
-        apart = λ x y l m same. h.injection.apart x y l m (sym (labels.back (f x) (h.injection.below x l)) ∙ ap label same ∙ labels.back (f y) (h.injection.below y m));
+        apart = λ x y l m same. h.injection.apart x y l m
+            (sym (labels.back (f x) (h.injection.below x l)) ∙ ap label same ∙ labels.back (f y) (h.injection.below y m));
       };
       outside = λ x l. ap C (labels.back (f x) (h.injection.below x l)) ∙ h.outside x l;
-      contracted = ap (λ n. N.rank + n) (ap (λ n. size_below n (λ j. C (label j))) as_large ∙ size_relabelled (size M) label place labels C) ∙ h.contracted ∙ sym (ap (λ s. s.rank) e.takes.same_shape);
+      contracted = ap (λ n. N.rank + n)
+          (ap (λ n. size_below n (λ j. C (label j))) as_large ∙ size_relabelled (size M) label place labels C) ∙ h.contracted
+          ∙ sym (ap (λ s. s.rank) e.takes.same_shape);
       bases = λ X l.
           let b = h.bases X l in
           let T : ℕ → Bool = λ k. image N.size f (members X) k || C k in
           let T' : ℕ → Bool = λ k. image N.size (λ x. place (f x)) (members X) k || C (label k) in
           let same : (j : ℕ) → j < size L → T (label j) ≡ T' j =
-          λ j m k. any_same N.size (λ x. members X x && (f x == label j)) (λ x. members X x && (place (f x) == j)) (λ x o k. members X x && same_place (size M) label place labels (f x) j (h.injection.below x o) (subst (λ n. j < n) as_large m) k) k || C (label j) in
+          λ j m k. any_same N.size (λ x. members X x && (f x == label j)) (λ x. members X x && (place (f x) == j))
+          (λ x o k. members X x && same_place (size M) label place labels (f x) j (h.injection.below x o)
+          (subst (λ n. j < n) as_large m) k) k || C (label j) in
           let over = basis_carried mode M L e.move e.shaped e.valid e.takes 0 some T in (
             λ c. IsBasis-same L 0 (λ j. T (label j)) T' same (over.0 (b.0 c)),
             λ d. b.1 (over.1 (IsBasis-same L 0 T' (λ j. T (label j)) (λ j m. sym (same j m)) d)),
@@ -69,4 +74,5 @@ module _ (mode : Mode) (M L : Rep) (e : AreEquivalent mode M L) (some : 0 < coun
 -- of two equivalent representations both avoid matroids, or neither
 pub avoids_over : (mode : Mode) (M L : Rep) → AreEquivalent mode M L → 0 < count M → (Ns : List Matroid) → Avoids Ns M → Avoids Ns L
 avoids_over mode M L e some Ns avoids k d l minor =
-    avoids k d l (minor_over mode L M (equivalent-symmetric mode M L e) (subst (λ (n : ℕ). 0 < n) (sym (ap (λ s. length s.factors) e.takes.same_shape)) some) _ minor)
+    avoids k d l (minor_over mode L M (equivalent-symmetric mode M L e)
+    (subst (λ (n : ℕ). 0 < n) (sym (ap (λ s. length s.factors) e.takes.same_shape)) some) _ minor)

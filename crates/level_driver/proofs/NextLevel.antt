@@ -81,7 +81,8 @@ module _ (q : Request) (family : Family) (grows : Grows q family) (n : ℕ) wher
               x.1 p,
               record {
                 admissible = record {
-                  normalised = subst (λ fs. IsNormalised fs (try.0).rank try.1) (sym m.same_factors) (subst (λ r. IsNormalised family.factors r try.1) (sym m.ranks) t.column);
+                  normalised = subst (λ fs. IsNormalised fs (try.0).rank try.1) (sym m.same_factors)
+                      (subst (λ r. IsNormalised family.factors r try.1) (sym m.ranks) t.column);
                   simple = w.simple;
                   agrees = r.agrees;
                 };
@@ -97,7 +98,8 @@ module _ (q : Request) (family : Family) (grows : Grows q family) (n : ℕ) wher
       of_request P cs f = let m = f.member in λ i. rep_of ((m.same_factors ∙ grows.factors_are) i) ((m.ranks ∙ grows.rank_is) i) cs
 
       -- the form of an extension is one of the next level
-      child_form : (P : Rep) (v : List ℕ) (cs : List (List ℕ)) → IsLevelForm family n P → IsCandidate family.forbidden P v → IsChild family.mode P v cs → IsLevelForm family (n + 1) (rep_of q.factors q.rank cs)
+      child_form : (P : Rep) (v : List ℕ) (cs : List (List ℕ)) → IsLevelForm family n P → IsCandidate family.forbidden P v →
+          IsChild family.mode P v cs → IsLevelForm family (n + 1) (rep_of q.factors q.rank cs)
       child_form P v cs f candidate child =
           subst (IsLevelForm family (n + 1)) (of_request P cs f)
           (let N : Rep = rep_of P.factors P.rank cs in
@@ -118,7 +120,8 @@ module _ (q : Request) (family : Family) (grows : Grows q family) (n : ℕ) wher
                 agrees = (agrees_carried family.mode (followed_by P v) N e).0 a.agrees;
               });
               simple = (simple_carried family.mode (followed_by P v) N e).0 a.simple;
-              avoids = avoids_over family.mode (followed_by P v) N e (subst (λ (fs : List ℕ). 0 < length fs) (sym (m.same_factors ∙ grows.factors_are)) some) family.forbidden candidate.avoids;
+              avoids = avoids_over family.mode (followed_by P v) N e
+                  (subst (λ (fs : List ℕ). 0 < length fs) (sym (m.same_factors ∙ grows.factors_are)) some) family.forbidden candidate.avoids;
             };
           })
 
@@ -146,7 +149,9 @@ module _ (q : Request) (family : Family) (grows : Grows q family) (n : ℕ) wher
 
           try : IsExtension family.forbidden parents (record M { columns = take n M.columns }, get_or M.columns n [])
           try = (tries_are (record M { columns = take n M.columns }, get_or M.columns n [])).1
-              (last_try family (n + 1) (record M { columns = take n M.columns }) (get_or M.columns n []) (let r : family.rank ≡ q.rank = grows.rank_is in let d : q.rank ≤ n = room in omega arith) (subst (IsLevelForm family (n + 1)) split f))
+              (last_try family (n + 1) (record M { columns = take n M.columns }) (get_or M.columns n [])
+              (let r : family.rank ≡ q.rank = grows.rank_is in let d : q.rank ≤ n = room in omega arith)
+              (subst (IsLevelForm family (n + 1)) split f))
 
           made : (cs : List (List ℕ)) × Contains found cs × IsChild family.mode (record M { columns = take n M.columns }) (get_or M.columns n []) cs
           made = h.complete (record M { columns = take n M.columns }, get_or M.columns n []) try
@@ -156,10 +161,12 @@ module _ (q : Request) (family : Family) (grows : Grows q family) (n : ℕ) wher
               let child = made.2 in
               let x = level.exact (record M { columns = take n M.columns }) in
               let N : Rep = rep_of M.factors M.rank made.0 in
-              let back : AreEquivalent family.mode N M = equivalent-symmetric family.mode M N (subst (λ (M' : Rep). AreEquivalent family.mode M' N) (sym split) child.equivalent) in
+              let back : AreEquivalent family.mode N M = equivalent-symmetric family.mode M N
+              (subst (λ (M' : Rep). AreEquivalent family.mode M' N) (sym split) child.equivalent) in
               sym (of_request (record M { columns = take n M.columns }) made.0 (x.0 try.0)) ∙ one_form family.mode N M child.form f.form back
 
-      pub next_level : q.rank ≤ n → AllPairs (λ M N. rep_cmp M N ≡ Less) (map (rep_of q.factors q.rank) found) → IsLevel family (n + 1) (map (rep_of q.factors q.rank) found)
+      pub next_level : q.rank ≤ n → AllPairs (λ M N. rep_cmp M N ≡ Less) (map (rep_of q.factors q.rank) found) →
+          IsLevel family (n + 1) (map (rep_of q.factors q.rank) found)
       next_level room rising = record {
         rising = rising;
         exact = λ M. (
@@ -192,7 +199,8 @@ pub grows_it : (q : Request) (Ns : List Matroid) → AreGivenBy (map given_as q.
 grows_it q Ns given = record { factors_are = refl; rank_is = refl; mode_is = refl; forbids = given }
 
 -- a level of a request that isn't its last
-module _ (q : Request) (Ns : List Matroid) (given : AreGivenBy (map given_as q.forbid) Ns) (fields : IsFactors q.factors) (limits : IsWithinLimits q) (n : ℕ) (parents : List Rep) (h : IsParentLevel q n parents) where
+module _ (q : Request) (Ns : List Matroid) (given : AreGivenBy (map given_as q.forbid) Ns) (fields : IsFactors q.factors)
+    (limits : IsWithinLimits q) (n : ℕ) (parents : List Rep) (h : IsParentLevel q n parents) where
   its_level : IsLevel (grown_by q Ns) n parents
   its_level = h.level (grown_by q Ns) (grows_it q Ns given)
 
@@ -216,7 +224,8 @@ module _ (q : Request) (Ns : List Matroid) (given : AreGivenBy (map given_as q.f
     each_rep = found_reps q (grown_by q Ns) (grows_it q Ns given) n parents its_level tried found grown fields.some fields limits h.before
 
     pub level_grown : AllPairs (λ M N. rep_cmp M N ≡ Less) (map (rep_of q.factors q.rank) found) → IsLevelOf q (n + 1) (map (rep_of q.factors q.rank) found)
-    level_grown rising family grows = next_level q family grows n parents (h.level family grows) tried found (of_family family grows) fields.some h.at_least rising
+    level_grown rising family grows = next_level q family grows n parents (h.level family grows) tried found
+        (of_family family grows) fields.some h.at_least rising
 
     pub tries_grown : AreTriesOf q (n + 1) tried
     tries_grown family grows = record {

@@ -60,18 +60,28 @@ module _ (M N : Rep) (A B : Matroid) (a : IsMatroidOf M A) (b : IsMatroidOf N B)
           h.bases (mask (size M) (λ j. S (p j))) (mask (size M) S)
           (subst (λ (n : ℕ). mask (size M) (λ j. S (p j)) < 2 ^ n) (sym a.sizes) (mask-below (size M) (λ j. S (p j))))
           (subst (λ (n : ℕ). mask (size M) S < 2 ^ n) (sym a.sizes) (mask-below (size M) S))
-          (λ j l. let k = subst (λ (n : ℕ). j < n) a.sizes l in members-mask (size M) S (p j) (labels.below j k) ∙ sym (members-mask (size M) (λ j. S (p j)) j k))
+          (λ j l. let k = subst (λ (n : ℕ). j < n) a.sizes l in members-mask (size M) S (p j) (labels.below j k)
+          ∙ sym (members-mask (size M) (λ j. S (p j)) j k))
 
       there : (S : ℕ → Bool) → IsBasis M 0 (λ j. S (p j)) → IsBasis N 0 S
       there S d =
           let x = a.bases in
           let y = b.bases in
-          let c = (x.exact (mask (size M) (λ j. S (p j)))).1 (mask-below (size M) (λ j. S (p j)), IsBasis-same M 0 (λ j. S (p j)) (members (mask (size M) (λ j. S (p j)))) (λ j l. sym (members-mask (size M) (λ j. S (p j)) j l)) d) in
-          IsBasis-same N 0 (members (mask (size M) S)) S (λ j l. members-mask (size M) S j (subst (λ (n : ℕ). j < n) same_size l)) ((y.exact (mask (size M) S)).0 ((alike S).0 c)).1
+          let c = (x.exact (mask (size M) (λ j. S (p j)))).1 (
+            mask-below (size M) (λ j. S (p j)),
+            IsBasis-same M 0 (λ j. S (p j)) (members (mask (size M) (λ j. S (p j))))
+                (λ j l. sym (members-mask (size M) (λ j. S (p j)) j l)) d,
+          ) in
+          IsBasis-same N 0 (members (mask (size M) S)) S (λ j l. members-mask (size M) S j (subst (λ (n : ℕ). j < n) same_size l))
+          ((y.exact (mask (size M) S)).0 ((alike S).0 c)).1
 
       back : (S : ℕ → Bool) → IsBasis N 0 S → IsBasis M 0 (λ j. S (p j))
       back S d =
           let x = a.bases in
           let y = b.bases in
-          let c = (y.exact (mask (size M) S)).1 (subst (λ (n : ℕ). mask (size M) S < 2 ^ n) (sym same_size) (mask-below (size M) S), IsBasis-same N 0 S (members (mask (size M) S)) (λ j l. sym (members-mask (size M) S j (subst (λ (n : ℕ). j < n) same_size l))) d) in
-          IsBasis-same M 0 (members (mask (size M) (λ j. S (p j)))) (λ j. S (p j)) (λ j l. members-mask (size M) (λ j. S (p j)) j l) ((x.exact (mask (size M) (λ j. S (p j)))).0 ((alike S).1 c)).1
+          let c = (y.exact (mask (size M) S)).1 (
+            subst (λ (n : ℕ). mask (size M) S < 2 ^ n) (sym same_size) (mask-below (size M) S),
+            IsBasis-same N 0 S (members (mask (size M) S)) (λ j l. sym (members-mask (size M) S j (subst (λ (n : ℕ). j < n) same_size l))) d,
+          ) in
+          IsBasis-same M 0 (members (mask (size M) (λ j. S (p j)))) (λ j. S (p j)) (λ j l. members-mask (size M) (λ j. S (p j)) j l)
+          ((x.exact (mask (size M) (λ j. S (p j)))).0 ((alike S).1 c)).1

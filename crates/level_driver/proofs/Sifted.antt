@@ -28,7 +28,8 @@ module _ {X : Type 0} where
   pairs_last R [] y z pairs (k, l, e) = absurd (omega arith)
   pairs_last R (x ∷ xs) y z pairs at =
       elim (found x z xs at) [
-        | inl e ↦ (let (k, l, s) = Contains-push xs y in subst (R z) s (subst (λ w. R w (get_or (xs ++ y ∷ []) k y)) e (pairs 0 (suc k) y (omega arith) (omega arith))))
+        | inl e ↦ (let (k, l, s) = Contains-push xs y in
+            subst (R z) s (subst (λ w. R w (get_or (xs ++ y ∷ []) k y)) e (pairs 0 (suc k) y (omega arith) (omega arith))))
         | inr p ↦ pairs_last R xs y z (λ i j d l m. pairs (suc i) (suc j) d (omega arith) (omega arith)) p
       ]
 
@@ -105,7 +106,8 @@ module _ (P : Rep → Type 0) (forms those : List Rep) (i : ℕ) (M : Rep) (at :
   next_left_out fails = subst (λ (fs : List Rep). AreThose P fs those) (sym one_more) (left_out P (take i forms) those M so_far fails)
 
 -- all forms were looked at
-pub all_seen : (Q P : Rep → Type 0) (forms those : List Rep) (i : ℕ) → length forms ≤ i → AreThose P (take i forms) those → IsRisingList Q forms → IsRisingList (λ M. Q M × P M) those
+pub all_seen : (Q P : Rep → Type 0) (forms those : List Rep) (i : ℕ) → length forms ≤ i → AreThose P (take i forms) those →
+    IsRisingList Q forms → IsRisingList (λ M. Q M × P M) those
 all_seen Q P forms those i l sifted level =
     let all : AreThose P forms those = subst (λ (fs : List Rep). AreThose P fs those) (take_all i forms l) sifted in
     record {

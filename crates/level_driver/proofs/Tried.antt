@@ -27,7 +27,8 @@ abbrev pub IsTriedUpTo : List Matroid → ColumnsAfter → List ℕ → Type 0
 IsTriedUpTo Ns columns w = IsUpTo columns w × Avoids Ns (followed_by columns.parent w)
 
 -- the columns up to the last one were tried, and the forms added
-pub record HasTried (mode : Mode) (Ns : List Matroid) (start : List (List (List ℕ))) (columns : ColumnsAfter) (tried : ℕ) (found : List (List (List ℕ))) : Type 0 where
+pub record HasTried (mode : Mode) (Ns : List Matroid) (start : List (List (List ℕ))) (columns : ColumnsAfter) (tried : ℕ)
+    (found : List (List (List ℕ))) : Type 0 where
   pub count : IsCount (IsTriedUpTo Ns columns) tried
   pub bound : tried + (above_values - value columns.last) ≤ above_values
   pub kept : (cs : List (List ℕ)) → Contains start cs → Contains found cs
@@ -49,7 +50,8 @@ above_empty [] h = absurd (h refl)
 above_empty (x ∷ xs) h = refl
 
 -- at the start none is up to the last one
-pub tried_none : (mode : Mode) (Ns : List Matroid) (start : List (List (List ℕ))) (P : Rep) → 0 < length P.factors → (columns : ColumnsAfter) → columns ≡ record { parent = P; last = [] } → HasTried mode Ns start columns 0 start
+pub tried_none : (mode : Mode) (Ns : List Matroid) (start : List (List (List ℕ))) (P : Rep) → 0 < length P.factors →
+    (columns : ColumnsAfter) → columns ≡ record { parent = P; last = [] } → HasTried mode Ns start columns 0 start
 tried_none mode Ns start P some columns is =
     subst (λ columns. HasTried mode Ns start columns 0 start) (sym is) record {
       count = count_none (IsTriedUpTo Ns begin) (λ v u. none v u.0);
@@ -78,7 +80,8 @@ module _ (columns : ColumnsAfter) (v : List ℕ) (next : IsNextColumn columns v)
       tied Equal e h g = exact_bytes w v e
       tied Greater e h g = absurd (h e)
 
-      by_order : (r : Ordering) → slice_cmp nat_cmp columns.last w ≡ r → IsAdmissible columns.parent w → slice_cmp nat_cmp w v ≢ Greater → IsUpTo columns w ⊎ (w ≡ v)
+      by_order : (r : Ordering) → slice_cmp nat_cmp columns.last w ≡ r → IsAdmissible columns.parent w →
+          slice_cmp nat_cmp w v ≢ Greater → IsUpTo columns w ⊎ (w ≡ v)
       by_order Less e a h = inr (tied (slice_cmp nat_cmp w v) refl h (next.first w a e))
       by_order Equal e a h = inl (a, λ g. let t = turned w columns.last Greater g in cc)
       by_order Greater e a h = inl (a, λ g. let t = turned w columns.last Greater g in cc)
@@ -92,18 +95,25 @@ module _ (columns : ColumnsAfter) (v : List ℕ) (next : IsNextColumn columns v)
       back h =
           elim h [
             | inl u ↦ (u.0, below (slice_cmp nat_cmp w columns.last) refl u.1)
-            | inr e ↦ (subst (IsAdmissible columns.parent) (sym e) next.admissible, λ g. let s = tied_itself nat_list_cmp_total v in let k = ap (λ x. slice_cmp nat_cmp x v) e in cc)
+            | inr e ↦ (
+              subst (IsAdmissible columns.parent) (sym e) next.admissible,
+              λ g. let s = tied_itself nat_list_cmp_total v in
+                  let k = ap (λ x. slice_cmp nat_cmp x v) e in cc,
+            )
           ]
 
   pub not_yet : (w : List ℕ) → IsUpTo columns w → w ≡ v → ⊥
   not_yet w u e = u.1 (ap (λ x. slice_cmp nat_cmp x columns.last) e ∙ turned columns.last v Less next.after)
 
-  module _ (mode : Mode) (Ns : List Matroid) (start found : List (List (List ℕ))) (tried : ℕ) (following : ColumnsAfter) (is : following ≡ record { parent = columns.parent; last = v }) (falls : above_values - value following.last < above_values - value columns.last) (h : HasTried mode Ns start columns tried found) where
+  module _ (mode : Mode) (Ns : List Matroid) (start found : List (List (List ℕ))) (tried : ℕ) (following : ColumnsAfter)
+      (is : following ≡ record { parent = columns.parent; last = v })
+      (falls : above_values - value following.last < above_values - value columns.last) (h : HasTried mode Ns start columns tried found) where
     fewer : above_values - value v < above_values - value columns.last
     fewer = subst (λ (c : ColumnsAfter). above_values - value c.last < above_values - value columns.last) is falls
 
     -- the next one was tried too
-    pub tried_more : Avoids Ns (followed_by columns.parent v) → (new : List (List (List ℕ))) (cs : List (List ℕ)) → IsChild mode columns.parent v cs → Adds found new cs → HasTried mode Ns start following (tried + 1) new
+    pub tried_more : Avoids Ns (followed_by columns.parent v) → (new : List (List (List ℕ))) (cs : List (List ℕ)) →
+        IsChild mode columns.parent v cs → Adds found new cs → HasTried mode Ns start following (tried + 1) new
     unfolding after
     tried_more avoids new cs child adds =
         subst (λ columns. HasTried mode Ns start columns (tried + 1) new) (sym is) record {
@@ -123,10 +133,16 @@ module _ (columns : ColumnsAfter) (v : List ℕ) (next : IsNextColumn columns v)
               ];
         }
       where
-        one_more_tried : (w : List ℕ) → ((IsAdmissible columns.parent w × (slice_cmp nat_cmp w v ≢ Greater)) × Avoids Ns (followed_by columns.parent w)) ↔ (IsTriedUpTo Ns columns w ⊎ (w ≡ v))
+        one_more_tried : (w : List ℕ) →
+            ((IsAdmissible columns.parent w × (slice_cmp nat_cmp w v ≢ Greater)) × Avoids Ns (followed_by columns.parent w)) ↔
+            (IsTriedUpTo Ns columns w ⊎ (w ≡ v))
         one_more_tried w = (
           λ u. elim ((one_more w).0 u.0) [ inl b ↦ inl (b, u.1) | inr e ↦ inr e ],
-          λ h. elim h [ inl b ↦ ((one_more w).1 (inl b.0), b.1) | inr e ↦ ((one_more w).1 (inr e), subst (λ w. Avoids Ns (followed_by columns.parent w)) (sym e) avoids) ],
+          λ h. elim h [
+            | inl b ↦ ((one_more w).1 (inl b.0), b.1)
+            | inr e ↦
+                ((one_more w).1 (inr e), subst (λ w. Avoids Ns (followed_by columns.parent w)) (sym e) avoids)
+          ],
         )
 
     -- the next one makes one of the matroids a minor
@@ -141,7 +157,8 @@ module _ (columns : ColumnsAfter) (v : List ℕ) (next : IsNextColumn columns v)
           complete = λ w u. h.complete w (up_to_last w u);
         }
       where
-        up_to_last : (w : List ℕ) → (IsAdmissible columns.parent w × (slice_cmp nat_cmp w v ≢ Greater)) × Avoids Ns (followed_by columns.parent w) → IsTriedUpTo Ns columns w
+        up_to_last : (w : List ℕ) → (IsAdmissible columns.parent w × (slice_cmp nat_cmp w v ≢ Greater))
+            × Avoids Ns (followed_by columns.parent w) → IsTriedUpTo Ns columns w
         up_to_last w u =
             elim ((one_more w).0 u.0) [
               | inl b ↦ (b, u.1)
@@ -149,12 +166,14 @@ module _ (columns : ColumnsAfter) (v : List ℕ) (next : IsNextColumn columns v)
             ]
 
 -- where no column comes after the last one, all were tried
-module _ (mode : Mode) (Ns : List Matroid) (start found : List (List (List ℕ))) (columns : ColumnsAfter) (tried : ℕ) (h : HasTried mode Ns start columns tried found) (last : IsLastColumn columns) where
+module _ (mode : Mode) (Ns : List Matroid) (start found : List (List (List ℕ))) (columns : ColumnsAfter) (tried : ℕ)
+    (h : HasTried mode Ns start columns tried found) (last : IsLastColumn columns) where
   all_up_to : (w : List ℕ) → IsCandidate Ns columns.parent w → IsTriedUpTo Ns columns w
   all_up_to w a = ((a.admissible, λ g. last w a.admissible (turned w columns.last Greater g)), a.avoids)
 
   pub tried_count : IsCount (IsCandidate Ns columns.parent) tried
-  tried_count = count_same (IsTriedUpTo Ns columns) (IsCandidate Ns columns.parent) tried (λ w. (λ u. record { admissible = u.0.0; avoids = u.1 }, all_up_to w)) h.count
+  tried_count = count_same (IsTriedUpTo Ns columns) (IsCandidate Ns columns.parent) tried
+      (λ w. (λ u. record { admissible = u.0.0; avoids = u.1 }, all_up_to w)) h.count
 
   pub tried_all : AddsChildren mode Ns columns.parent start found
   tried_all = record { kept = h.kept; sound = h.sound; complete = λ v a. h.complete v (all_up_to v a) }

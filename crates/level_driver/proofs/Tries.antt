@@ -37,7 +37,8 @@ module _ (mode : Mode) (Ns : List Matroid) (parents : List Rep) (P : Rep) (new_o
   of_last : Rep × List ℕ → Type 0
   of_last try = (v : List ℕ) × IsCandidate Ns P v × ((P, v) ≡ try)
 
-  pub two_kinds : (try : Rep × List ℕ) → IsExtension Ns (parents ++ P ∷ []) try ↔ (IsExtension Ns parents try ⊎ ((v : List ℕ) × IsCandidate Ns P v × ((P, v) ≡ try)))
+  pub two_kinds : (try : Rep × List ℕ) →
+      IsExtension Ns (parents ++ P ∷ []) try ↔ (IsExtension Ns parents try ⊎ ((v : List ℕ) × IsCandidate Ns P v × ((P, v) ≡ try)))
   two_kinds try = (there, back)
     where
       there : IsExtension Ns (parents ++ P ∷ []) try → IsExtension Ns parents try ⊎ ((v : List ℕ) × IsCandidate Ns P v × ((P, v) ≡ try))
@@ -55,7 +56,8 @@ module _ (mode : Mode) (Ns : List Matroid) (parents : List Rep) (P : Rep) (new_o
           ]
 
   -- one parent more
-  pub grown_more : (tried k : ℕ) (found new : List (List (List ℕ))) → HasGrown mode Ns parents tried found → IsCount (IsCandidate Ns P) k → AddsChildren mode Ns P found new → HasGrown mode Ns (parents ++ P ∷ []) (tried + k) new
+  pub grown_more : (tried k : ℕ) (found new : List (List (List ℕ))) → HasGrown mode Ns parents tried found →
+      IsCount (IsCandidate Ns P) k → AddsChildren mode Ns P found new → HasGrown mode Ns (parents ++ P ∷ []) (tried + k) new
   grown_more tried k found new h count adds = record {
     count = count_both (IsExtension Ns parents) (λ try. (v : List ℕ) × IsCandidate Ns P v × ((P, v) ≡ try)) (IsExtension Ns (parents ++ P ∷ [])) tried k h.count
         (count_images (λ (v : List ℕ). (P, v)) (IsCandidate Ns P) k (λ v w e. ap (λ t. t.1) e) count)
@@ -73,7 +75,8 @@ module _ (mode : Mode) (Ns : List Matroid) (parents : List Rep) (P : Rep) (new_o
   }
 
 -- in a rising list no form stands before itself
-pub not_before : (parents : List Rep) → AllPairs (λ M N. rep_cmp M N ≡ Less) parents → (i : ℕ) (P : Rep) → i < length parents → P ≡ get_or parents i P → ¬ (Contains (take i parents) P)
+pub not_before : (parents : List Rep) → AllPairs (λ M N. rep_cmp M N ≡ Less) parents → (i : ℕ) (P : Rep) → i < length parents →
+    P ≡ get_or parents i P → ¬ (Contains (take i parents) P)
 not_before parents rising i P l is (k, m, e) =
     let n : length (take i parents) ≡ i = length-take-le i parents (omega arith) in
     let k' : k < i = omega arith in
@@ -82,12 +85,15 @@ not_before parents rising i P l is (k, m, e) =
     rep_cmp-irreflexive P (subst (λ N. rep_cmp P N ≡ Less) (sym is) (subst (λ M. rep_cmp M (get_or parents i P) ≡ Less) same less))
 
 -- the next parent
-pub grown_step : (mode : Mode) (Ns : List Matroid) (parents : List Rep) → AllPairs (λ M N. rep_cmp M N ≡ Less) parents → (i : ℕ) (P : Rep) → i < length parents → P ≡ get_or parents i P → (tried k : ℕ) (found new : List (List (List ℕ)))
-    → HasGrown mode Ns (take i parents) tried found → IsCount (IsCandidate Ns P) k → AddsChildren mode Ns P found new → HasGrown mode Ns (take (i + 1) parents) (tried + k) new
+pub grown_step : (mode : Mode) (Ns : List Matroid) (parents : List Rep) → AllPairs (λ M N. rep_cmp M N ≡ Less) parents →
+    (i : ℕ) (P : Rep) → i < length parents → P ≡ get_or parents i P → (tried k : ℕ) (found new : List (List (List ℕ)))
+    → HasGrown mode Ns (take i parents) tried found → IsCount (IsCandidate Ns P) k → AddsChildren mode Ns P found new →
+    HasGrown mode Ns (take (i + 1) parents) (tried + k) new
 grown_step mode Ns parents rising i P l is tried k found new h count adds =
     subst (λ (done : List Rep). HasGrown mode Ns done (tried + k) new) (ap (λ (M : Rep). take i parents ++ M ∷ []) is ∙ sym (take_more parents i P l))
     (grown_more mode Ns (take i parents) P (not_before parents rising i P l is) tried k found new h count adds)
 
 -- all parents
-pub grown_all : (mode : Mode) (Ns : List Matroid) (parents : List Rep) (i tried : ℕ) (found : List (List (List ℕ))) → length parents ≤ i → HasGrown mode Ns (take i parents) tried found → HasGrown mode Ns parents tried found
+pub grown_all : (mode : Mode) (Ns : List Matroid) (parents : List Rep) (i tried : ℕ) (found : List (List (List ℕ))) →
+    length parents ≤ i → HasGrown mode Ns (take i parents) tried found → HasGrown mode Ns parents tried found
 grown_all mode Ns parents i tried found l h = subst (λ (done : List Rep). HasGrown mode Ns done tried found) (take_all i parents l) h

@@ -16,7 +16,8 @@ use Rattle.formats.proofs.OneListing.{given_same}
 pub forbidden_are : (q : Request) (Ns : List Matroid) (family : Family) → AreGivenBy (map given_as q.forbid) Ns → Grows q family → Ns ≡ family.forbidden
 forbidden_are q Ns family given grows = given_same (map given_as q.forbid) Ns family.forbidden given grows.forbids
 
-module _ (q : Request) (U : Rep) (is_rep : KeepsLimits U) (standard : IsStandard U) (shape_is : shape U ≡ record { factors = q.factors; rank = q.rank; size = q.rank }) where
+module _ (q : Request) (U : Rep) (is_rep : KeepsLimits U) (standard : IsStandard U)
+    (shape_is : shape U ≡ record { factors = q.factors; rank = q.rank; size = q.rank }) where
   square : size U ≡ U.rank
   square = ap (λ s. s.size) shape_is ∙ sym (ap (λ s. s.rank) shape_is)
 
@@ -31,7 +32,9 @@ module _ (q : Request) (U : Rep) (is_rep : KeepsLimits U) (standard : IsStandard
     pub unit_is_level : Avoids Ns U → IsLevel family q.rank (U ∷ [])
     unit_is_level avoids =
         subst (λ (n : ℕ). IsLevel family n (U ∷ [])) grows.rank_is
-        (first_level U is_rep.shaped standard square some family (ap (λ s. s.factors) shape_is ∙ sym grows.factors_are) (ap (λ s. s.rank) shape_is ∙ sym grows.rank_is) (subst (λ (Ns : List Matroid). Avoids Ns U) (forbidden_are q Ns family given grows) avoids))
+        (first_level U is_rep.shaped standard square some family (ap (λ s. s.factors) shape_is ∙ sym grows.factors_are)
+        (ap (λ s. s.rank) shape_is ∙ sym grows.rank_is)
+        (subst (λ (Ns : List Matroid). Avoids Ns U) (forbidden_are q Ns family given grows) avoids))
 
     -- where nothing is forbidden they are
     unforbidden : Family
@@ -54,7 +57,9 @@ module _ (q : Request) (U : Rep) (is_rep : KeepsLimits U) (standard : IsStandard
     only_unit : (M : Rep) → IsLevelForm family q.rank M → M ≡ U
     unfolding unforbidden
     only_unit M h =
-        let level = first_level U is_rep.shaped standard square some unforbidden (ap (λ s. s.factors) shape_is ∙ sym grows.factors_are) (ap (λ s. s.rank) shape_is ∙ sym grows.rank_is) (λ k d l. absurd (omega arith)) in
+        let level = first_level U is_rep.shaped standard square some unforbidden
+        (ap (λ s. s.factors) shape_is ∙ sym grows.factors_are) (ap (λ s. s.rank) shape_is ∙ sym grows.rank_is)
+        (λ k d l. absurd (omega arith)) in
         one M ((level.exact M).1 (subst (λ (n : ℕ). IsLevelForm unforbidden n M) (sym grows.rank_is) (in_unforbidden M h)))
       where
         one : (M : Rep) → Contains (U ∷ []) M → M ≡ U
@@ -67,6 +72,8 @@ module _ (q : Request) (U : Rep) (is_rep : KeepsLimits U) (standard : IsStandard
       rising = λ i j d l m. absurd (omega arith);
       exact = λ M. (
         λ c. let l = c.1 in absurd (omega arith),
-        λ h. let m = h.member in absurd (has (subst (λ (Ns : List Matroid). Avoids Ns U) (sym (forbidden_are q Ns family given grows)) (subst (Avoids family.forbidden) (only_unit M h) m.avoids))),
+        λ h. let m = h.member in
+            absurd (has (subst (λ (Ns : List Matroid). Avoids Ns U) (sym (forbidden_are q Ns family given grows))
+            (subst (Avoids family.forbidden) (only_unit M h) m.avoids))),
       );
     }

@@ -9,7 +9,8 @@ use Rattle.formats.specs.Levels.{Grows, Keeps}
 
 -- these forms of a level are those that the request lists
 abbrev pub AreListed : Request → List Rep → List Rep → Type 0
-AreListed q forms shown = (n : ℕ) (family : Family) (filters : Filters) → Grows q family → Keeps q filters → IsLevel family n forms → IsListed family n filters shown
+AreListed q forms shown = (n : ℕ) (family : Family) (filters : Filters) → Grows q family → Keeps q filters →
+    IsLevel family n forms → IsListed family n filters shown
 
 -- the representation passes the filters that look at it alone
 pub record PassesAlone (filters : Filters) (M : Rep) : Type 0 where

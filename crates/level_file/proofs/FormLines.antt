@@ -19,7 +19,8 @@ module _ (forms : List Rep) (i : ℕ) (form : Rep) (at : slice_get forms i ≡ S
 
   -- the lines of one more form
   pub lines_more : form_lines (take (i + 1) forms) ≡ form_lines (take i forms) ++ form_line form
-  lines_more = ap form_lines one_more ∙ lines-append (take i forms) (form ∷ []) ∙ ap (λ (t : List ℕ). form_lines (take i forms) ++ t) (append-nil (form_line form))
+  lines_more = ap form_lines one_more ∙ lines-append (take i forms) (form ∷ [])
+      ∙ ap (λ (t : List ℕ). form_lines (take i forms) ++ t) (append-nil (form_line form))
 
   -- all lines, with that of this form
   pub lines_split : form_lines forms ≡ form_lines (take i forms) ++ (form_line form ++ form_lines (drop (i + 1) forms))

@@ -24,7 +24,8 @@ entry_of n level = record { size = n; classes = length level.forms; listed = map
 not_asked : (b c : Bool) → b ≡ c → c ≡ false → IsTrue b → ⊥
 not_asked b c same off on = let e : b ≡ false = same ∙ off in cc (e, on)
 
-none_wanted : (M : Rep) (wanted : Option MinorName) (has : Option Matroid) → AreGivenBy (map given_as (option_to_list wanted)) (option_to_list has) → wanted ≡ None
+none_wanted : (M : Rep) (wanted : Option MinorName) (has : Option Matroid) →
+    AreGivenBy (map given_as (option_to_list wanted)) (option_to_list has) → wanted ≡ None
     → IfSome has (λ N. IsMinor N M)
 none_wanted M None None given none = tt
 none_wanted M None (Some N) given none = absurd given

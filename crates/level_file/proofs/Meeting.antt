@@ -33,7 +33,8 @@ module _ (rest piece : List ℕ) (k : ℕ) (same : take k rest ≡ take k piece)
   met_end short none = record {
     rest = drop k piece;
     split = sym (take-append-drop k piece)
-        ∙ ap (λ (t : List ℕ). t ++ drop k piece) (sym (begins ∙ ap (λ (t : List ℕ). take k piece ++ t) (nil_from_length (drop k rest) none) ∙ append-nil (take k piece)));
+        ∙ ap (λ (t : List ℕ). t ++ drop k piece)
+        (sym (begins ∙ ap (λ (t : List ℕ). take k piece ++ t) (nil_from_length (drop k rest) none) ∙ append-nil (take k piece)));
     proper = omega (arith, length-drop k piece);
   }
 
@@ -61,7 +62,8 @@ unmet_more rest piece more Ends unmet = record {
   split = ap (λ (t : List ℕ). t ++ more) unmet.split ∙ append_assoc rest unmet.rest more;
   proper = omega (arith, unmet.proper, length-append unmet.rest more);
 }
-unmet_more rest piece more (Parts left) unmet = λ others. subst (λ (t : List ℕ). PartsWith left rest t) (sym (append_assoc piece more others)) (unmet (more ++ others))
+unmet_more rest piece more (Parts left) unmet = λ others. subst (λ (t : List ℕ). PartsWith left rest t)
+    (sym (append_assoc piece more others)) (unmet (more ++ others))
 
 parts_after : (left : ℕ) (rest a after other : List ℕ) → rest ≡ a ++ after → PartsWith left after other → PartsWith left rest (a ++ other)
 parts_after left rest a after other is p = record {

@@ -21,8 +21,11 @@ use Rattle.level_file.proofs.GrownLevels.{entry_of, entry_bytes, grown_entry}
 pub grown_more : (q : Request) (n : ℕ) (levels : List Level) (level : Level) → AreGrown q n levels → IsGrown q (n + length levels) level
     → AreGrown q n (levels ++ level ∷ [])
 grown_more q n [] level all grown = (subst (λ (k : ℕ). IsGrown q k level) (let e : n + 0 ≡ n = omega arith in e) grown, tt)
-grown_more q n (x ∷ levels) level all grown =
-    (all.0, grown_more q (n + 1) levels level all.1 (subst (λ (k : ℕ). IsGrown q k level) (let e : n + length (x ∷ levels) ≡ n + 1 + length levels = omega arith in e) grown))
+grown_more q n (x ∷ levels) level all grown = (
+  all.0,
+  grown_more q (n + 1) levels level all.1
+      (subst (λ (k : ℕ). IsGrown q k level) (let e : n + length (x ∷ levels) ≡ n + 1 + length levels = omega arith in e) grown),
+)
 
 -- these levels were read, and this is left behind them
 pub record HaveRead (q : Request) (text : List ℕ) (levels : List Level) (rest : List ℕ) : Type 0 where
@@ -44,7 +47,8 @@ none_read q text n begins at = record {
   grown = tt;
 }
 
-module _ (q : Request) (text : List ℕ) (begins : BeginsWithHead q text) (some : 0 < level_count q) (levels : List Level) (rest : List ℕ) (read : HaveRead q text levels rest) where
+module _ (q : Request) (text : List ℕ) (begins : BeginsWithHead q text) (some : 0 < level_count q) (levels : List Level)
+    (rest : List ℕ) (read : HaveRead q text levels rest) where
   listing : (listing : List ℕ) × IsListing q listing
   listing = listing_exists begins.asking q begins.stands
 
@@ -69,7 +73,11 @@ module _ (q : Request) (text : List ℕ) (begins : BeginsWithHead q text) (some 
         };
         grown = read.grown;
         whole = λ n. (
-          λ w. (w.at_least, (let below = whole_only q text read.entries rest read.are read.split listing.0 listing.1 fits n w in omega (arith, below, read.number))),
+          λ w. (
+            w.at_least,
+            (let below = whole_only q text read.entries rest read.are read.split listing.0 listing.1 fits n w in
+                omega (arith, below, read.number)),
+          ),
           λ both. whole_there q text read.entries rest read.are read.split n both.0 (omega (arith, both.1, read.number)),
         );
       }
@@ -84,10 +92,12 @@ module _ (q : Request) (text : List ℕ) (begins : BeginsWithHead q text) (some 
       record {
         listing = listing.0;
         is_listing = listing.1;
-        parts = λ b. parted_no_front (front ++ p.common) p.mine p.others p.parts (subst (λ (t : List ℕ). BeginsWith t ((front ++ p.common) ++ p.mine)) others (subst (BeginsWith listing.0) mine b));
+        parts = λ b. parted_no_front (front ++ p.common) p.mine p.others p.parts
+            (subst (λ (t : List ℕ). BeginsWith t ((front ++ p.common) ++ p.mine)) others (subst (BeginsWith listing.0) mine b));
         common = front ++ p.common;
         is_common = subst (λ (t : List ℕ). IsCommonFront t listing.0 (front ++ p.common)) (sym mine)
-            (subst (λ (t : List ℕ). IsCommonFront ((front ++ p.common) ++ p.mine) t (front ++ p.common)) (sym others) (parted_common (front ++ p.common) p.mine p.others p.parts));
+            (subst (λ (t : List ℕ). IsCommonFront ((front ++ p.common) ++ p.mine) t (front ++ p.common)) (sym others)
+            (parted_common (front ++ p.common) p.mine p.others p.parts));
         left_is = omega (arith, p.left_is, ap length mine, length-append (front ++ p.common) p.mine);
       }
 
@@ -100,7 +110,8 @@ module _ (q : Request) (text : List ℕ) (begins : BeginsWithHead q text) (some 
   -- ---- all levels were read
 
   pub all_read : length levels ≡ level_count q → BeginsWith end_text rest → AreWholeLevels q text levels
-  all_read all ends = cut_there (subst (λ (t : List ℕ). BeginsWith t rest) (sym (behind_all q read.entries listing.0 behind.0 behind.1 (read.number ∙ all))) ends)
+  all_read all ends = cut_there
+      (subst (λ (t : List ℕ). BeginsWith t rest) (sym (behind_all q read.entries listing.0 behind.0 behind.1 (read.number ∙ all))) ends)
       (record { none = λ x few entry at. absurd (omega (arith, read.number, all, few)) })
 
   pub parts_at_all : (left : ℕ) → length levels ≡ level_count q → PartsWith left rest end_text → PartsFromListing q text left

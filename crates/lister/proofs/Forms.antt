@@ -31,7 +31,8 @@ joined-push between x [] y = refl
 joined-push between x (x' ∷ xs) y = ap (λ (t : List ℕ). x ++ between ++ t) (joined-push between x' xs y) ∙ (simp append_assoc)
 
 -- one more text after others
-joined_more : (between : List ℕ) (g : ℕ → List ℕ) (n : ℕ) → 0 < n → joined between (map g (range_with_len 0 (n + 1))) ≡ joined between (map g (range_with_len 0 n)) ++ between ++ g n
+joined_more : (between : List ℕ) (g : ℕ → List ℕ) (n : ℕ) → 0 < n →
+    joined between (map g (range_with_len 0 (n + 1))) ≡ joined between (map g (range_with_len 0 n)) ++ between ++ g n
 joined_more between g zero l = absurd (omega arith)
 joined_more between g (suc n) l =
     let more = map-range_with_len_more g 0 (suc n) (suc n) (omega arith) in
@@ -43,14 +44,20 @@ map_twice f g [] = refl
 map_twice f g (x ∷ xs) = ap (λ ys. f (g x) ∷ ys) (map_twice f g xs)
 
 -- the text of a factor, from the words of its columns
-pub factor_from_words : {A : Type 0} (M : Rep) (f : ℕ) (word : A → List ℕ) (words : List A) → map word words ≡ map (λ j. column_word (column_of M f j)) (range_with_len 0 (size M)) → join_with_byte 32 (map word words) ≡ factor_text (columns_of_factor M f)
+pub factor_from_words : {A : Type 0} (M : Rep) (f : ℕ) (word : A → List ℕ) (words : List A) →
+    map word words ≡ map (λ j. column_word (column_of M f j)) (range_with_len 0 (size M)) →
+    join_with_byte 32 (map word words) ≡ factor_text (columns_of_factor M f)
 factor_from_words M f word words e = ap (join_with_byte 32) (e ∙ sym (map_twice column_word (column_of M f) (range_with_len 0 (size M))))
 
 -- one more factor
-pub factors_more : (between : List ℕ) (g : ℕ → List ℕ) (n : ℕ) (line new : List ℕ) → line ≡ joined between (map g (range_with_len 0 n)) → (n ≡ 0 → new ≡ line ++ g n) → (0 < n → new ≡ line ++ between ++ g n) → new ≡ joined between (map g (range_with_len 0 (n + 1)))
+pub factors_more : (between : List ℕ) (g : ℕ → List ℕ) (n : ℕ) (line new : List ℕ) →
+    line ≡ joined between (map g (range_with_len 0 n)) → (n ≡ 0 → new ≡ line ++ g n) → (0 < n → new ≡ line ++ between ++ g n) →
+    new ≡ joined between (map g (range_with_len 0 (n + 1)))
 factors_more between g zero line new e first later = first refl ∙ ap (λ (l : List ℕ). l ++ g 0) e
-factors_more between g (suc n) line new e first later = later (omega arith) ∙ ap (λ (l : List ℕ). l ++ between ++ g (suc n)) e ∙ sym (joined_more between g (suc n) (omega arith))
+factors_more between g (suc n) line new e first later = later (omega arith) ∙ ap (λ (l : List ℕ). l ++ between ++ g (suc n)) e
+    ∙ sym (joined_more between g (suc n) (omega arith))
 
 -- all factors
-pub factors_all : (M : Rep) (between : List ℕ) → joined between (map (λ f. factor_text (columns_of_factor M f)) (range_with_len 0 (count M))) ≡ joined between (map factor_text (columns_of M))
+pub factors_all : (M : Rep) (between : List ℕ) →
+    joined between (map (λ f. factor_text (columns_of_factor M f)) (range_with_len 0 (count M))) ≡ joined between (map factor_text (columns_of M))
 factors_all M between = ap (joined between) (sym (map_twice factor_text (columns_of_factor M) (range_with_len 0 (count M))))

@@ -23,7 +23,9 @@ pub one_text : (e : Statement) → text_of_statements (e ∷ []) ≡ entry_text 
 one_text e = append-nil (entry_text e)
 
 -- the lines of one more minor
-pub forbid_more : (items : List NamedMatroid) (i : ℕ) (d : NamedMatroid) → i < length items → text_of_statements (map Forbids (minors_of (take (i + 1) items))) ≡ text_of_statements (map Forbids (minors_of (take i items))) ++ entry_text (Forbids (named_by (slice_index_or items i d).spelling))
+pub forbid_more : (items : List NamedMatroid) (i : ℕ) (d : NamedMatroid) → i < length items →
+    text_of_statements (map Forbids (minors_of (take (i + 1) items))) ≡ text_of_statements
+    (map Forbids (minors_of (take i items))) ++ entry_text (Forbids (named_by (slice_index_or items i d).spelling))
 forbid_more items i d l =
     let item = slice_index_or items i d in
     ap (λ (xs : List NamedMatroid). text_of_statements (map Forbids (minors_of xs))) (take_more items i d l)
@@ -41,7 +43,8 @@ abbrev pub mode_entries : Mode → List Statement
 mode_entries mode = where_set (is_semilinear mode) (EquivalenceIs Semilinear)
 
 -- a title and the text of some entries, with those of more
-pub more_text : (title before after : List ℕ) (es fs : List Statement) → before ≡ title ++ text_of_statements es → after ≡ before ++ text_of_statements fs → after ≡ title ++ text_of_statements (es ++ fs)
+pub more_text : (title before after : List ℕ) (es fs : List Statement) → before ≡ title ++ text_of_statements es →
+    after ≡ before ++ text_of_statements fs → after ≡ title ++ text_of_statements (es ++ fs)
 more_text title before after es fs b a =
     a
     ∙ ap (λ (t : List ℕ). t ++ text_of_statements fs) b
@@ -49,7 +52,10 @@ more_text title before after es fs b a =
     ∙ ap (λ (t : List ℕ). title ++ t) (sym (text_append es fs))
 
 -- the line of a filter that is set, and none of one that isn't
-pub flag_text : (before after : List ℕ) (set asked : Bool) (e : Statement) (word : List ℕ) → spelling e ≡ codes "filter" ∷ word ∷ [] → set ≡ asked → (IsTrue set → after ≡ before ++ line_of_words (codes "filter" ∷ word ∷ [])) → (set ≡ false → after ≡ before) → after ≡ before ++ text_of_statements (where_set asked e)
+pub flag_text : (before after : List ℕ) (set asked : Bool) (e : Statement) (word : List ℕ) →
+    spelling e ≡ codes "filter" ∷ word ∷ [] → set ≡ asked →
+    (IsTrue set → after ≡ before ++ line_of_words (codes "filter" ∷ word ∷ [])) → (set ≡ false → after ≡ before) →
+    after ≡ before ++ text_of_statements (where_set asked e)
 flag_text before after set true e word spelled is there none =
     there is ∙ ap (λ (t : List ℕ). before ++ t) (ap line_of_words (sym spelled) ∙ sym (one_text e))
 flag_text before after set false e word spelled is there none = none is ∙ sym (append-nil before)

@@ -10,7 +10,8 @@ use Rattle.formats.proofs.Unique.{order_small}
 use Rattle.lister.proofs.Forms.{HaveLetters}
 
 -- a minor is named by a word and maybe more
-pub joined_after : (first : List ℕ) (minor : MinorName) → line_of_words (first ∷ join_with_byte 32 (minor_words minor) ∷ []) ≡ line_of_words (first ∷ minor_words minor)
+pub joined_after : (first : List ℕ) (minor : MinorName) →
+    line_of_words (first ∷ join_with_byte 32 (minor_words minor) ∷ []) ≡ line_of_words (first ∷ minor_words minor)
 joined_after first (Uniform rank size) = refl
 joined_after first Fano = refl
 joined_after first FanoDual = refl
@@ -26,16 +27,19 @@ join_push x (x' ∷ xs) y = ap (λ (t : List ℕ). x ++ 32 ∷ t) (join_push x' 
 
 -- one column more
 pub column_more : (first second : List ℕ) (columns : List (ArrayVec ℕ)) (i : ℕ) (d : ArrayVec ℕ) → i < length columns
-    → join_with_byte 32 (first ∷ second ∷ map column_word (lists (take (i + 1) columns))) ≡ join_with_byte 32 (first ∷ second ∷ map column_word (lists (take i columns))) ++ 32 ∷ column_word (slice_index_or columns i d).items
+    → join_with_byte 32 (first ∷ second ∷ map column_word (lists (take (i + 1) columns))) ≡ join_with_byte 32
+    (first ∷ second ∷ map column_word (lists (take i columns))) ++ 32 ∷ column_word (slice_index_or columns i d).items
 column_more first second columns i d l =
     let column = slice_index_or columns i d in
     ap (λ (cs : List (ArrayVec ℕ)). join_with_byte 32 (first ∷ second ∷ map column_word (lists cs))) (take_more columns i d l)
-    ∙ ap (λ (cs : List (List ℕ)). join_with_byte 32 (first ∷ second ∷ map column_word cs)) (map-append (λ (c : ArrayVec ℕ). c.items) (take i columns) (column ∷ []))
+    ∙ ap (λ (cs : List (List ℕ)). join_with_byte 32 (first ∷ second ∷ map column_word cs))
+    (map-append (λ (c : ArrayVec ℕ). c.items) (take i columns) (column ∷ []))
     ∙ ap (λ (ws : List (List ℕ)). join_with_byte 32 (first ∷ second ∷ ws)) (map-append column_word (lists (take i columns)) (column.items ∷ []))
     ∙ join_push first (second ∷ map column_word (lists (take i columns))) (column_word column.items)
 
 -- what holds of each column
-column_at : (P : List ℕ → Type 0) (columns : List (ArrayVec ℕ)) → AllByRecursion P (lists columns) → (i : ℕ) (d : ArrayVec ℕ) → i < length columns → P (slice_index_or columns i d).items
+column_at : (P : List ℕ → Type 0) (columns : List (ArrayVec ℕ)) → AllByRecursion P (lists columns) → (i : ℕ) (d : ArrayVec ℕ) →
+    i < length columns → P (slice_index_or columns i d).items
 column_at P [] all i d l = absurd (omega arith)
 column_at P (c ∷ columns) all zero d l = all.0
 column_at P (c ∷ columns) all (suc i) d l = column_at P columns all.1 i d (omega arith)

@@ -26,7 +26,8 @@ range_more a (suc n) =
     ∙ ap (λ (ns : List ℕ). a ∷ ns) (range_more (a + 1) n ∙ ap (λ k. range_with_len (a + 1) n ++ k ∷ []) e)
 
 -- one more level after the first ones
-more_first_levels : (q : Request) (levels : List LevelEntry) (next : LevelEntry) → AreFirstLevels q levels → IsLevelEntry q next → next.size ≡ q.rank + length levels → length levels < level_count q → AreFirstLevels q (levels ++ next ∷ [])
+more_first_levels : (q : Request) (levels : List LevelEntry) (next : LevelEntry) → AreFirstLevels q levels → IsLevelEntry q next →
+    next.size ≡ q.rank + length levels → length levels < level_count q → AreFirstLevels q (levels ++ next ∷ [])
 more_first_levels q levels next are entry at room = record {
   sizes = map-append (λ l. l.size) levels (next ∷ [])
       ∙ ap (λ (ns : List ℕ). ns ++ next.size ∷ []) are.sizes
@@ -49,11 +50,13 @@ count_blocks q [] = refl
 count_blocks q (x ∷ levels) = omega (arith, length-map levels (level_pieces q.print))
 
 -- with all levels there is the end line
-with_end : (q : Request) (levels : List LevelEntry) → 0 < length levels → length levels ≡ level_count q → listing_blocks q levels ≡ level_blocks q levels ++ (end_text ∷ []) ∷ []
+with_end : (q : Request) (levels : List LevelEntry) → 0 < length levels → length levels ≡ level_count q →
+    listing_blocks q levels ≡ level_blocks q levels ++ (end_text ∷ []) ∷ []
 with_end q [] some all = absurd (omega arith)
 with_end q (x ∷ levels) some all = blocks_of_all q x levels all
 
-text_with_end : (q : Request) (levels : List LevelEntry) → 0 < length levels → length levels ≡ level_count q → text_of_blocks (listing_blocks q levels) ≡ text_of_blocks (level_blocks q levels) ++ end_text
+text_with_end : (q : Request) (levels : List LevelEntry) → 0 < length levels → length levels ≡ level_count q →
+    text_of_blocks (listing_blocks q levels) ≡ text_of_blocks (level_blocks q levels) ++ end_text
 text_with_end q levels some all =
     ap text_of_blocks (with_end q levels some all)
     ∙ text-append (level_blocks q levels) ((end_text ∷ []) ∷ [])
@@ -66,7 +69,8 @@ pub record HaveBegun (q : Request) (size : ℕ) (old new : Option (List ℕ)) : 
   pub last : size + 1 ≡ q.rank + length levels
   pub gained : Appends old new (text_of_blocks (level_blocks q levels))
 
-told_behind : (q : Request) (n m : ℕ) (front other : List ℕ) (Part : List ℕ → Type 0) → n ≡ m → front ≡ other → TellsLevel q n front Part → TellsLevel q m other Part
+told_behind : (q : Request) (n m : ℕ) (front other : List ℕ) (Part : List ℕ → Type 0) → n ≡ m → front ≡ other →
+    TellsLevel q n front Part → TellsLevel q m other Part
 told_behind q n m front other Part sizes fronts told = subst (λ k. TellsLevel q k other Part) sizes (subst (λ (f : List ℕ). TellsLevel q n f Part) fronts told)
 
 module _ (q : Request) (old new : Option (List ℕ)) (room : 0 < level_count q) where
@@ -116,7 +120,8 @@ module _ (q : Request) (old new : Option (List ℕ)) (room : 0 < level_count q) 
         }
 
     -- it was not written whole
-    pub first_stopped : (why : Stop) → (why ≡ Failed → TellsLevel q size front (AppendsFront old new)) → (why ≡ NoMemory → new ≡ old) → Gains old new (IsLess why q 0)
+    pub first_stopped : (why : Stop) → (why ≡ Failed → TellsLevel q size front (AppendsFront old new)) →
+        (why ≡ NoMemory → new ≡ old) → Gains old new (IsLess why q 0)
     first_stopped Failed failed no_memory = first_cut (told_behind q size q.rank front (head_text q) (AppendsFront old new) at is (failed refl))
     first_stopped NoMemory failed no_memory = subst (λ (o : Option (List ℕ)). Gains old o (IsListingUpTo q 0)) (sym (no_memory refl)) none_begun
 
@@ -143,11 +148,13 @@ module _ (q : Request) (size : ℕ) (old mid : Option (List ℕ)) (begun : HaveB
       next_levels : (Part : List ℕ → Type 0) (told : TellsLevel q (size + 1) [] Part) → AreFirstLevels q (begun.levels ++ told.entry ∷ [])
       next_levels Part told = more_first_levels q begun.levels told.entry begun.are told.is_entry (told.at ∙ begun.last) (omega (arith, begun.last))
 
-      next_blocks : (levels : List LevelEntry) (next : LevelEntry) → 0 < length levels → level_blocks q (levels ++ next ∷ []) ≡ level_blocks q levels ++ level_pieces q.print next ∷ []
+      next_blocks : (levels : List LevelEntry) (next : LevelEntry) → 0 < length levels →
+          level_blocks q (levels ++ next ∷ []) ≡ level_blocks q levels ++ level_pieces q.print next ∷ []
       next_blocks [] next l = absurd (omega arith)
       next_blocks (x ∷ levels) next l = more_levels q x levels (next ∷ [])
 
-      blocks_behind : (levels : List LevelEntry) → 0 < length levels → (after : List (List (List ℕ))) × (listing_blocks q levels ≡ level_blocks q levels ++ after)
+      blocks_behind : (levels : List LevelEntry) → 0 < length levels → (after : List (List (List ℕ)))
+          × (listing_blocks q levels ≡ level_blocks q levels ++ after)
       blocks_behind [] l = absurd (omega arith)
       blocks_behind (x ∷ levels) l = (end_blocks _, refl)
 
@@ -160,7 +167,8 @@ module _ (q : Request) (size : ℕ) (old mid : Option (List ℕ)) (begun : HaveB
         gained = subst (λ (t : List ℕ). Appends old new t) (
             sym (ap text_of_blocks (next_blocks begun.levels told.entry some_levels)
             ∙ text-append (level_blocks q begun.levels) (level_pieces q.print told.entry ∷ [])
-            ∙ ap (λ (t : List ℕ). text_of_blocks (level_blocks q begun.levels) ++ t) (append-nil (concat (level_pieces q.print told.entry))))) (appends_more old mid new _ _ begun.gained told.part);
+            ∙ ap (λ (t : List ℕ). text_of_blocks (level_blocks q begun.levels) ++ t)
+            (append-nil (concat (level_pieces q.print told.entry))))) (appends_more old mid new _ _ begun.gained told.part);
       }
 
       next_cut : (new : Option (List ℕ)) → TellsLevel q (size + 1) [] (AppendsFront mid new) → Gains old new (IsListingCutOff q (size + 1 - q.rank))
@@ -189,9 +197,11 @@ module _ (q : Request) (size : ℕ) (old mid : Option (List ℕ)) (begun : HaveB
       }
 
       -- the next level was not written whole
-      pub next_stopped : (new : Option (List ℕ)) (why : Stop) → (why ≡ Failed → TellsLevel q (size + 1) [] (AppendsFront mid new)) → (why ≡ NoMemory → new ≡ mid) → Gains old new (IsLess why q (size + 1 - q.rank))
+      pub next_stopped : (new : Option (List ℕ)) (why : Stop) → (why ≡ Failed → TellsLevel q (size + 1) [] (AppendsFront mid new)) →
+          (why ≡ NoMemory → new ≡ mid) → Gains old new (IsLess why q (size + 1 - q.rank))
       next_stopped new Failed failed no_memory = next_cut new (failed refl)
-      next_stopped new NoMemory failed no_memory = subst (λ (o : Option (List ℕ)). Gains old o (IsListingUpTo q (size + 1 - q.rank))) (sym (no_memory refl)) stopped
+      next_stopped new NoMemory failed no_memory =
+          subst (λ (o : Option (List ℕ)). Gains old o (IsListingUpTo q (size + 1 - q.rank))) (sym (no_memory refl)) stopped
 
     -- all levels were written
     pub all_begun : size ≡ q.size → Gains old mid (λ written. IsListing q (written ++ end_text))
@@ -234,7 +244,9 @@ module _ (q : Request) (old mid new : Option (List ℕ)) (begun : Gains old mid 
         rest = failed.rest;
         cut = append-nil end_text ∙ failed.split;
         proper = failed.proper;
-        is = ap (λ (t : List ℕ). t ++ failed.front) (append_cancel_right begun.written (text_of_blocks (level_blocks q levels)) end_text (begun.part.is ∙ text_with_end q levels (omega (arith, are.are_all)) are.are_all));
+        is = ap (λ (t : List ℕ). t ++ failed.front)
+            (append_cancel_right begun.written (text_of_blocks (level_blocks q levels)) end_text
+            (begun.part.is ∙ text_with_end q levels (omega (arith, are.are_all)) are.are_all));
       };
     };
   }

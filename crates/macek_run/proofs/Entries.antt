@@ -21,7 +21,8 @@ abbrev pub entry_of : ℕ → List Rep → List Rep → ℕ → LevelEntry
 entry_of n forms shown tried = record { size = n; classes = length forms; listed = map columns_of shown; tried = tried }
 
 -- a request that forbids these matroids, and wants this one
-module _ (q : Request) (forbidden : List Matroid) (given : AreGivenBy (map given_as q.forbid) forbidden) (wanted : Option Matroid) (is_wanted : AreGivenBy (map given_as (option_to_list q.has)) (option_to_list wanted)) where
+module _ (q : Request) (forbidden : List Matroid) (given : AreGivenBy (map given_as q.forbid) forbidden) (wanted : Option Matroid)
+    (is_wanted : AreGivenBy (map given_as (option_to_list q.has)) (option_to_list wanted)) where
   grown : Family
   grown = record { factors = q.factors; rank = q.rank; mode = q.mode; forbidden = forbidden }
 
@@ -48,7 +49,8 @@ module _ (q : Request) (forbidden : List Matroid) (given : AreGivenBy (map given
   }
 
   -- a level that was grown, the forms that are listed and its tries are such an entry
-  is_entry : (n : ℕ) (forms shown : List Rep) (tried : ℕ) → IsLevelOf q n forms → AreTriesOf q n tried → AreListed q forms shown → IsLevelEntry q (entry_of n forms shown tried)
+  is_entry : (n : ℕ) (forms shown : List Rep) (tried : ℕ) → IsLevelOf q n forms → AreTriesOf q n tried → AreListed q forms shown →
+      IsLevelEntry q (entry_of n forms shown tried)
   is_entry n forms shown tried level tries listed = record {
     family = grown;
     grows = grows;

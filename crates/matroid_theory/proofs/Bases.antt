@@ -30,7 +30,8 @@ search_below (suc n) P Q h =
 
 pub size_most : (n : ℕ) (S : ℕ → Bool) → size_below n S ≤ n
 size_most zero S = omega arith
-size_most (suc n) S = let h : size_below n S ≤ n = size_most n S in elim (S n) as (λ b. size_below n S + cond b 1 0 ≤ suc n) [ true ↦ omega arith | false ↦ omega arith ]
+size_most (suc n) S = let h : size_below n S ≤ n = size_most n S in
+    elim (S n) as (λ b. size_below n S + cond b 1 0 ≤ suc n) [ true ↦ omega arith | false ↦ omega arith ]
 
 pub size_none : (n : ℕ) → size_below n (λ _. false) ≡ 0
 size_none zero = refl
@@ -69,7 +70,8 @@ pick zero S l = 0
 pick (suc n) S l = cond (S n) (cond (l == size_below n S) n (pick n S l)) (pick n S l)
 
 picked_last : (n : ℕ) (S : ℕ → Bool) → S n ≡ true → pick (suc n) S (size_below n S) ≡ n
-picked_last n S t = ap (λ b. cond b (cond (size_below n S == size_below n S) n (pick n S (size_below n S))) (pick n S (size_below n S))) t ∙ ap (λ b. cond b n (pick n S (size_below n S))) (same_number (size_below n S))
+picked_last n S t = ap (λ b. cond b (cond (size_below n S == size_below n S) n (pick n S (size_below n S)))
+    (pick n S (size_below n S))) t ∙ ap (λ b. cond b n (pick n S (size_below n S))) (same_number (size_below n S))
 
 picked_before : (n : ℕ) (S : ℕ → Bool) (l : ℕ) → l < size_below n S → pick (suc n) S l ≡ pick n S l
 picked_before n S l m = elim (S n) as (λ b. cond b (cond (l == size_below n S) n (pick n S l)) (pick n S l) ≡ pick n S l) [
@@ -78,7 +80,8 @@ picked_before n S l m = elim (S n) as (λ b. cond b (cond (l == size_below n S) 
 ]
 
 -- what holds of each member and its place holds of those picked
-picked_each : (n : ℕ) (S : ℕ → Bool) (P : ℕ → ℕ → Type 0) → ((j : ℕ) → j < n → S j ≡ true → P (size_below j S) j) → (l : ℕ) → l < size_below n S → P l (pick n S l)
+picked_each : (n : ℕ) (S : ℕ → Bool) (P : ℕ → ℕ → Type 0) → ((j : ℕ) → j < n → S j ≡ true → P (size_below j S) j) → (l : ℕ) →
+    l < size_below n S → P l (pick n S l)
 picked_each zero S P h l m = absurd (omega arith)
 picked_each (suc n) S P h l m =
     elim (cases_lt l (size_below n S)) [
@@ -115,7 +118,8 @@ rank_unique q r n A S k l h g =
     omega arith
 
 -- the same parts, for sets with the same numbers
-pub part-same : (q r n : ℕ) (A : Matrix) (S : ℕ → Bool) (k : ℕ) (I J : ℕ → Bool) → ((j : ℕ) → j < n → I j ≡ J j) → IsIndependentPart q r n A S k I → IsIndependentPart q r n A S k J
+pub part-same : (q r n : ℕ) (A : Matrix) (S : ℕ → Bool) (k : ℕ) (I J : ℕ → Bool) → ((j : ℕ) → j < n → I j ≡ J j) →
+    IsIndependentPart q r n A S k I → IsIndependentPart q r n A S k J
 part-same q r n A S k I J h p = record {
   within = λ j l t. p.within j l (h j l ∙ t);
   elements = sym (size-same n I J h) ∙ p.elements;
@@ -126,8 +130,10 @@ part-same q r n A S k I J h p = record {
 pub empty_independent : (q r n : ℕ) (A : Matrix) → IsIndependent q r n A (λ _. false)
 empty_independent q r n A = record { only_zero = λ a c z j l. c.outside j l refl }
 
-pub smaller_independent : (q r n : ℕ) (A : Matrix) (S T : ℕ → Bool) → ((j : ℕ) → j < n → T j ≡ false → S j ≡ false) → IsIndependent q r n A T → IsIndependent q r n A S
-smaller_independent q r n A S T down h = record { only_zero = λ a c z. h.only_zero a (record { codes = c.codes; outside = λ j l f. c.outside j l (down j l f) }) z }
+pub smaller_independent : (q r n : ℕ) (A : Matrix) (S T : ℕ → Bool) → ((j : ℕ) → j < n → T j ≡ false → S j ≡ false) →
+    IsIndependent q r n A T → IsIndependent q r n A S
+smaller_independent q r n A S T down h =
+    record { only_zero = λ a c z. h.only_zero a (record { codes = c.codes; outside = λ j l f. c.outside j l (down j l f) }) z }
 
 module _ (q : ℕ) (F : IsField q) (r n : ℕ) (A : Matrix) (codes : (i j : ℕ) → i < r → j < n → A i j < q) where
   -- whether a set is an independent part of k elements
@@ -153,7 +159,8 @@ module _ (q : ℕ) (F : IsField q) (r n : ℕ) (A : Matrix) (codes : (i j : ℕ)
   -- there is an independent part of k elements, or there is none
   some_part : (S : ℕ → Bool) (k : ℕ) → ((I : ℕ → Bool) × IsIndependentPart q r n A S k I) ⊎ ((I : ℕ → Bool) → ¬ (IsIndependentPart q r n A S k I))
   some_part S k =
-      elim (search_below (2 ^ n) (λ X. IsIndependentPart q r n A S k (members X)) (λ X. ¬ (IsIndependentPart q r n A S k (members X))) (λ X _. part_decided S k (members X))) [
+      elim (search_below (2 ^ n) (λ X. IsIndependentPart q r n A S k (members X))
+      (λ X. ¬ (IsIndependentPart q r n A S k (members X))) (λ X _. part_decided S k (members X))) [
         | inl w ↦ inl (members w.0, w.2)
         | inr y ↦ inr (λ I p. y (mask n I) (mask-below n I) (part-same q r n A S k I (members (mask n I)) (λ j l. sym (members-mask n I j l)) p))
       ]
@@ -210,7 +217,8 @@ module _ (q : ℕ) (F : IsField q) (r n : ℕ) (A : Matrix) (codes : (i j : ℕ)
     x,
     record { codes = λ j _. F.plus_below _ _; outside = out },
     (λ i m. combination_plus q F n A (λ j. unit j e) (λ j. times q t (w.a j)) i
-        ∙ (λ k. plus q (times_unit_column q F n A i e l (codes i e m l) k) ((combination-scaled q F n A t w.a i ∙ ap (times q t) (w.zero_combination i m) ∙ times_zero q F t) k))
+        ∙ (λ k. plus q (times_unit_column q F n A i e l (codes i e m l) k)
+        ((combination-scaled q F n A t w.a i ∙ ap (times q t) (w.zero_combination i m) ∙ times_zero q F t) k))
         ∙ plus_zero_right q F (A i e) (codes i e m l)),
   )
     where
@@ -224,7 +232,8 @@ module _ (q : ℕ) (F : IsField q) (r n : ℕ) (A : Matrix) (codes : (i j : ℕ)
       out j m f = elim (cases_eq j e) [
         | inl i ↦ ap x i ∙ ap (λ b. plus q (cond b 1 0) (times q t (w.a e))) (same_number e)
             ∙ cleared_entry q F 1 (w.a e) F.two (w.coefficients.codes e l) (relation_at I e l h w)
-        | inr i ↦ (λ k. plus q (cond (other_number j e i k) 1 0) ((ap (times q t) (w.coefficients.outside j m (with_other e I j i ∙ f)) ∙ times_zero q F t) k)) ∙ F.plus_zero 0 (zero_below q F)
+        | inr i ↦ (λ k. plus q (cond (other_number j e i k) 1 0)
+            ((ap (times q t) (w.coefficients.outside j m (with_other e I j i ∙ f)) ∙ times_zero q F t) k)) ∙ F.plus_zero 0 (zero_below q F)
       ]
 
   -- independent columns that are all combinations of the columns in I are at most as many: X e has the coefficients of column e
@@ -239,9 +248,13 @@ module _ (q : ℕ) (F : IsField q) (r n : ℕ) (A : Matrix) (codes : (i j : ℕ)
     at_column l m = let p : Picks n J (pick n J) = pick_picks n J in X_in (pick n J l) (p.below l m) (p.member l m)
 
     -- A_J a = A (X a), and X a is 0
-    picked_combination : (a : ℕ → ℕ) → ((i : ℕ) → i < size_below n I → combination q (size_below n J) (λ i l. coefficients (pick n I i) l) a i ≡ 0) → (i : ℕ) → i < r → combination q (size_below n J) (λ i l. A i (pick n J l)) a i ≡ 0
+    picked_combination : (a : ℕ → ℕ) →
+        ((i : ℕ) → i < size_below n I → combination q (size_below n J) (λ i l. coefficients (pick n I i) l) a i ≡ 0) → (i : ℕ) →
+        i < r → combination q (size_below n J) (λ i l. A i (pick n J l)) a i ≡ 0
     picked_combination a z i m =
-        sum_same q F (size_below n J) (λ l. times q (A i (pick n J l)) (a l)) (λ l. times q (matrix_product q n A coefficients i l) (a l)) (λ l o. ap (λ y. times q y (a l)) (sym (X_is (pick n J l) (p.below l o) (p.member l o) i m)))
+        sum_same q F (size_below n J) (λ l. times q (A i (pick n J l)) (a l))
+        (λ l. times q (matrix_product q n A coefficients i l) (a l))
+        (λ l o. ap (λ y. times q y (a l)) (sym (X_is (pick n J l) (p.below l o) (p.member l o) i m)))
         ∙ combination-product q F (size_below n J) n A coefficients a i
         ∙ combination_zero q F n A (combination q (size_below n J) coefficients a) i row
       where
@@ -254,12 +267,14 @@ module _ (q : ℕ) (F : IsField q) (r n : ℕ) (A : Matrix) (codes : (i j : ℕ)
         row : (k : ℕ) → k < n → combination q (size_below n J) coefficients a k ≡ 0
         row k o = elim (cases_Bool (I k)) [
           | inl t ↦ ap (combination q (size_below n J) coefficients a) (sym (c.place k o t)) ∙ z (size_below k I) (size_grows k n I o t)
-          | inr f ↦ sum_same q F (size_below n J) (λ l. times q (coefficients k l) (a l)) (λ _. 0) (λ l u. ap (λ y. times q y (a l)) ((at_column l u).outside k o f) ∙ zero_times q F (a l)) ∙ sum_zero q F (size_below n J)
+          | inr f ↦ sum_same q F (size_below n J) (λ l. times q (coefficients k l) (a l)) (λ _. 0)
+              (λ l u. ap (λ y. times q y (a l)) ((at_column l u).outside k o f) ∙ zero_times q F (a l)) ∙ sum_zero q F (size_below n J)
         ]
 
     combinations_bound : size_below n J ≤ size_below n I
     combinations_bound =
-        independent_bound q F (size_below n J) (size_below n I) (λ i l. coefficients (pick n I i) l) (λ i l o u. (at_column l u).codes (pick n I i) ((pick_picks n I).below i o))
+        independent_bound q F (size_below n J) (size_below n I) (λ i l. coefficients (pick n I i) l)
+        (λ i l o u. (at_column l u).codes (pick n I i) ((pick_picks n I).below i o))
         (record { only_zero = λ a c z. (set_independent q F J (pick n J) r n A (pick_picks n J) h).only_zero a c (picked_combination a z) })
 
   spanned_bound : (I J : ℕ → Bool) → IsIndependent q r n A J → ((e : ℕ) → e < n → J e ≡ true → Spanned I e) → size_below n J ≤ size_below n I
@@ -295,7 +310,8 @@ module _ (q : ℕ) (F : IsField q) (r n : ℕ) (A : Matrix) (codes : (i j : ℕ)
           ]
 
   -- (B2): of two independent sets within S of one size, the first can have an element exchanged for one of the second
-  pub exchange : (S : ℕ → Bool) (k : ℕ) (B D : ℕ → Bool) → IsIndependentPart q r n A S k B → IsIndependentPart q r n A S k D → (x : ℕ) → x < n → B x ≡ true → D x ≡ false
+  pub exchange : (S : ℕ → Bool) (k : ℕ) (B D : ℕ → Bool) → IsIndependentPart q r n A S k B → IsIndependentPart q r n A S k D →
+      (x : ℕ) → x < n → B x ≡ true → D x ≡ false
       → (y : ℕ) × (y < n) × (D y ≡ true) × (B y ≡ false) × IsIndependentPart q r n A S k (with_element y (but x B))
   exchange S k B D b d x l t f =
       let s : size_below n (but x B) + 1 ≡ size_below n B = size_but x n B l t in
@@ -332,4 +348,5 @@ module _ (q : ℕ) (F : IsField q) (r n : ℕ) (A : Matrix) (codes : (i j : ℕ)
   -- independent columns in a set are at most as many as the rows
   pub set_bound : (S : ℕ → Bool) → IsIndependent q r n A S → size_below n S ≤ r
   set_bound S h =
-      independent_bound q F (size_below n S) r (λ i l. A i (pick n S l)) (λ i l m o. codes i (pick n S l) m ((pick_picks n S).below l o)) (set_independent q F S (pick n S) r n A (pick_picks n S) h)
+      independent_bound q F (size_below n S) r (λ i l. A i (pick n S l))
+      (λ i l m o. codes i (pick n S l) m ((pick_picks n S).below l o)) (set_independent q F S (pick n S) r n A (pick_picks n S) h)

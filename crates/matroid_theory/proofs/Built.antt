@@ -28,7 +28,9 @@ others S j = not (S j)
 
 size_both : (n : ℕ) (S : ℕ → Bool) → size_below n S + size_below n (others S) ≡ n
 size_both zero S = refl
-size_both (suc n) S = let h : size_below n S + size_below n (others S) ≡ n = size_both n S in elim (S n) as (λ b. (size_below n S + cond b 1 0) + (size_below n (others S) + cond (not b) 1 0) ≡ suc n) [ true ↦ omega arith | false ↦ omega arith ]
+size_both (suc n) S = let h : size_below n S + size_below n (others S) ≡ n = size_both n S in
+    elim (S n) as (λ b. (size_below n S + cond b 1 0) + (size_below n (others S) + cond (not b) 1 0) ≡ suc n)
+    [ true ↦ omega arith | false ↦ omega arith ]
 
 abbrev members_first : ℕ → (ℕ → Bool) → ℕ → ℕ
 members_first n S j = cond (nat_lt j (size_below n S)) (pick n S j) (pick n (others S) (j - size_below n S))
@@ -59,8 +61,10 @@ module _ (n : ℕ) (S : ℕ → Bool) where
       | inr g ↦ subst (λ (x : ℕ). x < n) (sym (other_at j g)) (let P = pick_picks n (others S) in P.below (j - size_below n S) (past j l g))
     ];
     inverse_below = λ x l. elim (cases_Bool (S x)) [
-      | inl t ↦ (let h : size_below x S < size_below n S = size_grows x n S l t in let k : size_below n S ≤ n = size_most n S in subst (λ (y : ℕ). y < n) (sym (place_in x t)) (omega arith))
-      | inr f ↦ (let h : size_below x (others S) < size_below n (others S) = size_grows x n (others S) l (ap not f) in let k : size_below n S + size_below n (others S) ≡ n = size_both n S in
+      | inl t ↦ (let h : size_below x S < size_below n S = size_grows x n S l t in let k : size_below n S ≤ n = size_most n S in
+          subst (λ (y : ℕ). y < n) (sym (place_in x t)) (omega arith))
+      | inr f ↦ (let h : size_below x (others S) < size_below n (others S) = size_grows x n (others S) l (ap not f) in
+          let k : size_below n S + size_below n (others S) ≡ n = size_both n S in
           subst (λ (y : ℕ). y < n) (sym (place_out x f)) (omega arith))
     ];
     there = λ j l. elim (cases_lt j (size_below n S)) [
@@ -72,7 +76,8 @@ module _ (n : ℕ) (S : ℕ → Bool) where
     back = λ x l. elim (cases_Bool (S x)) [
       | inl t ↦ (let P = pick_picks n S in ap (members_first n S) (place_in x t) ∙ member_at (size_below x S) (size_grows x n S l t) ∙ P.place x l t)
       | inr f ↦ (let P = pick_picks n (others S) in let e : size_below n S + size_below x (others S) - size_below n S ≡ size_below x (others S) = omega arith in
-          ap (members_first n S) (place_out x f) ∙ other_at (size_below n S + size_below x (others S)) (omega arith) ∙ ap (pick n (others S)) e ∙ P.place x l (ap not f))
+          ap (members_first n S) (place_out x f) ∙ other_at (size_below n S + size_below x (others S)) (omega arith)
+          ∙ ap (pick n (others S)) e ∙ P.place x l (ap not f))
     ];
   }
 
@@ -104,7 +109,8 @@ module _ (S : Shape) (B : ℕ → Matrix) where
       let b : i * length S.factors + f < length S.factors * S.rank = mul-add-lt i (length S.factors) f S.rank m l in
       let b' : i * length S.factors + f < S.rank * length S.factors = omega arith in
       ap (λ (c : List ℕ). slice_index c (i * length S.factors + f)) (column_built j n)
-      ∙ get_or-map-range_with_len (λ e. B (e % length S.factors) (e / length S.factors) j) 0 (S.rank * length S.factors) (i * length S.factors + f) (i * length S.factors + f) 0 b' (omega arith)
+      ∙ get_or-map-range_with_len (λ e. B (e % length S.factors) (e / length S.factors) j) 0 (S.rank * length S.factors)
+      (i * length S.factors + f) (i * length S.factors + f) 0 b' (omega arith)
       ∙ (λ t. B (mod-mul-add i (length S.factors) f l t) (div-mul-add i (length S.factors) f l t) j)
 
 -- ---- an inverse with its rows and columns scaled
@@ -125,14 +131,16 @@ module _ (q : ℕ) (F : IsField q) (r : ℕ) (A H : Matrix) (s : ℕ → ℕ) (c
             ∙ ap (times q (inverse q (s i))) (F.times_one (s j) (codes j m)) ∙ ap (λ x. times q (inverse q (s x)) (s j)) e
             ∙ F.times_comm (inverse q (s j)) (s j) ∙ F.times_inverse (s j) (codes j m) (nonzero j m)
             ∙ sym (ap (λ b. cond b 1 0) (ap (λ x. x == j) e ∙ same_number j))
-        | inr ne ↦ ap (λ b. times q (inverse q (s i)) (times q (cond b 1 0) (s j))) (other_number i j ne) ∙ ap (times q (inverse q (s i))) (zero_times q F (s j)) ∙ times_zero q F (inverse q (s i))
+        | inr ne ↦ ap (λ b. times q (inverse q (s i)) (times q (cond b 1 0) (s j))) (other_number i j ne)
+            ∙ ap (times q (inverse q (s i))) (zero_times q F (s j)) ∙ times_zero q F (inverse q (s i))
             ∙ sym (ap (λ b. cond b 1 0) (other_number i j ne))
       ]
 
   scaled_inverse : AreInverse q r scaled_rows scaled_back
   scaled_inverse = record {
     right = λ i j l m.
-        sum_same q F r (λ k. times q (times q (inverse q (s i)) (H i k)) (times q (A k j) (s j))) (λ k. times q (inverse q (s i)) (times q (times q (H i k) (A k j)) (s j))) (λ k _.
+        sum_same q F r (λ k. times q (times q (inverse q (s i)) (H i k)) (times q (A k j) (s j)))
+        (λ k. times q (inverse q (s i)) (times q (times q (H i k) (A k j)) (s j))) (λ k _.
         F.times_assoc (inverse q (s i)) (H i k) (times q (A k j) (s j)) ∙ ap (times q (inverse q (s i))) (sym (F.times_assoc (H i k) (A k j) (s j))))
         ∙ sum_times q F r (inverse q (s i)) (λ k. times q (times q (H i k) (A k j)) (s j))
         ∙ ap (times q (inverse q (s i))) (sum_times_right q F r (s j) (λ k. times q (H i k) (A k j)) ∙ ap (λ x. times q x (s j)) (v.left i j l m))
@@ -140,7 +148,8 @@ module _ (q : ℕ) (F : IsField q) (r : ℕ) (A H : Matrix) (s : ℕ → ℕ) (c
     left = λ i j l m.
         sum_same q F r (λ k. times q (times q (A i k) (s k)) (times q (inverse q (s k)) (H k j))) (λ k. times q (A i k) (H k j)) (λ k k'.
         F.times_assoc (A i k) (s k) (times q (inverse q (s k)) (H k j))
-        ∙ ap (times q (A i k)) (sym (F.times_assoc (s k) (inverse q (s k)) (H k j)) ∙ ap (λ x. times q x (H k j)) (F.times_inverse (s k) (codes k k') (nonzero k k')) ∙ F.times_one (H k j) (H_code k j k' m)))
+        ∙ ap (times q (A i k)) (sym (F.times_assoc (s k) (inverse q (s k)) (H k j))
+        ∙ ap (λ x. times q x (H k j)) (F.times_inverse (s k) (codes k k') (nonzero k k')) ∙ F.times_one (H k j) (H_code k j k' m)))
         ∙ v.right i j l m;
   }
 
@@ -149,7 +158,8 @@ module _ (q : ℕ) (F : IsField q) (r : ℕ) (A H : Matrix) (s : ℕ → ℕ) (c
   scaled_entry i j l m =
       F.times_comm (s j) (combination q r scaled_rows (λ k. A k j) i)
       ∙ sym (sum_times_right q F r (s j) (λ k. times q (scaled_rows i k) (A k j)))
-      ∙ sum_same q F r (λ k. times q (times q (scaled_rows i k) (A k j)) (s j)) (λ k. times q (scaled_rows i k) (scaled_back k j)) (λ k _. F.times_assoc (scaled_rows i k) (A k j) (s j))
+      ∙ sum_same q F r (λ k. times q (times q (scaled_rows i k) (A k j)) (s j)) (λ k. times q (scaled_rows i k) (scaled_back k j))
+      (λ k _. F.times_assoc (scaled_rows i k) (A k j) (s j))
       ∙ (let w = scaled_inverse in w.right i j l m)
 
 -- ---- an ordered basis with powers and scalars gives an equivalent standard representation
@@ -170,11 +180,15 @@ module _ (mode : Mode) (M : Rep) (shaped : IsShaped M) (room : M.rank ≤ size M
   field : (f : ℕ) → f < count M → IsField (order M f)
   field f l = field_laws (order M f) (shaped.orders f l)
 
-  inverses : (f : ℕ) → f < count M → (H : Matrix) × ((i j : ℕ) → i < M.rank → j < M.rank → H i j < order M f) × AreInverse (order M f) M.rank (raised_columns f) H
+  inverses : (f : ℕ) → f < count M → (H : Matrix) × ((i j : ℕ) → i < M.rank → j < M.rank → H i j < order M f)
+      × AreInverse (order M f) M.rank (raised_columns f) H
   inverses f l =
       let (H, c, v) = inverse_matrix (order M f) (field f l) M.rank (basis_columns f) (λ i j m n. shaped.codes f i (p j) l m (labels.below j (inside j n)))
-      (ordered_independent (order M f) (field f l) M.rank (size M) (matrix M f) p u room labels (bases f l)) in
-      ((λ i j. raised (order M f) (t f) (H i j)), (λ i j m n. raised_below (order M f) (field f l) (t f) (H i j) (c i j m n)), inverse_raised (order M f) (field f l) (t f) M.rank (basis_columns f) H v)
+      (ordered_independent (order M f) (field f l) M.rank (size M) (matrix M f) p u room labels (bases f l)) in (
+        (λ i j. raised (order M f) (t f) (H i j)),
+        (λ i j m n. raised_below (order M f) (field f l) (t f) (H i j) (c i j m n)),
+        inverse_raised (order M f) (field f l) (t f) M.rank (basis_columns f) H v,
+      )
 
   -- the inverse of the raised columns of the basis in factor f, where there is a factor f
   abbrev at : (f : ℕ) → (f < count M) ⊎ (count M ≤ f) → Matrix
@@ -205,7 +219,8 @@ module _ (mode : Mode) (M : Rep) (shaped : IsShaped M) (room : M.rank ≤ size M
     allowed = allowed;
     codes = λ f i k l _ _. let F = field f l in F.times_below _ _;
     back_codes = λ f i k l _ _. let F = field f l in F.times_below _ _;
-    inverse = λ f l. scaled_inverse (order M f) (field f l) M.rank (raised_columns f) (at f (cases_lt f (count M))) (s f) (λ i m. scalars f i l (inside i m)) (λ i m. nonzero f i l (inside i m))
+    inverse = λ f l. scaled_inverse (order M f) (field f l) M.rank (raised_columns f) (at f (cases_lt f (count M))) (s f)
+        (λ i m. scalars f i l (inside i m)) (λ i m. nonzero f i l (inside i m))
         (at-codes f (cases_lt f (count M)) l) (at-inverse f (cases_lt f (count M)) l);
     scalars = scalars;
     nonzero = nonzero;
@@ -221,7 +236,8 @@ module _ (mode : Mode) (M : Rep) (shaped : IsShaped M) (room : M.rank ≤ size M
     shaped = record {
       orders = shaped.orders;
       lengths = λ j l. ap (λ (c : List ℕ). length c) (column_built (shape M) standard_codes j (back l)) ∙ length-map-range_with_len _ 0 (M.rank * count M);
-      codes = λ f i j l m n. let F = field f l in subst (λ (x : ℕ). x < order M f) (sym (matrix_built (shape M) standard_codes f i j l m (back n))) (F.times_below _ _);
+      codes = λ f i j l m n. let F = field f l in
+          subst (λ (x : ℕ). x < order M f) (sym (matrix_built (shape M) standard_codes f i j l m (back n))) (F.times_below _ _);
     };
     codes = matrix_built (shape M) standard_codes;
   }
@@ -234,7 +250,8 @@ module _ (mode : Mode) (M : Rep) (shaped : IsShaped M) (room : M.rank ≤ size M
     room = subst (λ (x : ℕ). M.rank ≤ x) (sym (size_built (shape M) standard_codes)) room;
     units = λ f i j l m n.
         matrix_built (shape M) standard_codes f i j l m (inside j n)
-        ∙ scaled_entry (order M f) (field f l) M.rank (raised_columns f) (at f (cases_lt f (count M))) (s f) (λ i m. scalars f i l (inside i m)) (λ i m. nonzero f i l (inside i m))
+        ∙ scaled_entry (order M f) (field f l) M.rank (raised_columns f) (at f (cases_lt f (count M))) (s f)
+        (λ i m. scalars f i l (inside i m)) (λ i m. nonzero f i l (inside i m))
         (at-codes f (cases_lt f (count M)) l) (at-inverse f (cases_lt f (count M)) l) i j m n;
   }
 
@@ -256,8 +273,10 @@ standard_each mode M p u s t shaped some w b c n d a =
 pub standard_exists : (mode : Mode) (M : Rep) → IsShaped M → 0 < count M → Agrees M → (N : Rep) × IsStandard N × AreEquivalent mode M N
 standard_exists mode M shaped some a =
     let (S, b) = a.some 0 some in
-    let same : (k : ℕ) → k < size M → S k ≡ nat_lt (place_first (size M) S k) M.rank = λ k l. sym (first_places (size M) S k l) ∙ ap (nat_lt (place_first (size M) S k)) b.full in
-    let (N, m, standard, valid, takes, _, _, _) = standard_each mode M (members_first (size M) S) (place_first (size M) S) (λ _ _. 1) (λ _. 0) shaped some (permuted (size M) S)
+    let same : (k : ℕ) → k < size M → S k ≡ nat_lt (place_first (size M) S k) M.rank = λ k l. sym (first_places (size M) S k l)
+    ∙ ap (nat_lt (place_first (size M) S k)) b.full in
+    let (N, m, standard, valid, takes, _, _, _) = standard_each mode M (members_first (size M) S) (place_first (size M) S)
+    (λ _ _. 1) (λ _. 0) shaped some (permuted (size M) S)
     (λ f l. IsBasis-same M f S (λ k. nat_lt (place_first (size M) S k) M.rank) same (a.same 0 f some l S b))
     (λ f j l _. let F = field_laws (order M f) (shaped.orders f l) in F.two) (λ f j _ _ e. absurd (omega arith))
     (λ f l. let F = field_laws (order M f) (shaped.orders f l) in F.degree_positive) (λ f l. allowed_zero mode) in

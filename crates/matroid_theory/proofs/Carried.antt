@@ -37,26 +37,31 @@ module _ (q : ℕ) (F : IsField q) (r n : ℕ) (t : ℕ) (G A B : Matrix) (s : �
   combination_carried a c i l =
       sum_same q F n (λ j. times q (B i j) (turned_over a j)) (λ j. Y (p j)) (λ j m.
       ap (λ x. times q x (turned_over a j)) (B_is i j l m)
-      ∙ cancelled (s j) (combination q r G (λ k. raised q t (A k (p j))) i) (raised q t (a (p j))) (s_code j m) (s_nonzero j m) (raised_below q F t (a (p j)) (c (p j) (w.below j m)))
+      ∙ cancelled (s j) (combination q r G (λ k. raised q t (A k (p j))) i) (raised q t (a (p j))) (s_code j m) (s_nonzero j m)
+      (raised_below q F t (a (p j)) (c (p j) (w.below j m)))
       ∙ sym (sum_times_right q F r (raised q t (a (p j))) (λ k. times q (G i k) (raised q t (A k (p j)))))
-      ∙ sum_same q F r (λ k. times q (times q (G i k) (raised q t (A k (p j)))) (raised q t (a (p j)))) (λ k. times q (G i k) (raised q t (times q (A k (p j)) (a (p j))))) (λ k _.
+      ∙ sum_same q F r (λ k. times q (times q (G i k) (raised q t (A k (p j)))) (raised q t (a (p j))))
+      (λ k. times q (G i k) (raised q t (times q (A k (p j)) (a (p j))))) (λ k _.
       F.times_assoc (G i k) (raised q t (A k (p j))) (raised q t (a (p j))) ∙ ap (times q (G i k)) (sym (raised_times q F t (A k (p j)) (a (p j))))))
       ∙ sum_relabelled q F n p u w Y (λ j _. sum_below-code q F r (λ k. times q (G i k) (raised q t (times q (A k j) (a j)))))
       ∙ sum_swap q F n r (λ j k. times q (G i k) (raised q t (times q (A k j) (a j))))
-      ∙ sum_same q F r (λ k. sum_below q n (λ j. times q (G i k) (raised q t (times q (A k j) (a j))))) (λ k. times q (G i k) (raised q t (combination q n A a k))) (λ k _.
+      ∙ sum_same q F r (λ k. sum_below q n (λ j. times q (G i k) (raised q t (times q (A k j) (a j)))))
+      (λ k. times q (G i k) (raised q t (combination q n A a k))) (λ k _.
       sum_times q F n (G i k) (λ j. raised q t (times q (A k j) (a j))) ∙ ap (times q (G i k)) (sym (raised_sum q F t n (λ j. times q (A k j) (a j)))))
     where
       Y : ℕ → ℕ
       Y j = sum_below q r (λ k. times q (G i k) (raised q t (times q (A k j) (a j))))
 
-  carried_zero : (S : ℕ → Bool) → IsIndependent q r n B S → (a : ℕ → ℕ) → AreCoefficients q n (λ k. S (u k)) a → ((i : ℕ) → i < r → combination q n A a i ≡ 0) → (j : ℕ) → j < n → a (p j) ≡ 0
+  carried_zero : (S : ℕ → Bool) → IsIndependent q r n B S → (a : ℕ → ℕ) → AreCoefficients q n (λ k. S (u k)) a →
+      ((i : ℕ) → i < r → combination q n A a i ≡ 0) → (j : ℕ) → j < n → a (p j) ≡ 0
   unfolding turned_over
   carried_zero S h a c z = none
     where
       zero_row : (i : ℕ) → i < r → combination q n B (turned_over a) i ≡ 0
       zero_row i m =
           combination_carried a c.codes i m
-          ∙ sum_same q F r (λ k. times q (G i k) (raised q t (combination q n A a k))) (λ _. 0) (λ k k'. ap (λ x. times q (G i k) (raised q t x)) (z k k') ∙ ap (times q (G i k)) (raised_zero q F t) ∙ times_zero q F (G i k))
+          ∙ sum_same q F r (λ k. times q (G i k) (raised q t (combination q n A a k))) (λ _. 0)
+          (λ k k'. ap (λ x. times q (G i k) (raised q t x)) (z k k') ∙ ap (times q (G i k)) (raised_zero q F t) ∙ times_zero q F (G i k))
           ∙ sum_zero q F r
 
       coefficients : AreCoefficients q n S (turned_over a)
@@ -71,8 +76,10 @@ module _ (q : ℕ) (F : IsField q) (r n : ℕ) (t : ℕ) (G A B : Matrix) (s : �
       none j m =
           elim (cases_eq (a (p j)) 0) [
             | inl e ↦ e
-            | inr ne ↦ absurd (times_nonzero q F (inverse q (s j)) (raised q t (a (p j))) (F.inverse_below (s j) (s_code j m)) (raised_below q F t (a (p j)) (c.codes (p j) (w.below j m)))
-                (inverse_nonzero q F (s j) (s_code j m) (s_nonzero j m)) (raised_nonzero q F t (a (p j)) d (c.codes (p j) (w.below j m)) ne) (h.only_zero (turned_over a) coefficients zero_row j m))
+            | inr ne ↦ absurd (times_nonzero q F (inverse q (s j)) (raised q t (a (p j))) (F.inverse_below (s j) (s_code j m))
+                (raised_below q F t (a (p j)) (c.codes (p j) (w.below j m)))
+                (inverse_nonzero q F (s j) (s_code j m) (s_nonzero j m))
+                (raised_nonzero q F t (a (p j)) d (c.codes (p j) (w.below j m)) ne) (h.only_zero (turned_over a) coefficients zero_row j m))
           ]
 
   -- where columns of B are independent, so are the columns of A that they came from
@@ -94,34 +101,43 @@ same_label n p u v k i l m =
     ]
 
 -- an independent set of N came from one of M
-independent_back : (mode : Mode) (M N : Rep) (m : Move) → IsShaped M → IsMove mode (shape M) m → TakesTo M m N → (f : ℕ) → f < count M → (S : ℕ → Bool) → IsIndependentIn N f S → IsIndependentIn M f (λ k. S (m.place k))
+independent_back : (mode : Mode) (M N : Rep) (m : Move) → IsShaped M → IsMove mode (shape M) m → TakesTo M m N → (f : ℕ) →
+    f < count M → (S : ℕ → Bool) → IsIndependentIn N f S → IsIndependentIn M f (λ k. S (m.place k))
 independent_back mode M N m s v t f l S b =
-    independent_carried (order M f) (field_laws (order M f) (s.orders f l)) M.rank (size M) (m.power f) (m.rows f) (matrix M f) (matrix N f) (m.scalar f) m.label m.place
+    independent_carried (order M f) (field_laws (order M f) (s.orders f l)) M.rank (size M) (m.power f) (m.rows f) (matrix M f)
+    (matrix N f) (m.scalar f) m.label m.place
     (v.powers f l) v.labels (λ j n. v.scalars f j l n) (λ j n. v.nonzero f j l n) (λ i j n o. t.codes f i j l n o) S
     (subst (λ S'. IsIndependent (slice_index S'.factors f) S'.rank S'.size (matrix N f) S) t.same_shape b)
 
 -- and one of M becomes one of N
-independent_over : (mode : Mode) (M N : Rep) (m : Move) → IsShaped M → IsMove mode (shape M) m → TakesTo M m N → (f : ℕ) → f < count M → (S : ℕ → Bool) → IsIndependentIn M f S → IsIndependentIn N f (λ k. S (m.label k))
+independent_over : (mode : Mode) (M N : Rep) (m : Move) → IsShaped M → IsMove mode (shape M) m → TakesTo M m N → (f : ℕ) →
+    f < count M → (S : ℕ → Bool) → IsIndependentIn M f S → IsIndependentIn N f (λ k. S (m.label k))
 unfolding undo
 independent_over mode M N m s v t f l S b =
     let e = sym t.same_shape in
-    independent_back mode N M (undo (shape M) m) t.shaped (subst (λ S'. IsMove mode S' (undo (shape M) m)) e (undo_move mode (shape M) s.orders m v)) (takes_undone mode M N m s v t)
+    independent_back mode N M (undo (shape M) m) t.shaped
+    (subst (λ S'. IsMove mode S' (undo (shape M) m)) e (undo_move mode (shape M) s.orders m v)) (takes_undone mode M N m s v t)
     f (subst (λ S'. f < length S'.factors) e l) S b
 
-basis_back : (mode : Mode) (M N : Rep) (m : Move) → IsShaped M → IsMove mode (shape M) m → TakesTo M m N → (f : ℕ) → f < count M → (S : ℕ → Bool) → IsBasis N f S → IsBasis M f (λ k. S (m.place k))
+basis_back : (mode : Mode) (M N : Rep) (m : Move) → IsShaped M → IsMove mode (shape M) m → TakesTo M m N → (f : ℕ) → f < count M →
+    (S : ℕ → Bool) → IsBasis N f S → IsBasis M f (λ k. S (m.place k))
 basis_back mode M N m s v t f l S b = record {
-  full = size_relabelled (size M) m.place m.label (inverse_permutation (size M) m.label m.place v.labels) S ∙ ap (λ S'. size_below S'.size S) (sym t.same_shape) ∙ b.full ∙ ap (λ S'. S'.rank) t.same_shape;
+  full = size_relabelled (size M) m.place m.label (inverse_permutation (size M) m.label m.place v.labels) S
+      ∙ ap (λ S'. size_below S'.size S) (sym t.same_shape) ∙ b.full ∙ ap (λ S'. S'.rank) t.same_shape;
   independent = independent_back mode M N m s v t f l S b.independent;
 }
 
-basis_over : (mode : Mode) (M N : Rep) (m : Move) → IsShaped M → IsMove mode (shape M) m → TakesTo M m N → (f : ℕ) → f < count M → (S : ℕ → Bool) → IsBasis M f S → IsBasis N f (λ k. S (m.label k))
+basis_over : (mode : Mode) (M N : Rep) (m : Move) → IsShaped M → IsMove mode (shape M) m → TakesTo M m N → (f : ℕ) → f < count M →
+    (S : ℕ → Bool) → IsBasis M f S → IsBasis N f (λ k. S (m.label k))
 basis_over mode M N m s v t f l S b = record {
-  full = ap (λ S'. size_below S'.size (λ k. S (m.label k))) t.same_shape ∙ size_relabelled (size M) m.label m.place v.labels S ∙ b.full ∙ ap (λ S'. S'.rank) (sym t.same_shape);
+  full = ap (λ S'. size_below S'.size (λ k. S (m.label k))) t.same_shape ∙ size_relabelled (size M) m.label m.place v.labels S
+      ∙ b.full ∙ ap (λ S'. S'.rank) (sym t.same_shape);
   independent = independent_over mode M N m s v t f l S b.independent;
 }
 
 -- a set is a basis of M exactly where the columns that it goes to are one of N
-pub basis_carried : (mode : Mode) (M N : Rep) (m : Move) → IsShaped M → IsMove mode (shape M) m → TakesTo M m N → (f : ℕ) → f < count M → (S : ℕ → Bool) → IsBasis M f S ↔ IsBasis N f (λ j. S (m.label j))
+pub basis_carried : (mode : Mode) (M N : Rep) (m : Move) → IsShaped M → IsMove mode (shape M) m → TakesTo M m N → (f : ℕ) →
+    f < count M → (S : ℕ → Bool) → IsBasis M f S ↔ IsBasis N f (λ j. S (m.label j))
 basis_carried mode M N m s v t f l S = (
   basis_over mode M N m s v t f l S,
   λ b. IsBasis-same M f (λ k. S (m.label (m.place k))) S (λ j k. ap S (v.labels.back j k)) (basis_back mode M N m s v t f l (λ j. S (m.label j)) b),
@@ -152,8 +168,10 @@ agrees_carried mode M N e = (agrees_over mode M N e, agrees_over mode N M (equiv
 simple_over : (mode : Mode) (M N : Rep) → AreEquivalent mode M N → IsSimple M → IsSimple N
 simple_over mode M N e h f i j l m n =
     IsIndependent-same (order N f) N.rank (size N) (matrix N f) (λ k. (p k == p i) || (p k == p j)) (λ k. (k == i) || (k == j))
-    (λ k o x. same_label (size M) p e.move.place e.valid.labels k i (back o) (back m) x || same_label (size M) p e.move.place e.valid.labels k j (back o) (back n) x)
-    (independent_over mode M N e.move e.shaped e.valid e.takes f l' (λ k. (k == p i) || (k == p j)) (h f (p i) (p j) l' (e.valid.labels.below i (back m)) (e.valid.labels.below j (back n))))
+    (λ k o x. same_label (size M) p e.move.place e.valid.labels k i (back o) (back m) x || same_label
+    (size M) p e.move.place e.valid.labels k j (back o) (back n) x)
+    (independent_over mode M N e.move e.shaped e.valid e.takes f l' (λ k. (k == p i) || (k == p j))
+    (h f (p i) (p j) l' (e.valid.labels.below i (back m)) (e.valid.labels.below j (back n))))
   where
     p : ℕ → ℕ
     p = e.move.label

@@ -32,11 +32,14 @@ column_with rank count w = values (rank * count) (λ e. w (e % count) (e / count
 
 pub column_with-at : (rank count : ℕ) (w : Matrix) (f i : ℕ) → i < rank → f < count → slice_index (column_with rank count w) (i * count + f) ≡ w f i
 column_with-at rank count w f i l m =
-    values-at (rank * count) (λ e. w (e % count) (e / count)) (i * count + f) (let h : i * count + f < count * rank = mul-add-lt i count f rank l m in omega arith)
+    values-at (rank * count) (λ e. w (e % count) (e / count)) (i * count + f)
+    (let h : i * count + f < count * rank = mul-add-lt i count f rank l m in omega arith)
     ∙ (λ t. w (mod-mul-add i count f m t) (div-mul-add i count f m t))
 
 -- it is a column of the factors where its codes are below their orders
-pub column_with_codes : (factors : List ℕ) (rank : ℕ) (w : Matrix) → ((f i : ℕ) → f < length factors → i < rank → w f i < slice_index factors f) → IsProductColumn factors rank (column_with rank (length factors) w)
+pub column_with_codes : (factors : List ℕ) (rank : ℕ) (w : Matrix) →
+    ((f i : ℕ) → f < length factors → i < rank → w f i < slice_index factors f) →
+    IsProductColumn factors rank (column_with rank (length factors) w)
 column_with_codes factors rank w c = record {
   rows = length-values (rank * length factors) _;
   codes = λ i f l m. subst (λ (x : ℕ). x < slice_index factors f) (sym (column_with-at rank (length factors) w f i l m)) (c f i m l);

@@ -18,22 +18,28 @@ module _ (q : ℕ) (F : IsField q) (r : ℕ) where
   -- a move after a move, in one factor
   one_after : (t2 t1 s2 s1 : ℕ) (G2 G1 : Matrix) (a : ℕ → ℕ) (i : ℕ) → 0 < degree q → ((k : ℕ) → k < r → a k < q)
       → times q s2 (combination q r G2 (λ k. raised q t2 (times q s1 (combination q r G1 (λ l. raised q t1 (a l)) k))) i)
-      ≡ times q (times q s2 (raised q t2 s1)) (combination q r (matrix_product q r G2 (λ k l. raised q t2 (G1 k l))) (λ l. raised q ((t2 + t1) % degree q) (a l)) i)
+      ≡ times q (times q s2 (raised q t2 s1))
+      (combination q r (matrix_product q r G2 (λ k l. raised q t2 (G1 k l))) (λ l. raised q ((t2 + t1) % degree q) (a l)) i)
   one_after t2 t1 s2 s1 G2 G1 a i d c =
       ap (times q s2)
-      (combination-same q F r G2 (λ k. raised q t2 (times q s1 (combination q r G1 (λ l. raised q t1 (a l)) k))) (λ k. times q (raised q t2 s1) (combination q r (λ k l. raised q t2 (G1 k l)) (λ l. raised q ((t2 + t1) % degree q) (a l)) k)) i
+      (combination-same q F r G2 (λ k. raised q t2 (times q s1 (combination q r G1 (λ l. raised q t1 (a l)) k)))
+      (λ k. times q (raised q t2 s1) (combination q r (λ k l. raised q t2 (G1 k l)) (λ l. raised q ((t2 + t1) % degree q) (a l)) k)) i
       (λ k _. raised_times q F t2 s1 (combination q r G1 (λ l. raised q t1 (a l)) k)
       ∙ ap (times q (raised q t2 s1))
       (raised_combination q F t2 r G1 (λ l. raised q t1 (a l)) k
       ∙ combination-same q F r (λ k l. raised q t2 (G1 k l)) (λ l. raised q t2 (raised q t1 (a l))) (λ l. raised q ((t2 + t1) % degree q) (a l)) k
       (λ l m. sym (raised-mod q F (t2 + t1) (a l) d (c l m) ∙ raised_add q F t2 t1 (a l)))))
       ∙ combination-scaled q F r G2 (raised q t2 s1) (combination q r (λ k l. raised q t2 (G1 k l)) (λ l. raised q ((t2 + t1) % degree q) (a l))) i)
-      ∙ sym (F.times_assoc s2 (raised q t2 s1) (combination q r G2 (combination q r (λ k l. raised q t2 (G1 k l)) (λ l. raised q ((t2 + t1) % degree q) (a l))) i))
-      ∙ ap (times q (times q s2 (raised q t2 s1))) (sym (combination-product q F r r G2 (λ k l. raised q t2 (G1 k l)) (λ l. raised q ((t2 + t1) % degree q) (a l)) i))
+      ∙ sym (F.times_assoc s2 (raised q t2 s1)
+      (combination q r G2 (combination q r (λ k l. raised q t2 (G1 k l)) (λ l. raised q ((t2 + t1) % degree q) (a l))) i))
+      ∙ ap (times q (times q s2 (raised q t2 s1)))
+      (sym (combination-product q F r r G2 (λ k l. raised q t2 (G1 k l)) (λ l. raised q ((t2 + t1) % degree q) (a l)) i))
 
   -- a move undone, in one factor: s' H' (raised s G a) = a
   one_undone : (t s : ℕ) (G H : Matrix) (a : ℕ → ℕ) (i : ℕ) → t < degree q → s < q → s ≢ 0 → AreInverse q r H G → ((k : ℕ) → k < r → a k < q) → i < r
-      → times q (raised q (undoing q F t) (inverse q s)) (combination q r (λ k l. raised q (undoing q F t) (H k l)) (λ k. raised q (undoing q F t) (times q s (combination q r G (λ l. raised q t (a l)) k))) i) ≡ a i
+      → times q (raised q (undoing q F t) (inverse q s))
+      (combination q r (λ k l. raised q (undoing q F t) (H k l))
+      (λ k. raised q (undoing q F t) (times q s (combination q r G (λ l. raised q t (a l)) k))) i) ≡ a i
   one_undone t s G H a i d b n v c l =
       let u = undoing q F t in
       ap (times q (raised q u (inverse q s))) (sym (raised_combination q F u r H (λ k. times q s (combination q r G (λ l. raised q t (a l)) k)) i))
@@ -88,7 +94,9 @@ undo S a =
       power = λ f. (degree (slice_index S.factors f) - a.power f) % degree (slice_index S.factors f);
       rows = λ f k l. raised (slice_index S.factors f) ((degree (slice_index S.factors f) - a.power f) % degree (slice_index S.factors f)) (a.back f k l);
       back = λ f k l. raised (slice_index S.factors f) ((degree (slice_index S.factors f) - a.power f) % degree (slice_index S.factors f)) (a.rows f k l);
-      scalar = λ f j. raised (slice_index S.factors f) ((degree (slice_index S.factors f) - a.power f) % degree (slice_index S.factors f)) (inverse (slice_index S.factors f) (a.scalar f (a.place j)));
+      scalar = λ f j. raised (slice_index S.factors f)
+          ((degree (slice_index S.factors f) - a.power f) % degree (slice_index S.factors f))
+          (inverse (slice_index S.factors f) (a.scalar f (a.place j)));
       label = a.place;
       place = a.label;
     }
@@ -118,7 +126,8 @@ module _ (mode : Mode) (S : Shape) (fields : (f : ℕ) → f < length S.factors 
   }
     where
       units : (f : ℕ) → f < length S.factors → (i j : ℕ) → i < S.rank → j < S.rank → matrix_product (slice_index S.factors f) S.rank unit unit i j ≡ unit i j
-      units f l i j m n = let F = law f l in combination-unit (slice_index S.factors f) F S.rank (λ k. unit k j) i m (unit_code (slice_index S.factors f) F.two i j)
+      units f l i j m n = let F = law f l in
+          combination-unit (slice_index S.factors f) F S.rank (λ k. unit k j) i m (unit_code (slice_index S.factors f) F.two i j)
 
   pub after_move : (a b : Move) → IsMove mode S a → IsMove mode S b → IsMove mode S (after S a b)
   unfolding after
@@ -127,15 +136,19 @@ module _ (mode : Mode) (S : Shape) (fields : (f : ℕ) → f < length S.factors 
     allowed = λ f l. allowed_sum mode (a.power f) (b.power f) (degree (slice_index S.factors f)) (v.allowed f l) (w.allowed f l);
     codes = λ f i k l _ _. sum_below-code (slice_index S.factors f) (law f l) S.rank _;
     back_codes = λ f i k l _ _. sum_below-code (slice_index S.factors f) (law f l) S.rank _;
-    inverse = λ f l. inverse_products (slice_index S.factors f) (law f l) S.rank (a.rows f) (λ k l. raised (slice_index S.factors f) (a.power f) (b.rows f k l)) (a.back f) (λ k l. raised (slice_index S.factors f) (a.power f) (b.back f k l))
+    inverse = λ f l. inverse_products (slice_index S.factors f) (law f l) S.rank (a.rows f)
+        (λ k l. raised (slice_index S.factors f) (a.power f) (b.rows f k l)) (a.back f)
+        (λ k l. raised (slice_index S.factors f) (a.power f) (b.back f k l))
         (v.inverse f l) (inverse_raised (slice_index S.factors f) (law f l) (a.power f) S.rank (b.rows f) (b.back f) (w.inverse f l))
         (λ i j m n. v.back_codes f i j l m n) (λ i j m n. raised_below (slice_index S.factors f) (law f l) (a.power f) (b.rows f i j) (w.codes f i j l m n));
     scalars = λ f j l m. let F = law f l in F.times_below (a.scalar f j) (raised (slice_index S.factors f) (a.power f) (b.scalar f (a.label j)));
     nonzero = λ f j l m.
         let n = v.labels.below j m in
-        times_nonzero (slice_index S.factors f) (law f l) (a.scalar f j) (raised (slice_index S.factors f) (a.power f) (b.scalar f (a.label j))) (v.scalars f j l m)
+        times_nonzero (slice_index S.factors f) (law f l) (a.scalar f j)
+        (raised (slice_index S.factors f) (a.power f) (b.scalar f (a.label j))) (v.scalars f j l m)
         (raised_below (slice_index S.factors f) (law f l) (a.power f) (b.scalar f (a.label j)) (w.scalars f (a.label j) l n)) (v.nonzero f j l m)
-        (raised_nonzero (slice_index S.factors f) (law f l) (a.power f) (b.scalar f (a.label j)) (v.powers f l) (w.scalars f (a.label j) l n) (w.nonzero f (a.label j) l n));
+        (raised_nonzero (slice_index S.factors f) (law f l) (a.power f) (b.scalar f (a.label j)) (v.powers f l)
+        (w.scalars f (a.label j) l n) (w.nonzero f (a.label j) l n));
     labels = record {
       below = λ j l. w.labels.below (a.label j) (v.labels.below j l);
       inverse_below = λ j l. v.labels.inverse_below (b.place j) (w.labels.inverse_below j l);
@@ -149,14 +162,20 @@ module _ (mode : Mode) (S : Shape) (fields : (f : ℕ) → f < length S.factors 
   undo_move a v = record {
     powers = λ f l. let F = law f l in mod-lt (degree (slice_index S.factors f) - a.power f) F.degree_positive;
     allowed = λ f l. allowed_undone mode (a.power f) (degree (slice_index S.factors f)) (v.allowed f l);
-    codes = λ f i k l m n. raised_below (slice_index S.factors f) (law f l) (undoing (slice_index S.factors f) (law f l) (a.power f)) (a.back f i k) (v.back_codes f i k l m n);
-    back_codes = λ f i k l m n. raised_below (slice_index S.factors f) (law f l) (undoing (slice_index S.factors f) (law f l) (a.power f)) (a.rows f i k) (v.codes f i k l m n);
-    inverse = λ f l. inverse_raised (slice_index S.factors f) (law f l) (undoing (slice_index S.factors f) (law f l) (a.power f)) S.rank (a.back f) (a.rows f) (turned (slice_index S.factors f) (law f l) S.rank (a.rows f) (a.back f) (v.inverse f l));
+    codes = λ f i k l m n. raised_below (slice_index S.factors f) (law f l)
+        (undoing (slice_index S.factors f) (law f l) (a.power f)) (a.back f i k) (v.back_codes f i k l m n);
+    back_codes = λ f i k l m n. raised_below (slice_index S.factors f) (law f l)
+        (undoing (slice_index S.factors f) (law f l) (a.power f)) (a.rows f i k) (v.codes f i k l m n);
+    inverse = λ f l. inverse_raised (slice_index S.factors f) (law f l) (undoing (slice_index S.factors f) (law f l) (a.power f))
+        S.rank (a.back f) (a.rows f) (turned (slice_index S.factors f) (law f l) S.rank (a.rows f) (a.back f) (v.inverse f l));
     scalars = λ f j l m. let F = law f l in let n = v.labels.inverse_below j m in
-        raised_below (slice_index S.factors f) F (undoing (slice_index S.factors f) F (a.power f)) (inverse (slice_index S.factors f) (a.scalar f (a.place j))) (F.inverse_below (a.scalar f (a.place j)) (v.scalars f (a.place j) l n));
+        raised_below (slice_index S.factors f) F (undoing (slice_index S.factors f) F (a.power f))
+        (inverse (slice_index S.factors f) (a.scalar f (a.place j))) (F.inverse_below (a.scalar f (a.place j)) (v.scalars f (a.place j) l n));
     nonzero = λ f j l m. let F = law f l in let n = v.labels.inverse_below j m in
-        raised_nonzero (slice_index S.factors f) F (undoing (slice_index S.factors f) F (a.power f)) (inverse (slice_index S.factors f) (a.scalar f (a.place j))) (mod-lt (degree (slice_index S.factors f) - a.power f) F.degree_positive)
-        (F.inverse_below (a.scalar f (a.place j)) (v.scalars f (a.place j) l n)) (inverse_nonzero (slice_index S.factors f) F (a.scalar f (a.place j)) (v.scalars f (a.place j) l n) (v.nonzero f (a.place j) l n));
+        raised_nonzero (slice_index S.factors f) F (undoing (slice_index S.factors f) F (a.power f))
+        (inverse (slice_index S.factors f) (a.scalar f (a.place j))) (mod-lt (degree (slice_index S.factors f) - a.power f) F.degree_positive)
+        (F.inverse_below (a.scalar f (a.place j)) (v.scalars f (a.place j) l n))
+        (inverse_nonzero (slice_index S.factors f) F (a.scalar f (a.place j)) (v.scalars f (a.place j) l n) (v.nonzero f (a.place j) l n));
     labels = record { below = v.labels.inverse_below; inverse_below = v.labels.below; there = v.labels.back; back = v.labels.there };
   }
 
@@ -175,8 +194,11 @@ codes_after mode S fields a b A B C c v w h g f i j l m n =
     let F = field_laws q (fields f l) in
     let p = v.labels.below j n in
     g f i j l m n
-    ∙ ap (times q (a.scalar f j)) (combination-same q F S.rank (a.rows f) (λ k. raised q (a.power f) (B f k (a.label j))) (λ k. raised q (a.power f) (moved S A b f k (a.label j))) i (λ k k'. ap (raised q (a.power f)) (h f k (a.label j) l k' p)))
-    ∙ one_after q F S.rank (a.power f) (b.power f) (a.scalar f j) (b.scalar f (a.label j)) (a.rows f) (b.rows f) (λ k. A f k (b.label (a.label j))) i F.degree_positive (λ k k'. c f k (b.label (a.label j)) l k' (w.labels.below (a.label j) p))
+    ∙ ap (times q (a.scalar f j))
+    (combination-same q F S.rank (a.rows f) (λ k. raised q (a.power f) (B f k (a.label j)))
+    (λ k. raised q (a.power f) (moved S A b f k (a.label j))) i (λ k k'. ap (raised q (a.power f)) (h f k (a.label j) l k' p)))
+    ∙ one_after q F S.rank (a.power f) (b.power f) (a.scalar f j) (b.scalar f (a.label j)) (a.rows f) (b.rows f)
+    (λ k. A f k (b.label (a.label j))) i F.degree_positive (λ k k'. c f k (b.label (a.label j)) l k' (w.labels.below (a.label j) p))
 
 codes_undone : (mode : Mode) (S : Shape) → ((f : ℕ) → f < length S.factors → IsOrder (slice_index S.factors f)) → (a : Move) (A B : ℕ → Matrix)
     → ((f i j : ℕ) → f < length S.factors → i < S.rank → j < S.size → A f i j < slice_index S.factors f)
@@ -188,8 +210,10 @@ codes_undone mode S fields a A B c v h f i j l m n =
     let p = v.labels.inverse_below j n in
     let u = undoing q F (a.power f) in
     sym (ap (times q (raised q u (inverse q (a.scalar f (a.place j)))))
-    (combination-same q F S.rank (λ k l. raised q u (a.back f k l)) (λ k. raised q u (B f k (a.place j))) (λ k. raised q u (moved S A a f k (a.place j))) i (λ k k'. ap (raised q u) (h f k (a.place j) l k' p)))
-    ∙ one_undone q F S.rank (a.power f) (a.scalar f (a.place j)) (a.rows f) (a.back f) (λ k. A f k (a.label (a.place j))) i (v.powers f l) (v.scalars f (a.place j) l p) (v.nonzero f (a.place j) l p)
+    (combination-same q F S.rank (λ k l. raised q u (a.back f k l)) (λ k. raised q u (B f k (a.place j)))
+    (λ k. raised q u (moved S A a f k (a.place j))) i (λ k k'. ap (raised q u) (h f k (a.place j) l k' p)))
+    ∙ one_undone q F S.rank (a.power f) (a.scalar f (a.place j)) (a.rows f) (a.back f) (λ k. A f k (a.label (a.place j))) i
+    (v.powers f l) (v.scalars f (a.place j) l p) (v.nonzero f (a.place j) l p)
     (turned q F S.rank (a.rows f) (a.back f) (v.inverse f l)) (λ k k'. c f k (a.label (a.place j)) l k' (v.labels.below (a.place j) p)) m
     ∙ ap (A f i) (v.labels.back j n))
 
@@ -204,7 +228,8 @@ takes_identity M s = record {
       sym (F.times_one _ (sum_below-code (order M f) F M.rank _) ∙ combination-unit (order M f) F M.rank (λ k. matrix M f k j) i m c);
 }
 
-pub takes_after : (mode : Mode) (M N L : Rep) (a b : Move) → IsShaped M → IsMove mode (shape M) a → IsMove mode (shape M) b → TakesTo M b N → TakesTo N a L → TakesTo M (after (shape M) a b) L
+pub takes_after : (mode : Mode) (M N L : Rep) (a b : Move) → IsShaped M → IsMove mode (shape M) a → IsMove mode (shape M) b →
+    TakesTo M b N → TakesTo N a L → TakesTo M (after (shape M) a b) L
 takes_after mode M N L a b s v w t u =
     let g : Codes (shape M) (matrix N) a (matrix L) = subst (λ S. Codes S (matrix N) a (matrix L)) t.same_shape u.codes in
     record {

@@ -59,13 +59,19 @@ unfolding three plus times poly characteristic degree remainder
 two_independent = independent_by_test 2 3 3 (matrix three 0) (members 5) refl
 
 -- over GF(4) the column 23 is 2 times 10 plus 3 times 01
-solved : combination 4 2 (λ i j. (matrix (record { factors = 4 ∷ []; rank = 2; columns = (1 ∷ 0 ∷ []) ∷ (0 ∷ 1 ∷ []) ∷ [] }) 0) i j) (λ j. if j == 0 then 2 else 3) 0 ≡ 2
+solved : combination 4 2 (λ i j. (matrix (record { factors = 4 ∷ []; rank = 2; columns = (1 ∷ 0 ∷ []) ∷ (0 ∷ 1 ∷ []) ∷ [] }) 0) i j)
+    (λ j. if j == 0 then 2 else 3) 0 ≡ 2
 unfolding plus times poly characteristic degree remainder
 solved = refl
 
 -- F7 over GF(2): 3 columns of a line are dependent, 3 others are a basis; over GF(3) the same line is a basis
 fano : ℕ → Rep
-fano q = record { factors = q ∷ []; rank = 3; columns = (1 ∷ 0 ∷ 0 ∷ []) ∷ (0 ∷ 1 ∷ 0 ∷ []) ∷ (0 ∷ 0 ∷ 1 ∷ []) ∷ (0 ∷ 1 ∷ 1 ∷ []) ∷ (1 ∷ 0 ∷ 1 ∷ []) ∷ (1 ∷ 1 ∷ 0 ∷ []) ∷ (1 ∷ 1 ∷ 1 ∷ []) ∷ [] }
+fano q = record {
+  factors = q ∷ [];
+  rank = 3;
+  columns =
+      (1 ∷ 0 ∷ 0 ∷ []) ∷ (0 ∷ 1 ∷ 0 ∷ []) ∷ (0 ∷ 0 ∷ 1 ∷ []) ∷ (0 ∷ 1 ∷ 1 ∷ []) ∷ (1 ∷ 0 ∷ 1 ∷ []) ∷ (1 ∷ 1 ∷ 0 ∷ []) ∷ (1 ∷ 1 ∷ 1 ∷ []) ∷ [];
+}
 
 line_over_2 : ¬ (IsBasis (fano 2) 0 (members 56))
 unfolding fano plus times poly characteristic degree remainder

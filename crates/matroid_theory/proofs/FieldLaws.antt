@@ -93,11 +93,13 @@ plus_assoc-test = by_order (λ q. each_triple q (λ a b c. plus q (plus q a b) c
 
 times_assoc-test : (q : ℕ) → IsOrder q → each_triple q (λ a b c. times q (times q a b) c == times q a (times q b c)) ≡ true
 unfolding times poly characteristic degree remainder
-times_assoc-test = by_order (λ q. each_triple q (λ a b c. times q (times q a b) c == times q a (times q b c)) ≡ true) refl refl refl refl refl refl refl refl refl
+times_assoc-test = by_order (λ q. each_triple q (λ a b c. times q (times q a b) c == times q a (times q b c)) ≡ true) refl refl refl
+    refl refl refl refl refl refl
 
 times_plus-test : (q : ℕ) → IsOrder q → each_triple q (λ a b c. times q a (plus q b c) == plus q (times q a b) (times q a c)) ≡ true
 unfolding plus times poly characteristic degree remainder
-times_plus-test = by_order (λ q. each_triple q (λ a b c. times q a (plus q b c) == plus q (times q a b) (times q a c)) ≡ true) refl refl refl refl refl refl refl refl refl
+times_plus-test = by_order (λ q. each_triple q (λ a b c. times q a (plus q b c) == plus q (times q a b) (times q a c)) ≡ true) refl
+    refl refl refl refl refl refl refl refl
 
 -- the laws that speak of one code
 abbrev one_code : ℕ → ℕ → Bool
@@ -109,9 +111,14 @@ one_code-test : (q : ℕ) → IsOrder q → each q (one_code q) ≡ true
 unfolding plus times negative inverse poly characteristic degree remainder
 one_code-test = by_order (λ q. each q (one_code q) ≡ true) refl refl refl refl refl refl refl refl refl
 
-frobenius-test : (q : ℕ) → IsOrder q → each_pair q (λ a b. (frobenius q (plus q a b) == plus q (frobenius q a) (frobenius q b)) && ((frobenius q (times q a b) == times q (frobenius q a) (frobenius q b)) && nat_lt (frobenius q a) q)) ≡ true
+frobenius-test : (q : ℕ) → IsOrder q →
+    each_pair q (λ a b. (frobenius q (plus q a b) == plus q (frobenius q a) (frobenius q b)) &&
+    ((frobenius q (times q a b) == times q (frobenius q a) (frobenius q b)) && nat_lt (frobenius q a) q)) ≡ true
 unfolding plus times frobenius poly characteristic degree remainder
-frobenius-test = by_order (λ q. each_pair q (λ a b. (frobenius q (plus q a b) == plus q (frobenius q a) (frobenius q b)) && ((frobenius q (times q a b) == times q (frobenius q a) (frobenius q b)) && nat_lt (frobenius q a) q)) ≡ true) refl refl refl refl refl refl refl refl refl
+frobenius-test = by_order
+    (λ q. each_pair q (λ a b. (frobenius q (plus q a b) == plus q (frobenius q a) (frobenius q b)) &&
+    ((frobenius q (times q a b) == times q (frobenius q a) (frobenius q b)) && nat_lt (frobenius q a) q)) ≡ true) refl refl refl refl
+    refl refl refl refl refl
 
 frobenius_one-test : (q : ℕ) → IsOrder q → frobenius q 1 ≡ 1
 unfolding times frobenius poly characteristic degree remainder
@@ -212,8 +219,13 @@ module _ (q : ℕ) (o : IsOrder q) where
   unfolding frobenius
   frobenius-mod a = power-mod a (characteristic q)
 
-  frobenius-at : (a b : ℕ) → ((frobenius q (plus q (a % q) (b % q)) == plus q (frobenius q (a % q)) (frobenius q (b % q))) && ((frobenius q (times q (a % q) (b % q)) == times q (frobenius q (a % q)) (frobenius q (b % q))) && nat_lt (frobenius q (a % q)) q)) ≡ true
-  frobenius-at a b = at_pair q (λ a b. (frobenius q (plus q a b) == plus q (frobenius q a) (frobenius q b)) && ((frobenius q (times q a b) == times q (frobenius q a) (frobenius q b)) && nat_lt (frobenius q a) q)) (frobenius-test q o) (a % q) (b % q) (below a) (below b)
+  frobenius-at : (a b : ℕ) →
+      ((frobenius q (plus q (a % q) (b % q)) == plus q (frobenius q (a % q)) (frobenius q (b % q))) &&
+      ((frobenius q (times q (a % q) (b % q)) == times q (frobenius q (a % q)) (frobenius q (b % q))) && nat_lt (frobenius q (a % q)) q)) ≡ true
+  frobenius-at a b = at_pair q
+      (λ a b. (frobenius q (plus q a b) == plus q (frobenius q a) (frobenius q b)) &&
+      ((frobenius q (times q a b) == times q (frobenius q a) (frobenius q b)) && nat_lt (frobenius q a) q)) (frobenius-test q o)
+      (a % q) (b % q) (below a) (below b)
 
   plus_assoc-by : (a b c : ℕ) → plus q (plus q a b) c ≡ plus q a (plus q b c)
   plus_assoc-by a b c =
@@ -224,13 +236,15 @@ module _ (q : ℕ) (o : IsOrder q) where
   times_assoc-by : (a b c : ℕ) → times q (times q a b) c ≡ times q a (times q b c)
   times_assoc-by a b c =
       sym (ap (λ x. times q x (c % q)) (times-mod a b) ∙ times-right (times q a b) c)
-      ∙ same (at_triple q (λ a b c. times q (times q a b) c == times q a (times q b c)) (times_assoc-test q o) (a % q) (b % q) (c % q) (below a) (below b) (below c))
+      ∙ same (at_triple q (λ a b c. times q (times q a b) c == times q a (times q b c)) (times_assoc-test q o) (a % q) (b % q)
+      (c % q) (below a) (below b) (below c))
       ∙ ap (times q (a % q)) (times-mod b c) ∙ times-left a (times q b c)
 
   times_plus-by : (a b c : ℕ) → times q a (plus q b c) ≡ plus q (times q a b) (times q a c)
   times_plus-by a b c =
       sym (ap (times q (a % q)) (plus-mod b c) ∙ times-left a (plus q b c))
-      ∙ same (at_triple q (λ a b c. times q a (plus q b c) == plus q (times q a b) (times q a c)) (times_plus-test q o) (a % q) (b % q) (c % q) (below a) (below b) (below c))
+      ∙ same (at_triple q (λ a b c. times q a (plus q b c) == plus q (times q a b) (times q a c)) (times_plus-test q o) (a % q)
+      (b % q) (c % q) (below a) (below b) (below c))
       ∙ (λ i. plus q (times-mod a b i) (times-mod a c i))
 
   at_code : (a : ℕ) → a < q → one_code q a ≡ true
@@ -243,7 +257,9 @@ module _ (q : ℕ) (o : IsOrder q) where
   times_one-at : (a : ℕ) → a < q → (times q 1 a == a) ≡ true
   times_one-at a l = both_left _ _ (both_right (plus q 0 a == a) _ (at_code a l))
 
-  rest-at : (a : ℕ) → a < q → (nat_lt (negative q a) q && ((plus q a (negative q a) == 0) && (nat_lt (inverse q a) q && ((a == 0) || (times q a (inverse q a) == 1))))) ≡ true
+  rest-at : (a : ℕ) → a < q →
+      (nat_lt (negative q a) q &&
+      ((plus q a (negative q a) == 0) && (nat_lt (inverse q a) q && ((a == 0) || (times q a (inverse q a) == 1))))) ≡ true
   rest-at a l = both_right (times q 1 a == a) _ (both_right (plus q 0 a == a) _ (at_code a l))
 
   inverses-at : (a : ℕ) → a < q → (nat_lt (inverse q a) q && ((a == 0) || (times q a (inverse q a) == 1))) ≡ true
@@ -277,9 +293,14 @@ module _ (q : ℕ) (o : IsOrder q) where
     times_plus = times_plus-by;
     inverse_below = λ a l. ltb-true _ _ (both_left _ _ (inverses-at a l));
     times_inverse = times_inverse-by;
-    frobenius_below = λ a. subst (λ (x : ℕ). x < q) (frobenius-mod a) (ltb-true _ _ (both_right (frobenius q (times q (a % q) (a % q)) == times q (frobenius q (a % q)) (frobenius q (a % q))) _ (both_right (frobenius q (plus q (a % q) (a % q)) == plus q (frobenius q (a % q)) (frobenius q (a % q))) _ (frobenius-at a a))));
-    frobenius_plus = λ a b. sym (ap (frobenius q) (plus-mod a b)) ∙ same (both_left _ _ (frobenius-at a b)) ∙ (λ i. plus q (frobenius-mod a i) (frobenius-mod b i));
-    frobenius_times = λ a b. sym (ap (frobenius q) (times-mod a b)) ∙ same (both_left _ _ (both_right (frobenius q (plus q (a % q) (b % q)) == plus q (frobenius q (a % q)) (frobenius q (b % q))) _ (frobenius-at a b))) ∙ (λ i. times q (frobenius-mod a i) (frobenius-mod b i));
+    frobenius_below = λ a. subst (λ (x : ℕ). x < q) (frobenius-mod a)
+        (ltb-true _ _ (both_right (frobenius q (times q (a % q) (a % q)) == times q (frobenius q (a % q)) (frobenius q (a % q)))
+        _ (both_right (frobenius q (plus q (a % q) (a % q)) == plus q (frobenius q (a % q)) (frobenius q (a % q))) _ (frobenius-at a a))));
+    frobenius_plus = λ a b. sym (ap (frobenius q) (plus-mod a b)) ∙ same (both_left _ _ (frobenius-at a b))
+        ∙ (λ i. plus q (frobenius-mod a i) (frobenius-mod b i));
+    frobenius_times = λ a b. sym (ap (frobenius q) (times-mod a b))
+        ∙ same (both_left _ _ (both_right (frobenius q (plus q (a % q) (b % q)) == plus q (frobenius q (a % q)) (frobenius q (b % q)))
+        _ (frobenius-at a b))) ∙ (λ i. times q (frobenius-mod a i) (frobenius-mod b i));
     frobenius_one = frobenius_one-test q o;
     frobenius_cycle = λ a l. same (all_below-at q (λ a. raised q (degree q) a == a) (frobenius_cycle-test q o) a l);
   }

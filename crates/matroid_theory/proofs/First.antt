@@ -24,7 +24,8 @@ use Rattle.matroid_theory.proofs.Units.{units_independent}
 use Rattle.matroid_theory.proofs.Levels.{columns_total}
 
 columns_positive : (k r c : ℕ) → k < r * c → 0 < c
-columns_positive k r c l = elim (cases_lt 0 c) [ inl b ↦ b | inr g ↦ (let e : c ≡ 0 = omega arith in let z : r * c ≡ r * 0 = ap (λ c. r * c) e in absurd (omega arith)) ]
+columns_positive k r c l =
+    elim (cases_lt 0 c) [ inl b ↦ b | inr g ↦ (let e : c ≡ 0 = omega arith in let z : r * c ≡ r * 0 = ap (λ c. r * c) e in absurd (omega arith)) ]
 
 pub row_below : (k c r : ℕ) → 0 < c → k < r * c → k / c < r
 row_below k c r p l = grind (arith, rows)
@@ -33,7 +34,8 @@ pub whole : (k c : ℕ) → 0 < c → k / c * c + k % c ≡ k
 whole k c p = omega arith
 
 -- representations of one shape with the same codes are equal
-pub same_codes : (M N : Rep) → IsShaped M → IsShaped N → shape N ≡ shape M → ((f i j : ℕ) → f < count M → i < M.rank → j < size M → matrix N f i j ≡ matrix M f i j) → N ≡ M
+pub same_codes : (M N : Rep) → IsShaped M → IsShaped N → shape N ≡ shape M →
+    ((f i j : ℕ) → f < count M → i < M.rank → j < size M → matrix N f i j ≡ matrix M f i j) → N ≡ M
 same_codes M N s t e h = λ k. record { factors = ap (λ s. s.factors) e k; rank = ap (λ s. s.rank) e k; columns = columns k }
   where
     sizes : size N ≡ size M
@@ -43,12 +45,14 @@ same_codes M N s t e h = λ k. record { factors = ap (λ s. s.factors) e k; rank
     columns = ext_get_or [] N.columns M.columns sizes column
       where
         column : (j : ℕ) → j < size N → slice_index_or N.columns j [] ≡ slice_index_or M.columns j []
-        column j l = ext_get_or 0 (slice_index_or N.columns j []) (slice_index_or M.columns j []) (t.lengths j l ∙ ap (λ s. s.rank * length s.factors) e ∙ sym (s.lengths j l')) code
+        column j l = ext_get_or 0 (slice_index_or N.columns j []) (slice_index_or M.columns j [])
+            (t.lengths j l ∙ ap (λ s. s.rank * length s.factors) e ∙ sym (s.lengths j l')) code
           where
             l' : j < size M
             l' = subst (λ n. j < n) sizes l
 
-            code : (k : ℕ) → k < length (slice_index_or N.columns j []) → slice_index (slice_index_or N.columns j []) k ≡ slice_index (slice_index_or M.columns j []) k
+            code : (k : ℕ) → k < length (slice_index_or N.columns j []) →
+                slice_index (slice_index_or N.columns j []) k ≡ slice_index (slice_index_or M.columns j []) k
             code k m =
                 let n : length (slice_index_or N.columns j []) ≡ M.rank * count M = t.lengths j l ∙ ap (λ s. s.rank * length s.factors) e in
                 let m' : k < M.rank * count M = subst (λ n. k < n) n m in
@@ -57,14 +61,16 @@ same_codes M N s t e h = λ k. record { factors = ap (λ s. s.factors) e k; rank
                 let f : k % count M < count M = mod-lt k c in
                 let pM : k / count M * count M + k % count M ≡ k = whole k (count M) c in
                 let pN : k / count M * count N + k % count M ≡ k = ap (λ s. k / count M * length s.factors + k % count M) e ∙ pM in
-                sym (ap (slice_index (slice_index_or N.columns j [])) pN) ∙ h (k % count M) (k / count M) j f i l' ∙ ap (slice_index (slice_index_or M.columns j [])) pM
+                sym (ap (slice_index (slice_index_or N.columns j [])) pN) ∙ h (k % count M) (k / count M) j f i l'
+                ∙ ap (slice_index (slice_index_or M.columns j [])) pM
 
 pub size_every : (n : ℕ) → size_below n (λ _. true) ≡ n
 size_every zero = refl
 size_every (suc n) = let h : size_below n (λ _. true) ≡ n = size_every n in omega arith
 
 -- a part of an independent set is independent
-pub IsIndependent-part : (q r n : ℕ) (A : Matrix) (S T : ℕ → Bool) → ((j : ℕ) → j < n → T j ≡ false → S j ≡ false) → IsIndependent q r n A T → IsIndependent q r n A S
+pub IsIndependent-part : (q r n : ℕ) (A : Matrix) (S T : ℕ → Bool) → ((j : ℕ) → j < n → T j ≡ false → S j ≡ false) →
+    IsIndependent q r n A T → IsIndependent q r n A S
 IsIndependent-part q r n A S T h d = record { only_zero = λ a c z. d.only_zero a (record { codes = c.codes; outside = λ j l o. c.outside j l (h j l o) }) z }
 
 reversed : (r : Ordering) → r ≡ ordering_reverse r → r ≡ Greater → ⊥
@@ -86,7 +92,8 @@ module _ (U : Rep) (shaped : IsShaped U) (standard : IsStandard U) (square : siz
   all_independent : (f : ℕ) → f < count U → IsIndependentIn U f (λ _. true)
   all_independent f l =
       IsIndependent-same (order U f) U.rank (size U) (matrix U f) (λ j. nat_lt j U.rank) (λ _. true) (λ j m. lt-ltb j U.rank (below j m))
-      (units_independent (order U f) (field_laws (order U f) (shaped.orders f l)) U.rank (size U) (matrix U f) standard.room (λ i j m n. standard.units f i j l m n))
+      (units_independent (order U f) (field_laws (order U f) (shaped.orders f l)) U.rank (size U) (matrix U f) standard.room
+      (λ i j m n. standard.units f i j l m n))
     where
       below : (j : ℕ) → j < size U → j < U.rank
       below j m = omega arith
@@ -144,5 +151,9 @@ module _ (U : Rep) (shaped : IsShaped U) (standard : IsStandard U) (square : siz
           let m = h.member in
           let f = h.form in
           let w = m.representation in
-          let as_large : size M ≡ size U = m.sizes ∙ sym rank ∙ sym square in
-          (0, lit< tt, sym (unit_only M w.shaped f.standard (λ i. record { factors = (m.same_factors ∙ sym factors) i; rank = (m.ranks ∙ sym rank) i; size = as_large i })))
+          let as_large : size M ≡ size U = m.sizes ∙ sym rank ∙ sym square in (
+            0,
+            lit< tt,
+            sym (unit_only M w.shaped f.standard
+                (λ i. record { factors = (m.same_factors ∙ sym factors) i; rank = (m.ranks ∙ sym rank) i; size = as_large i })),
+          )

@@ -37,14 +37,18 @@ shaped_pushed P v s c = record {
 pub shaped_before : (P : Rep) (v : List ℕ) → IsShaped (followed_by P v) → IsShaped P
 shaped_before P v s = record {
   orders = s.orders;
-  lengths = λ j l. sym (ap (λ (c : List ℕ). length c) (get_or-append P.columns (v ∷ []) [] j l)) ∙ s.lengths j (let n : size (followed_by P v) ≡ suc (size P) = size_followed P v in omega arith);
-  codes = λ f i j l m o. subst (λ (x : ℕ). x < order P f) (matrix_before P v f i j o) (s.codes f i j l m (let n : size (followed_by P v) ≡ suc (size P) = size_followed P v in omega arith));
+  lengths = λ j l. sym (ap (λ (c : List ℕ). length c) (get_or-append P.columns (v ∷ []) [] j l))
+      ∙ s.lengths j (let n : size (followed_by P v) ≡ suc (size P) = size_followed P v in omega arith);
+  codes = λ f i j l m o. subst (λ (x : ℕ). x < order P f) (matrix_before P v f i j o)
+      (s.codes f i j l m (let n : size (followed_by P v) ≡ suc (size P) = size_followed P v in omega arith));
 }
 
 pub column_last : (P : Rep) (v : List ℕ) → IsShaped (followed_by P v) → IsProductColumn P.factors P.rank v
 column_last P v s = record {
-  rows = sym (ap (λ (c : List ℕ). length c) (get_or-append_seam P.columns v [] [])) ∙ s.lengths (size P) (let n : size (followed_by P v) ≡ suc (size P) = size_followed P v in omega arith);
-  codes = λ i f l m. subst (λ (x : ℕ). x < order P f) (matrix_last P v f i) (s.codes f i (size P) m l (let n : size (followed_by P v) ≡ suc (size P) = size_followed P v in omega arith));
+  rows = sym (ap (λ (c : List ℕ). length c) (get_or-append_seam P.columns v [] []))
+      ∙ s.lengths (size P) (let n : size (followed_by P v) ≡ suc (size P) = size_followed P v in omega arith);
+  codes = λ i f l m. subst (λ (x : ℕ). x < order P f) (matrix_last P v f i)
+      (s.codes f i (size P) m l (let n : size (followed_by P v) ≡ suc (size P) = size_followed P v in omega arith));
 }
 
 -- it is standard where the columns before the new one are

@@ -14,7 +14,11 @@ module _ (q : ℕ) (F : IsField q) where
   module _ (r n : ℕ) (G A : Matrix) where
     -- columns that are independent in G A are so in A, whatever G is
     pub independent_factor : (S : ℕ → Bool) → IsIndependent q r n (matrix_product q r G A) S → IsIndependent q r n A S
-    independent_factor S h = record { only_zero = λ a c z. h.only_zero a c (λ i _. combination-product q F n r G A a i ∙ combination_zero r G (combination q n A a) i z) }
+    independent_factor S h =
+        record {
+          only_zero = λ a c z. h.only_zero a c
+              (λ i _. combination-product q F n r G A a i ∙ combination_zero r G (combination q n A a) i z);
+        }
 
     -- columns that are independent in A are so in G A, for an invertible G
     pub independent_product : (H : Matrix) → AreInverse q r G H → (S : ℕ → Bool) → IsIndependent q r n A S → IsIndependent q r n (matrix_product q r G A) S
@@ -24,7 +28,8 @@ module _ (q : ℕ) (F : IsField q) where
           ∙ combination_zero r H (combination q r G (combination q n A a)) i (λ k m. sym (combination-product q F n r G A a k) ∙ z k m));
     }
 
-    part_product : (H : Matrix) → AreInverse q r G H → (S : ℕ → Bool) (k : ℕ) (I : ℕ → Bool) → IsIndependentPart q r n A S k I → IsIndependentPart q r n (matrix_product q r G A) S k I
+    part_product : (H : Matrix) → AreInverse q r G H → (S : ℕ → Bool) (k : ℕ) (I : ℕ → Bool) → IsIndependentPart q r n A S k I →
+        IsIndependentPart q r n (matrix_product q r G A) S k I
     part_product H v S k I p = record { within = p.within; elements = p.elements; independent = independent_product H v I p.independent }
 
     part_factor : (S : ℕ → Bool) (k : ℕ) (I : ℕ → Bool) → IsIndependentPart q r n (matrix_product q r G A) S k I → IsIndependentPart q r n A S k I

@@ -23,7 +23,8 @@ module _ {X : Type 0} where
   first_pairs R x z xs h (k, l, e) = subst (R x) e (h 0 (suc k) z (omega arith) (omega arith))
 
   -- two lists that rise and contain the same are equal
-  pub rising_unique : (L : X → X → Type 0) → ((x : X) → ¬ (L x x)) → ((x y z : X) → L x y → L y z → L x z) → (xs ys : List X) → AllPairs L xs → AllPairs L ys → ((z : X) → Contains xs z → Contains ys z) → ((z : X) → Contains ys z → Contains xs z) → xs ≡ ys
+  pub rising_unique : (L : X → X → Type 0) → ((x : X) → ¬ (L x x)) → ((x y z : X) → L x y → L y z → L x z) → (xs ys : List X) →
+      AllPairs L xs → AllPairs L ys → ((z : X) → Contains xs z → Contains ys z) → ((z : X) → Contains ys z → Contains xs z) → xs ≡ ys
   rising_unique L apart chain [] [] h g f b = refl
   rising_unique L apart chain [] (y ∷ ys) h g f b = let (k, l, e) = b y (here y ys) in absurd (omega arith)
   rising_unique L apart chain (x ∷ xs) [] h g f b = let (k, l, e) = f x (here x xs) in absurd (omega arith)
@@ -44,7 +45,8 @@ module _ {X : Type 0} where
       down z m = elim (found y z ys (f z (there x z xs m))) [ inl e ↦ absurd (apart x (subst (L x) (sym (heads ∙ e)) (first_pairs L x z xs h m))) | inr p ↦ p ]
 
       up : (z : X) → Contains ys z → Contains xs z
-      up z m = elim (found x z xs (b z (there y z ys m))) [ inl e ↦ absurd (apart y (subst (L y) (sym (sym heads ∙ e)) (first_pairs L y z ys g m))) | inr p ↦ p ]
+      up z m = elim (found x z xs (b z (there y z ys m)))
+          [ inl e ↦ absurd (apart y (subst (L y) (sym (sym heads ∙ e)) (first_pairs L y z ys g m))) | inr p ↦ p ]
 
   -- a list without repeats is no longer than one that contains all of it
   pub distinct_length : (xs ys : List X) → AllPairs (λ x y. x ≢ y) xs → ((z : X) → Contains xs z → Contains ys z) → length xs ≤ length ys
@@ -61,4 +63,5 @@ module _ {X : Type 0} where
       keep : (at : Contains ys x) → (z : X) → Contains xs z → Contains (remove ys at.0) z
       keep (i, l, e) z m =
           let (j, b, d) = f z (there x z xs m) in
-          (in_remove ys i j z l b (sym d) (λ o. first_pairs (λ x y. x ≢ y) x z xs h m (sym e ∙ get_or_default ys i x z l ∙ ap (λ k. slice_index_or ys k z) (sym o) ∙ d))).1
+          (in_remove ys i j z l b (sym d)
+          (λ o. first_pairs (λ x y. x ≢ y) x z xs h m (sym e ∙ get_or_default ys i x z l ∙ ap (λ k. slice_index_or ys k z) (sym o) ∙ d))).1

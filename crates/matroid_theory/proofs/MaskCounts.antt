@@ -33,10 +33,12 @@ size-members (suc n) X l =
   where
     with_top : (n r : ℕ) → r < 2 ^ n → size_below n (members r) ≡ count_ones r → size_below (suc n) (members (1 * 2 ^ n + r)) ≡ count_ones (1 * 2 ^ n + r)
     with_top n r b i =
-        let s : size_below n (members (1 * 2 ^ n + r)) ≡ size_below n (members r) = size-same n (members (1 * 2 ^ n + r)) (members r) (λ j l. ap (λ x. x == 1) (bit_at_cat_low 1 n r j l)) in
+        let s : size_below n (members (1 * 2 ^ n + r)) ≡ size_below n (members r) = size-same n (members (1 * 2 ^ n + r))
+        (members r) (λ j l. ap (λ x. x == 1) (bit_at_cat_low 1 n r j l)) in
         let k : n ≤ n = omega arith in
         let z : n - n ≡ 0 = omega arith in
         let t : bit_at (1 * 2 ^ n + r) n ≡ 1 = bit_at_cat_high 1 n r n b k ∙ ap (bit_at 1) z in
-        let h : size_below (suc n) (members (1 * 2 ^ n + r)) ≡ size_below n (members (1 * 2 ^ n + r)) + 1 = ap (λ x. size_below n (members (1 * 2 ^ n + r)) + cond (x == 1) 1 0) t in
+        let h : size_below (suc n) (members (1 * 2 ^ n + r)) ≡ size_below n (members (1 * 2 ^ n + r)) + 1 =
+        ap (λ x. size_below n (members (1 * 2 ^ n + r)) + cond (x == 1) 1 0) t in
         let c : count_ones (1 * 2 ^ n + r) ≡ 1 + count_ones r = ones_cat n 1 r b ∙ ap (λ x. x + count_ones r) one_of_one in
         omega arith

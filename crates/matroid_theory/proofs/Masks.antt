@@ -27,7 +27,8 @@ size-same zero S T h = refl
 size-same (suc n) S T h = λ i. size-same n S T (λ j l. h j (omega arith)) i + cond (h n (omega arith) i) 1 0
 
 pub IsIndependent-same : (q r n : ℕ) (A : ℕ → ℕ → ℕ) (S T : ℕ → Bool) → ((j : ℕ) → j < n → S j ≡ T j) → IsIndependent q r n A S → IsIndependent q r n A T
-IsIndependent-same q r n A S T h d = record { only_zero = λ a c z. d.only_zero a (record { codes = c.codes; outside = λ j l o. c.outside j l (sym (h j l) ∙ o) }) z }
+IsIndependent-same q r n A S T h d =
+    record { only_zero = λ a c z. d.only_zero a (record { codes = c.codes; outside = λ j l o. c.outside j l (sym (h j l) ∙ o) }) z }
 
 -- whether a set is a basis depends on the numbers of columns in it alone
 pub IsBasis-same : (M : Rep) (f : ℕ) (S T : ℕ → Bool) → ((j : ℕ) → j < size M → S j ≡ T j) → IsBasis M f S → IsBasis M f T
@@ -43,15 +44,18 @@ members-mask (suc n) S j l =
     elim (cases_lt j n) [
       | inl b ↦ ap (λ x. x == 1) (bit_at_cat_low (cond (S n) 1 0) n (mask n S) j b) ∙ members-mask n S j b
       | inr g ↦ (let e : j ≡ n = omega arith in
-          ap (λ k. members (mask (suc n) S) k) e ∙ ap (λ x. x == 1) (bit_at_cat_high (cond (S n) 1 0) n (mask n S) n (mask-below n S) g') ∙ top (S n) ∙ ap S (sym e))
+          ap (λ k. members (mask (suc n) S) k) e
+          ∙ ap (λ x. x == 1) (bit_at_cat_high (cond (S n) 1 0) n (mask n S) n (mask-below n S) g') ∙ top (S n) ∙ ap S (sym e))
     ]
   where
     g' : n ≤ n
     g' = omega arith
 
     top : (b : Bool) → (bit_at (cond b 1 0) (n - n) == 1) ≡ b
-    top b = (let z : n - n ≡ 0 = omega arith in ap (λ k. bit_at (cond b 1 0) k == 1) z) ∙ (elim b as (λ b. (bit_at (cond b 1 0) 0 == 1) ≡ b) [ true ↦ refl | false ↦ refl ])
+    top b = (let z : n - n ≡ 0 = omega arith in ap (λ k. bit_at (cond b 1 0) k == 1) z)
+        ∙ (elim b as (λ b. (bit_at (cond b 1 0) 0 == 1) ≡ b) [ true ↦ refl | false ↦ refl ])
 
 -- so what holds of each mask of n columns holds of each set of them, where only those columns count
-pub by_masks : (n : ℕ) (P : (ℕ → Bool) → Type 0) → ((S T : ℕ → Bool) → ((j : ℕ) → j < n → S j ≡ T j) → P S → P T) → ((X : ℕ) → X < 2 ^ n → P (members X)) → (S : ℕ → Bool) → P S
+pub by_masks : (n : ℕ) (P : (ℕ → Bool) → Type 0) → ((S T : ℕ → Bool) → ((j : ℕ) → j < n → S j ≡ T j) → P S → P T) →
+    ((X : ℕ) → X < 2 ^ n → P (members X)) → (S : ℕ → Bool) → P S
 by_masks n P same all S = same (members (mask n S)) S (members-mask n S) (all (mask n S) (mask-below n S))

@@ -49,13 +49,16 @@ lead_or_zero (suc r) c =
     ]
 
 nat_cmp-above : (x y : ℕ) → y < x → nat_cmp x y ≡ Greater
-nat_cmp-above x y l = ap (λ b. cond b Less (cond (x == y) Equal Greater)) (le-ltb x y (omega arith)) ∙ ap (λ b. cond b Equal Greater) (other_number x y (λ e. absurd (omega arith)))
+nat_cmp-above x y l = ap (λ b. cond b Less (cond (x == y) Equal Greater)) (le-ltb x y (omega arith))
+    ∙ ap (λ b. cond b Equal Greater) (other_number x y (λ e. absurd (omega arith)))
 
 nat_cmp-same : (x y : ℕ) → x ≡ y → nat_cmp x y ≡ Equal
-nat_cmp-same x y e = ap (λ b. cond b Less (cond (x == y) Equal Greater)) (le-ltb x y (omega arith)) ∙ ap (λ b. cond b Equal Greater) (ap (λ z. x == z) (sym e) ∙ same_number x)
+nat_cmp-same x y e = ap (λ b. cond b Less (cond (x == y) Equal Greater)) (le-ltb x y (omega arith))
+    ∙ ap (λ b. cond b Equal Greater) (ap (λ z. x == z) (sym e) ∙ same_number x)
 
 -- of two lists as long, the one with the greater number at the first place where they differ is the greater
-greater_at : (xs ys : List ℕ) (k : ℕ) → length xs ≡ length ys → k < length xs → ((e : ℕ) → e < k → slice_index xs e ≡ slice_index ys e) → slice_index ys k < slice_index xs k → slice_cmp nat_cmp xs ys ≡ Greater
+greater_at : (xs ys : List ℕ) (k : ℕ) → length xs ≡ length ys → k < length xs →
+    ((e : ℕ) → e < k → slice_index xs e ≡ slice_index ys e) → slice_index ys k < slice_index xs k → slice_cmp nat_cmp xs ys ≡ Greater
 greater_at [] ys k d l h g = absurd (omega arith)
 greater_at (x ∷ xs) [] k d l h g = absurd (omega arith)
 greater_at (x ∷ xs) (y ∷ ys) zero d l h g = ap (λ (o : Ordering). ordering_then o (slice_cmp nat_cmp xs ys)) (nat_cmp-above x y g)
@@ -116,9 +119,11 @@ module _ (P : Rep) (v : List ℕ) (shaped : IsShaped (followed_by P v)) (st : Is
   -- it isn't zero
   not_zero : 0 < count P → IsSimple (followed_by P v) → ¬ ((i : ℕ) → i < P.rank → entry i 0 ≡ 0)
   not_zero pos h z =
-      zeros_dependent (order P 0) (field 0 pos) P.rank (size P) (matrix (followed_by P v) 0) (λ k. (k == size P) || (k == size P)) (ap (λ b. b || (size P == size P)) (same_number (size P)))
+      zeros_dependent (order P 0) (field 0 pos) P.rank (size P) (matrix (followed_by P v) 0) (λ k. (k == size P) || (k == size P))
+      (ap (λ b. b || (size P == size P)) (same_number (size P)))
       (λ k l. matrix_last P v 0 k ∙ z k l)
-      (subst (λ n. IsIndependent (order P 0) P.rank n (matrix (followed_by P v) 0) (λ k. (k == size P) || (k == size P))) (size_followed P v) (h 0 (size P) (size P) pos last_below last_below))
+      (subst (λ n. IsIndependent (order P 0) P.rank n (matrix (followed_by P v) 0) (λ k. (k == size P) || (k == size P)))
+      (size_followed P v) (h 0 (size P) (size P) pos last_below last_below))
 
   -- ---- the last column of one factor scaled
 
@@ -157,8 +162,10 @@ module _ (P : Rep) (v : List ℕ) (shaped : IsShaped (followed_by P v)) (st : Is
       codes = same.codes;
       back_codes = same.back_codes;
       inverse = same.inverse;
-      scalars = λ g j o _. (let F = field g o in elim (j == size P) as (λ b. cond b (factor_scalar g) 1 < order P g) [ true ↦ scalar_code g o | false ↦ F.two ]);
-      nonzero = λ g j o _. elim (j == size P) as (λ b. cond b (factor_scalar g) 1 ≢ 0) [ true ↦ scalar_nonzero g | false ↦ (λ z. let k : 1 ≡ zero = z in absurd (omega arith)) ];
+      scalars = λ g j o _. (let F = field g o in
+          elim (j == size P) as (λ b. cond b (factor_scalar g) 1 < order P g) [ true ↦ scalar_code g o | false ↦ F.two ]);
+      nonzero = λ g j o _. elim (j == size P) as (λ b. cond b (factor_scalar g) 1 ≢ 0)
+          [ true ↦ scalar_nonzero g | false ↦ (λ z. let k : 1 ≡ zero = z in absurd (omega arith)) ];
       labels = same.labels;
     }
       where
@@ -179,14 +186,16 @@ module _ (P : Rep) (v : List ℕ) (shaped : IsShaped (followed_by P v)) (st : Is
     unfolding scaled new_column
     scaled_length = let k = column_with_codes P.factors P.rank new_column (λ g i o m. (let F = field g o in F.times_below _ _)) in k.rows
 
-    codes_moved : (g i j : ℕ) → g < count P → i < P.rank → j < size (followed_by P v) → matrix (followed_by P scaled) g i j ≡ moved (shape (followed_by P v)) (matrix (followed_by P v)) scaling g i j
+    codes_moved : (g i j : ℕ) → g < count P → i < P.rank → j < size (followed_by P v) →
+        matrix (followed_by P scaled) g i j ≡ moved (shape (followed_by P v)) (matrix (followed_by P v)) scaling g i j
     unfolding scaling identity
     codes_moved g i j o m n =
         let F = field g o in
         let same = combination-unit (order P g) F P.rank (λ k. matrix (followed_by P v) g k j) i m (shaped.codes g i j o m n) in
         elim (cases_lt j (size P)) [
           | inl b ↦ (matrix_before P scaled g i j b ∙ sym (matrix_before P v g i j b)
-              ∙ sym ((λ t. times (order P g) (at_last-before (size P) (factor_scalar g) (λ _. 1) j b t) (same t)) ∙ F.times_one (matrix (followed_by P v) g i j) (shaped.codes g i j o m n)))
+              ∙ sym ((λ t. times (order P g) (at_last-before (size P) (factor_scalar g) (λ _. 1) j b t) (same t))
+              ∙ F.times_one (matrix (followed_by P v) g i j) (shaped.codes g i j o m n)))
           | inr h ↦ (let k : size (followed_by P v) ≡ suc (size P) = size_followed P v in
               let e : j ≡ size P = omega arith in
               ap (matrix (followed_by P scaled) g i) e ∙ matrix_last P scaled g i ∙ scaled-at g i o m
@@ -203,17 +212,20 @@ module _ (P : Rep) (v : List ℕ) (shaped : IsShaped (followed_by P v)) (st : Is
       valid = scaling_move mode;
       takes = record {
         same_shape = λ i. record { factors = P.factors; rank = P.rank; size = (size_followed P scaled ∙ sym (size_followed P v)) i };
-        shaped = shaped_pushed P scaled (shaped_before P v shaped) (column_with_codes P.factors P.rank new_column (λ g i o m. (let F = field g o in F.times_below _ _)));
+        shaped = shaped_pushed P scaled (shaped_before P v shaped)
+            (column_with_codes P.factors P.rank new_column (λ g i o m. (let F = field g o in F.times_below _ _)));
         codes = codes_moved;
       };
     }
 
     -- where its code in row i and factor f gets less, and it has no code before it in that factor, it gets less
-    scaled_less : (lead : ℕ) → lead < P.rank → ((k : ℕ) → k < lead → entry k f ≡ 0) → times (order P f) c (entry lead f) < entry lead f → rep_cmp (followed_by P v) (followed_by P scaled) ≡ Greater
+    scaled_less : (lead : ℕ) → lead < P.rank → ((k : ℕ) → k < lead → entry k f ≡ 0) →
+        times (order P f) c (entry lead f) < entry lead f → rep_cmp (followed_by P v) (followed_by P scaled) ≡ Greater
     scaled_less lead d z less =
         slice_cmp-append (slice_cmp nat_cmp) P.columns (v ∷ []) P.columns (scaled ∷ []) refl
         ∙ ap (λ (o : Ordering). ordering_then o (slice_cmp (slice_cmp nat_cmp) (v ∷ []) (scaled ∷ []))) (columns_level P.columns)
-        ∙ ap (λ (o : Ordering). ordering_then o Equal) (greater_at v scaled place (as_long ∙ sym scaled_length) (subst (λ n. place < n) (sym as_long) inside) before
+        ∙ ap (λ (o : Ordering). ordering_then o Equal)
+        (greater_at v scaled place (as_long ∙ sym scaled_length) (subst (λ n. place < n) (sym as_long) inside) before
         (subst (λ (x : ℕ). x < slice_index v place) (sym (scaled-at f lead l d ∙ ap (λ s. times (order P f) s (entry lead f)) scalar_own)) less))
       where
         place : ℕ
@@ -231,7 +243,9 @@ module _ (P : Rep) (v : List ℕ) (shaped : IsShaped (followed_by P v)) (st : Is
             let i : e / count P < P.rank = row_below e (count P) P.rank pos (omega (arith, inside)) in
             let g : e % count P < count P = mod-lt e pos in
             let p : e / count P * count P + e % count P ≡ e = whole e (count P) pos in
-            sym (ap (slice_index v) p) ∙ sym (scaled-at (e % count P) (e / count P) g i ∙ kept (e / count P) (e % count P) i g (subst (λ (x : ℕ). x < place) (sym p) b)) ∙ ap (slice_index scaled) p
+            sym (ap (slice_index v) p)
+            ∙ sym (scaled-at (e % count P) (e / count P) g i
+            ∙ kept (e / count P) (e % count P) i g (subst (λ (x : ℕ). x < place) (sym p) b)) ∙ ap (slice_index scaled) p
           where
             kept : (i g : ℕ) → i < P.rank → g < count P → i * count P + g < place → times (order P g) (factor_scalar g) (entry i g) ≡ entry i g
             kept i g m o b =
@@ -249,7 +263,8 @@ module _ (P : Rep) (v : List ℕ) (shaped : IsShaped (followed_by P v)) (st : Is
                 ]
 
   -- in a form the first code that isn't zero is 1
-  lead_one : (mode : Mode) → IsForm mode (followed_by P v) → (f lead : ℕ) → f < count P → lead < P.rank → ((k : ℕ) → k < lead → entry k f ≡ 0) → entry lead f ≢ 0 → entry lead f ≡ 1
+  lead_one : (mode : Mode) → IsForm mode (followed_by P v) → (f lead : ℕ) → f < count P → lead < P.rank →
+      ((k : ℕ) → k < lead → entry k f ≡ 0) → entry lead f ≢ 0 → entry lead f ≡ 1
   lead_one mode h f lead l d z ne =
       elim (cases_eq (entry lead f) 1) [
         | inl e ↦ e
@@ -257,13 +272,16 @@ module _ (P : Rep) (v : List ℕ) (shaped : IsShaped (followed_by P v)) (st : Is
             let x : entry lead f < order P f = entry_code lead f d l in
             let c = F.inverse_below (entry lead f) x in
             let n = inverse_nonzero (order P f) F (entry lead f) x ne in
-            let one : times (order P f) (inverse (order P f) (entry lead f)) (entry lead f) ≡ 1 = F.times_comm (inverse (order P f) (entry lead f)) (entry lead f) ∙ F.times_inverse (entry lead f) x ne in
-            absurd (h.least (followed_by P (scaled f l (inverse (order P f) (entry lead f)) c n)) (standard_followed P (scaled f l (inverse (order P f) (entry lead f)) c n) st)
+            let one : times (order P f) (inverse (order P f) (entry lead f)) (entry lead f) ≡ 1 =
+            F.times_comm (inverse (order P f) (entry lead f)) (entry lead f) ∙ F.times_inverse (entry lead f) x ne in
+            absurd (h.least (followed_by P (scaled f l (inverse (order P f) (entry lead f)) c n))
+            (standard_followed P (scaled f l (inverse (order P f) (entry lead f)) c n) st)
             (equivalent_scaled f l (inverse (order P f) (entry lead f)) c n mode)
             (scaled_less f l (inverse (order P f) (entry lead f)) c n lead d z (omega arith))))
       ]
 
-  normalised : (mode : Mode) → IsForm mode (followed_by P v) → 0 < count P → Agrees (followed_by P v) → IsSimple (followed_by P v) → IsNormalised P.factors P.rank v
+  normalised : (mode : Mode) → IsForm mode (followed_by P v) → 0 < count P → Agrees (followed_by P v) → IsSimple (followed_by P v) →
+      IsNormalised P.factors P.rank v
   normalised mode h pos a simple =
       elim (lead_or_zero P.rank (λ i. entry i 0)) [
         | inl w ↦ record {

@@ -47,7 +47,8 @@ pair_turned i j k = turned (k == j) (k == i)
     ]
 
 -- the pairs of each column and one that isn't after it are all pairs
-pub pairs_both : (M : Rep) (f n : ℕ) → ((j : ℕ) → j < n → (i : ℕ) → i ≤ j → IsIndependentIn M f (pair i j)) → (i j : ℕ) → i < n → j < n → IsIndependentIn M f (pair i j)
+pub pairs_both : (M : Rep) (f n : ℕ) → ((j : ℕ) → j < n → (i : ℕ) → i ≤ j → IsIndependentIn M f (pair i j)) → (i j : ℕ) → i < n →
+    j < n → IsIndependentIn M f (pair i j)
 pairs_both M f n h i j l m = elim (cases_lt j i) [
   | inr b ↦ h j m i b
   | inl g ↦ IsIndependent-same (order M f) M.rank (size M) (matrix M f) (pair j i) (pair i j) (λ k _. pair_turned i j k) (h i l j (omega arith))

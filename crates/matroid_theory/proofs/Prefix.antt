@@ -26,7 +26,8 @@ then-assoc Less b c = refl
 then-assoc Equal b c = refl
 then-assoc Greater b c = refl
 
-pub slice_cmp-append : {A : Type 0} (R : A → A → Ordering) (a b c d : List A) → length a ≡ length c → slice_cmp R (a ++ b) (c ++ d) ≡ ordering_then (slice_cmp R a c) (slice_cmp R b d)
+pub slice_cmp-append : {A : Type 0} (R : A → A → Ordering) (a b c d : List A) → length a ≡ length c →
+    slice_cmp R (a ++ b) (c ++ d) ≡ ordering_then (slice_cmp R a c) (slice_cmp R b d)
 slice_cmp-append R [] b [] d e = refl
 slice_cmp-append R [] b (y ∷ ys) d e = absurd (omega arith)
 slice_cmp-append R (x ∷ xs) b [] d e = absurd (omega arith)
@@ -48,7 +49,8 @@ kept : (n : ℕ) (p u : ℕ → ℕ) → ((j : ℕ) → j < n → p j < n) → (
 kept n p u b t j l =
     elim (cases_lt j n) [
       | inl s ↦ ap (at_last n n u) (at_last-before n n p j s) ∙ at_last-before n n u (p j) (b j s) ∙ t j s
-      | inr g ↦ (let e : j ≡ n = omega arith in ap (λ j. at_last n n u (at_last n n p j)) e ∙ ap (at_last n n u) (at_last-own n n p) ∙ at_last-own n n u ∙ sym e)
+      | inr g ↦ (let e : j ≡ n = omega arith in ap (λ j. at_last n n u (at_last n n p j)) e ∙ ap (at_last n n u) (at_last-own n n p)
+          ∙ at_last-own n n u ∙ sym e)
     ]
 
 kept_below : (n : ℕ) (p : ℕ → ℕ) → ((j : ℕ) → j < n → p j < n) → (j : ℕ) → j < suc n → at_last n n p j < suc n
@@ -62,7 +64,8 @@ kept_below n p b j l =
 pub extended : ℕ → Move → Move
 extended n m = record m { scalar = λ f. at_last n 1 (m.scalar f); label = at_last n n m.label; place = at_last n n m.place }
 
-extended_move : (mode : Mode) (S : Shape) → ((f : ℕ) → f < length S.factors → IsOrder (slice_index S.factors f)) → (m : Move) → IsMove mode S m → IsMove mode (record S { size = suc S.size }) (extended S.size m)
+extended_move : (mode : Mode) (S : Shape) → ((f : ℕ) → f < length S.factors → IsOrder (slice_index S.factors f)) → (m : Move) →
+    IsMove mode S m → IsMove mode (record S { size = suc S.size }) (extended S.size m)
 unfolding extended
 extended_move mode S fields m v = record {
   powers = v.powers;
@@ -77,7 +80,8 @@ extended_move mode S fields m v = record {
   ];
   nonzero = λ f j l o z. elim (cases_lt j S.size) [
     | inl s ↦ v.nonzero f j l s (sym (at_last-before S.size 1 (m.scalar f) j s) ∙ z)
-    | inr g ↦ (let e : j ≡ S.size = omega arith in let k : 1 ≡ zero = sym (ap (at_last S.size 1 (m.scalar f)) e ∙ at_last-own S.size 1 (m.scalar f)) ∙ z in omega arith)
+    | inr g ↦ (let e : j ≡ S.size = omega arith in
+        let k : 1 ≡ zero = sym (ap (at_last S.size 1 (m.scalar f)) e ∙ at_last-own S.size 1 (m.scalar f)) ∙ z in omega arith)
   ];
   labels = record {
     below = kept_below S.size m.label v.labels.below;
@@ -107,7 +111,8 @@ module _ (mode : Mode) (P P' : Rep) (v : List ℕ) (whole : IsShaped (followed_b
   whole_shape : shape (followed_by P' last) ≡ shape (followed_by P v)
   whole_shape = λ i. record { factors = same_factors i; rank = same_rank i; size = (size_followed P' last ∙ ap suc same_size ∙ sym (size_followed P v)) i }
 
-  codes_before : (f i j : ℕ) → f < count P → i < P.rank → j < size P → matrix (followed_by P' last) f i j ≡ moved (shape (followed_by P v)) (matrix (followed_by P v)) (extended (size P) e.move) f i j
+  codes_before : (f i j : ℕ) → f < count P → i < P.rank → j < size P →
+      matrix (followed_by P' last) f i j ≡ moved (shape (followed_by P v)) (matrix (followed_by P v)) (extended (size P) e.move) f i j
   unfolding extended
   codes_before f i j l m n =
       matrix_before P' last f i j (subst (λ s. j < s) (sym same_size) n)
@@ -115,10 +120,15 @@ module _ (mode : Mode) (P P' : Rep) (v : List ℕ) (whole : IsShaped (followed_b
       ∙ (λ t. times (order P f) (sym (at_last-before (size P) 1 (e.move.scalar f) j n) t) (inner t))
     where
       inner : combination (order P f) P.rank (e.move.rows f) (λ k. raised (order P f) (e.move.power f) (matrix P f k (e.move.label j))) i
-          ≡ combination (order P f) P.rank (e.move.rows f) (λ k. raised (order P f) (e.move.power f) (matrix (followed_by P v) f k (at_last (size P) (size P) e.move.label j))) i
+          ≡ combination (order P f) P.rank (e.move.rows f)
+          (λ k. raised (order P f) (e.move.power f) (matrix (followed_by P v) f k (at_last (size P) (size P) e.move.label j))) i
       inner =
-          combination-same (order P f) (field_laws (order P f) (e.shaped.orders f l)) P.rank (e.move.rows f) (λ k. raised (order P f) (e.move.power f) (matrix P f k (e.move.label j))) (λ k. raised (order P f) (e.move.power f) (matrix (followed_by P v) f k (at_last (size P) (size P) e.move.label j))) i
-          (λ k k'. ap (raised (order P f) (e.move.power f)) (sym (ap (matrix (followed_by P v) f k) (at_last-before (size P) (size P) e.move.label j n) ∙ matrix_before P v f k (e.move.label j) (e.valid.labels.below j n))))
+          combination-same (order P f) (field_laws (order P f) (e.shaped.orders f l)) P.rank (e.move.rows f)
+          (λ k. raised (order P f) (e.move.power f) (matrix P f k (e.move.label j)))
+          (λ k. raised (order P f) (e.move.power f) (matrix (followed_by P v) f k (at_last (size P) (size P) e.move.label j))) i
+          (λ k k'. ap (raised (order P f) (e.move.power f))
+          (sym (ap (matrix (followed_by P v) f k) (at_last-before (size P) (size P) e.move.label j n)
+          ∙ matrix_before P v f k (e.move.label j) (e.valid.labels.below j n))))
 
   -- the same count of factors, and the code of the new column is one
   here : (f : ℕ) → f < count P' → f < count P
@@ -135,7 +145,9 @@ module _ (mode : Mode) (P P' : Rep) (v : List ℕ) (whole : IsShaped (followed_b
   equivalent_whole = record {
     shaped = whole;
     move = extended (size P) e.move;
-    valid = subst (λ S. IsMove mode S (extended (size P) e.move)) (λ i. record { factors = P.factors; rank = P.rank; size = sym (size_followed P v) i }) (extended_move mode (shape P) e.shaped.orders e.move e.valid);
+    valid = subst (λ S. IsMove mode S (extended (size P) e.move))
+        (λ i. record { factors = P.factors; rank = P.rank; size = sym (size_followed P v) i })
+        (extended_move mode (shape P) e.shaped.orders e.move e.valid);
     takes = record {
       same_shape = whole_shape;
       shaped = shaped_pushed P' last e.takes.shaped (column_with_codes P'.factors P'.rank new_column new_code);
@@ -146,12 +158,14 @@ module _ (mode : Mode) (P P' : Rep) (v : List ℕ) (whole : IsShaped (followed_b
     };
   }
     where
-      codes_last : (f i j : ℕ) → f < count P → i < P.rank → j < size (followed_by P v) → size P ≤ j → matrix (followed_by P' last) f i j ≡ moved (shape (followed_by P v)) (matrix (followed_by P v)) (extended (size P) e.move) f i j
+      codes_last : (f i j : ℕ) → f < count P → i < P.rank → j < size (followed_by P v) → size P ≤ j →
+          matrix (followed_by P' last) f i j ≡ moved (shape (followed_by P v)) (matrix (followed_by P v)) (extended (size P) e.move) f i j
       codes_last f i j l m n g =
           let k : size (followed_by P v) ≡ suc (size P) = size_followed P v in
           let o : j ≡ size P = omega arith in
           ap (matrix (followed_by P' last) f i) (o ∙ sym same_size)
-          ∙ matrix_last P' last f i ∙ column_with-at P'.rank (count P') new_column f i (subst (λ r. i < r) (sym same_rank) m) (subst (λ fs. f < length fs) (sym same_factors) l)
+          ∙ matrix_last P' last f i ∙ column_with-at P'.rank (count P') new_column f i (subst (λ r. i < r) (sym same_rank) m)
+          (subst (λ fs. f < length fs) (sym same_factors) l)
           ∙ ap (moved (shape (followed_by P v)) (matrix (followed_by P v)) (extended (size P) e.move) f i) (sym o)
 
 -- where the last column of a form is left out, and there are still rank many columns, a form is left
@@ -163,7 +177,8 @@ prefix_form mode P v room h = record {
     agrees = rest_agrees P v whole form.some (λ j. nat_lt j P.rank) (units_basis P (shaped_before P v whole) standard 0 form.some) form.agrees;
   };
   standard = standard;
-  least = λ P' s e g. h.least (followed_by P' (last mode P P' v whole e)) (standard_followed P' (last mode P P' v whole e) s) (equivalent_whole mode P P' v whole e)
+  least = λ P' s e g. h.least (followed_by P' (last mode P P' v whole e)) (standard_followed P' (last mode P P' v whole e) s)
+      (equivalent_whole mode P P' v whole e)
       (slice_cmp-append (slice_cmp nat_cmp) P.columns (v ∷ []) P'.columns (last mode P P' v whole e ∷ []) (sym (same_size mode P P' v whole e))
       ∙ ap (λ (o : Ordering). ordering_then o (slice_cmp (slice_cmp nat_cmp) (v ∷ []) (last mode P P' v whole e ∷ []))) g);
 }

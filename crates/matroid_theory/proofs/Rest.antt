@@ -24,7 +24,8 @@ module _ (q : ℕ) (F : IsField q) where
   first_independent r n A S e d = record {
     only_zero = λ a c z j l.
         sym (last_before q F n a 0 j l) ∙ d.only_zero (with_last q F n a 0) (last_coefficients q F n S a 0 c (zero_below q F) (λ _. refl))
-        (λ i m. combination_last q F n A a 0 i ∙ ap (plus q (combination q n A a i)) (times_zero q F (A i n)) ∙ plus_zero_right q F (combination q n A a i) (sum_below-code q F n _) ∙ z i m) j (omega arith);
+        (λ i m. combination_last q F n A a 0 i ∙ ap (plus q (combination q n A a i)) (times_zero q F (A i n))
+        ∙ plus_zero_right q F (combination q n A a i) (sum_below-code q F n _) ∙ z i m) j (omega arith);
   }
 
 -- the numbers below r, among those below n
@@ -53,7 +54,8 @@ module _ (P : Rep) (v : List ℕ) (shaped : IsShaped (followed_by P v)) where
     full = ap (λ n. size_below n T) (size_followed P v) ∙ size_stays (size P) T e ∙ b.full;
     independent = subst (λ n. IsIndependent (order P f) P.rank n (matrix (followed_by P v) f) T) (sym (size_followed P v))
         (without_last (order P f) (field f l) P.rank (size P) (matrix (followed_by P v) f) T e
-        (IsIndependent-codes (order P f) P.rank (size P) (matrix P f) (matrix (followed_by P v) f) T (λ i j _ m. sym (matrix_before P v f i j m)) b.independent));
+        (IsIndependent-codes (order P f) P.rank (size P) (matrix P f) (matrix (followed_by P v) f) T
+        (λ i j _ m. sym (matrix_before P v f i j m)) b.independent));
   }
 
   pub basis_in_part : (f : ℕ) → f < count P → (T : ℕ → Bool) → T (size P) ≡ false → IsBasis (followed_by P v) f T → IsBasis P f T
@@ -83,18 +85,28 @@ module _ (P : Rep) (v : List ℕ) (shaped : IsShaped (followed_by P v)) where
   rest_simple : IsSimple (followed_by P v) → IsSimple P
   rest_simple h f i j l m n =
       let k : size (followed_by P v) ≡ suc (size P) = size_followed P v in
-      IsIndependent-codes (order P f) P.rank (size P) (matrix (followed_by P v) f) (matrix P f) (λ k. (k == i) || (k == j)) (λ i' j' _ o. matrix_before P v f i' j' o)
-      (first_independent (order P f) (field f l) P.rank (size P) (matrix (followed_by P v) f) (λ k. (k == i) || (k == j)) (λ t. other_number (size P) i (λ e. absurd (omega arith)) t || other_number (size P) j (λ e. absurd (omega arith)) t)
-      (subst (λ n. IsIndependent (order P f) P.rank n (matrix (followed_by P v) f) (λ k. (k == i) || (k == j))) (size_followed P v) (h f i j l (omega arith) (omega arith))))
+      IsIndependent-codes (order P f) P.rank (size P) (matrix (followed_by P v) f) (matrix P f) (λ k. (k == i) || (k == j))
+      (λ i' j' _ o. matrix_before P v f i' j' o)
+      (first_independent (order P f) (field f l) P.rank (size P) (matrix (followed_by P v) f) (λ k. (k == i) || (k == j))
+      (λ t. other_number (size P) i (λ e. absurd (omega arith)) t || other_number (size P) j (λ e. absurd (omega arith)) t)
+      (subst (λ n. IsIndependent (order P f) P.rank n (matrix (followed_by P v) f) (λ k. (k == i) || (k == j))) (size_followed P v)
+      (h f i j l (omega arith) (omega arith))))
 
   pub rest_minor : (N : Matroid) → 0 < count P → IsMinor N P → IsMinor N (followed_by P v)
   rest_minor N pos (f, C, h) = (
     f,
     but (size P) C,
     record {
-      injection = record { below = λ x l. (let i = h.injection in let b : f x < size P = i.below x l in let k : size (followed_by P v) ≡ suc (size P) = size_followed P v in omega arith); apart = (let i = h.injection in i.apart) };
+      injection = record {
+        below =
+            λ x l. (let i = h.injection in let b : f x < size P = i.below x l in
+            let k : size (followed_by P v) ≡ suc (size P) = size_followed P v in omega arith);
+        apart = (let i = h.injection in i.apart);
+      };
       outside = λ x l. (let i = h.injection in other C (f x) (i.below x l)) ∙ h.outside x l;
-      contracted = ap (λ s. N.rank + s) (ap (λ n. size_below n (but (size P) C)) (size_followed P v) ∙ size_stays (size P) (but (size P) C) (but_own (size P) C) ∙ size-same (size P) (but (size P) C) C (other C)) ∙ h.contracted;
+      contracted = ap (λ s. N.rank + s)
+          (ap (λ n. size_below n (but (size P) C)) (size_followed P v) ∙ size_stays (size P) (but (size P) C) (but_own (size P) C)
+          ∙ size-same (size P) (but (size P) C) C (other C)) ∙ h.contracted;
       bases = λ X l.
           let T : ℕ → Bool = λ k. image N.size f (members X) k || C k in
           let T' : ℕ → Bool = λ k. image N.size f (members X) k || but (size P) C k in
@@ -115,7 +127,9 @@ module _ (P : Rep) (v : List ℕ) (shaped : IsShaped (followed_by P v)) where
       and_false false b e = refl
 
       none : (X : ℕ) → image N.size f (members X) (size P) ≡ false
-      none X = any_none N.size (λ x. members X x && (f x == size P)) (λ x l. and_false (members X x) (f x == size P) (other_number (f x) (size P) (λ e. (let i = h.injection in let b : f x < size P = i.below x l in absurd (omega arith)))))
+      none X = any_none N.size (λ x. members X x && (f x == size P))
+          (λ x l. and_false (members X x) (f x == size P)
+          (other_number (f x) (size P) (λ e. (let i = h.injection in let b : f x < size P = i.below x l in absurd (omega arith)))))
 
   rest_member_of : (q : Family) (n : ℕ) (S : ℕ → Bool) → IsBasis P 0 S → IsMember q n (followed_by P v) → IsMember q (size P) P
   rest_member_of q n S b m =

@@ -25,10 +25,15 @@ module _ (q : ℕ) (F : IsField q) (r : ℕ) where
       → (k : ℕ) (c : ℕ → ℕ) → ((i : ℕ) → i < r → combination q r (λ i l. A i (p l)) c i ≡ A i k)
       → (i : ℕ) → i < r → combination q r G (λ m. raised q t (A m k)) i ≡ times q (inverse q (s i)) (raised q t (c i))
   standard_entry t G A s p s_code s_nonzero units k c is i l =
-      combination-same q F r G (λ m. raised q t (A m k)) (λ m. combination q r (λ i l. raised q t (A i (p l))) (λ l. raised q t (c l)) m) i (λ m m'. ap (raised q t) (sym (is m m')) ∙ raised_combination q F t r (λ i l. A i (p l)) c m)
+      combination-same q F r G (λ m. raised q t (A m k))
+      (λ m. combination q r (λ i l. raised q t (A i (p l))) (λ l. raised q t (c l)) m) i
+      (λ m m'. ap (raised q t) (sym (is m m')) ∙ raised_combination q F t r (λ i l. A i (p l)) c m)
       ∙ sym (combination-product q F r r G (λ i l. raised q t (A i (p l))) (λ l. raised q t (c l)) i)
-      ∙ sum_same q F r (λ m. times q (combination q r G (λ k. raised q t (A k (p m))) i) (raised q t (c m))) (λ m. times q (unit i m) (times q (inverse q (s m)) (raised q t (c m)))) (λ m m'.
-      ap (λ x. times q x (raised q t (c m))) (sym (times_undone q F (s m) (combination q r G (λ k. raised q t (A k (p m))) i) (s_code m m') (s_nonzero m m') (sum_below-code q F r _)) ∙ ap (times q (inverse q (s m))) (units i m l m') ∙ F.times_comm (inverse q (s m)) (unit i m))
+      ∙ sum_same q F r (λ m. times q (combination q r G (λ k. raised q t (A k (p m))) i) (raised q t (c m)))
+      (λ m. times q (unit i m) (times q (inverse q (s m)) (raised q t (c m)))) (λ m m'.
+      ap (λ x. times q x (raised q t (c m)))
+      (sym (times_undone q F (s m) (combination q r G (λ k. raised q t (A k (p m))) i) (s_code m m') (s_nonzero m m')
+      (sum_below-code q F r _)) ∙ ap (times q (inverse q (s m))) (units i m l m') ∙ F.times_comm (inverse q (s m)) (unit i m))
       ∙ F.times_assoc (unit i m) (inverse q (s m)) (raised q t (c m)))
       ∙ combination-unit q F r (λ m. times q (inverse q (s m)) (raised q t (c m))) i l (F.times_below (inverse q (s i)) (raised q t (c i)))
 
@@ -38,12 +43,18 @@ module _ (q : ℕ) (F : IsField q) (r : ℕ) where
   sum_short (suc n) f le z =
       elim (cases_lt n r) [
         | inl b ↦ (let e : suc n ≡ r = omega arith in ap (λ n. sum_below q n f) e)
-        | inr g ↦ ap (plus q (sum_below q n f)) (z n g (omega arith)) ∙ plus_zero_right q F (sum_below q n f) (sum_below-code q F n f) ∙ sum_short n f g (λ j l m. z j l (omega arith))
+        | inr g ↦ ap (plus q (sum_below q n f)) (z n g (omega arith))
+            ∙ plus_zero_right q F (sum_below q n f) (sum_below-code q F n f) ∙ sum_short n f g (λ j l m. z j l (omega arith))
       ]
 
   -- independent columns k with u k < r, in the order of p
-  pub ordered_independent : (n : ℕ) (A : Matrix) (p u : ℕ → ℕ) → r ≤ n → ArePermutation n p u → IsIndependent q r n A (λ k. nat_lt (u k) r) → Independent q r r (λ i l. A i (p l))
-  ordered_independent n A p u le w h = record { only_zero = λ a c z l m. sym (at a l m) ∙ h.only_zero (spread a) (coefficients a c) (λ i k. rows a i ∙ z i k) (p l) (w.below l (omega arith)) }
+  pub ordered_independent : (n : ℕ) (A : Matrix) (p u : ℕ → ℕ) → r ≤ n → ArePermutation n p u →
+      IsIndependent q r n A (λ k. nat_lt (u k) r) → Independent q r r (λ i l. A i (p l))
+  ordered_independent n A p u le w h =
+      record {
+        only_zero = λ a c z l m. sym (at a l m) ∙ h.only_zero (spread a) (coefficients a c) (λ i k. rows a i ∙ z i k) (p l)
+            (w.below l (omega arith));
+      }
     where
       spread : (ℕ → ℕ) → ℕ → ℕ
       spread a k = cond (nat_lt (u k) r) (a (u k)) 0
@@ -77,7 +88,8 @@ size_first (suc n) r le =
     elim (cases_lt n r) [
       | inl b ↦ (let e : suc n ≡ r = omega arith in
           ap (λ b. size_below n (λ j. nat_lt j r) + cond b 1 0) (lt-ltb n r b)
-          ∙ ap (λ x. x + 1) (size-same n (λ j. nat_lt j r) (λ j. nat_lt j n) (λ j l. (let m : j < r = omega arith in lt-ltb j r m) ∙ sym (lt-ltb j n l)) ∙ size_first n n (omega arith)) ∙ omega arith)
+          ∙ ap (λ x. x + 1) (size-same n (λ j. nat_lt j r) (λ j. nat_lt j n)
+          (λ j l. (let m : j < r = omega arith in lt-ltb j r m) ∙ sym (lt-ltb j n l)) ∙ size_first n n (omega arith)) ∙ omega arith)
       | inr g ↦ ap (λ b. size_below n (λ j. nat_lt j r) + cond b 1 0) (le-ltb n r g) ∙ ap (λ x. x + 0) (size_first n r g) ∙ omega arith
     ]
 
@@ -98,24 +110,37 @@ module _ (mode : Mode) (M N : Rep) (m : Move) (shaped : IsShaped M) (s : IsStand
     -- the columns that the first columns came from are a basis
     pub standard_basis : IsBasis M f (λ k. nat_lt (m.place k) M.rank)
     standard_basis =
-        let first : IsBasis N f (λ j. nat_lt j N.rank) = record { full = size_first (size N) N.rank s.room; independent = units_independent (order N f) (field_laws (order N f) (let o = t.shaped in o.orders f there)) N.rank (size N) (matrix N f) s.room (λ i j. s.units f i j there) } in
+        let first : IsBasis N f (λ j. nat_lt j N.rank) =
+        record {
+          full = size_first (size N) N.rank s.room;
+          independent = units_independent (order N f)
+              (field_laws (order N f) (let o = t.shaped in o.orders f there)) N.rank (size N) (matrix N f) s.room (λ i j. s.units f i j there);
+        } in
         let c = basis_carried mode M N m shaped v t f l (λ k. nat_lt (m.place k) M.rank) in
         c.1 (IsBasis-same N f (λ j. nat_lt j N.rank) (λ j. nat_lt (m.place (m.label j)) M.rank)
         (λ j k. ap (nat_lt j) (sym same_rank) ∙ ap (λ x. nat_lt x M.rank) (sym (v.labels.there j (subst (λ s. j < s.size) t.same_shape k)))) first)
 
     -- each column has coordinates in it
-    pub standard_coordinates : (k : ℕ) → k < size M → (c : ℕ → ℕ) × ((i : ℕ) → i < M.rank → c i < order M f) × ((i : ℕ) → i < M.rank → combination (order M f) M.rank (λ i l. matrix M f i (m.label l)) c i ≡ matrix M f i (m.label k))
+    pub standard_coordinates : (k : ℕ) → k < size M → (c : ℕ → ℕ) × ((i : ℕ) → i < M.rank → c i < order M f)
+        × ((i : ℕ) → i < M.rank → combination (order M f) M.rank (λ i l. matrix M f i (m.label l)) c i ≡ matrix M f i (m.label k))
     standard_coordinates k b =
-        spanning (order M f) (field_laws (order M f) (shaped.orders f l)) M.rank (λ i l. matrix M f i (m.label l)) (λ i j n o. shaped.codes f i (m.label j) l n (v.labels.below j (inside j o)))
-        (ordered_independent (order M f) (field_laws (order M f) (shaped.orders f l)) M.rank (size M) (matrix M f) m.label m.place room v.labels (let w = standard_basis in w.independent))
+        spanning (order M f) (field_laws (order M f) (shaped.orders f l)) M.rank (λ i l. matrix M f i (m.label l))
+        (λ i j n o. shaped.codes f i (m.label j) l n (v.labels.below j (inside j o)))
+        (ordered_independent (order M f) (field_laws (order M f) (shaped.orders f l)) M.rank (size M)
+        (matrix M f) m.label m.place room v.labels (let w = standard_basis in w.independent))
         (λ i. matrix M f i (m.label k)) (λ i n. shaped.codes f i (m.label k) l n (v.labels.below k b))
 
     -- which determine its entries, with the scalars of the move
-    pub standard_by : (k : ℕ) → k < size M → (c : ℕ → ℕ) → ((i : ℕ) → i < M.rank → combination (order M f) M.rank (λ i l. matrix M f i (m.label l)) c i ≡ matrix M f i (m.label k))
-        → (i : ℕ) → i < M.rank → matrix N f i k ≡ times (order M f) (m.scalar f k) (times (order M f) (inverse (order M f) (m.scalar f i)) (raised (order M f) (m.power f) (c i)))
+    pub standard_by : (k : ℕ) → k < size M → (c : ℕ → ℕ) →
+        ((i : ℕ) → i < M.rank → combination (order M f) M.rank (λ i l. matrix M f i (m.label l)) c i ≡ matrix M f i (m.label k))
+        → (i : ℕ) → i < M.rank →
+        matrix N f i k ≡ times (order M f) (m.scalar f k)
+        (times (order M f) (inverse (order M f) (m.scalar f i)) (raised (order M f) (m.power f) (c i)))
     standard_by k b c cc i n =
         t.codes f i k l n b
-        ∙ ap (times (order M f) (m.scalar f k)) (standard_entry (order M f) (field_laws (order M f) (shaped.orders f l)) M.rank (m.power f) (m.rows f) (matrix M f) (m.scalar f) m.label
+        ∙ ap (times (order M f) (m.scalar f k))
+        (standard_entry (order M f) (field_laws (order M f) (shaped.orders f l)) M.rank (m.power f) (m.rows f) (matrix M f)
+        (m.scalar f) m.label
         (λ j h. v.scalars f j l (inside j h)) (λ j h. v.nonzero f j l (inside j h))
         (λ i j h g. sym (t.codes f i j l h (inside j g)) ∙ s.units f i j there (subst (λ x. i < x) same_rank h) (subst (λ x. j < x) same_rank g))
         (m.label k) c cc i n)

@@ -107,13 +107,15 @@ module _ (q : ℕ) (F : IsField q) where
       other j _ ne = ap (λ b. times q (cond b 1 0) (a j)) (other_number i j (λ e. ne (sym e))) ∙ zero_times (a j)
 
   -- (G H) a = G (H a)
-  pub combination-product : (n m : ℕ) (G H : Matrix) (a : ℕ → ℕ) (i : ℕ) → combination q n (matrix_product q m G H) a i ≡ combination q m G (combination q n H a) i
+  pub combination-product : (n m : ℕ) (G H : Matrix) (a : ℕ → ℕ) (i : ℕ) →
+      combination q n (matrix_product q m G H) a i ≡ combination q m G (combination q n H a) i
   combination-product n m G H a i =
       sum_same n (λ j. times q (sum_below q m (λ k. times q (G i k) (H k j))) (a j)) (λ j. sum_below q m (λ k. times q (times q (G i k) (H k j)) (a j)))
       (λ j _. sym (sum_times_right m (a j) (λ k. times q (G i k) (H k j))))
       ∙ sum_swap n m (λ j k. times q (times q (G i k) (H k j)) (a j))
       ∙ sum_same m (λ k. sum_below q n (λ j. times q (times q (G i k) (H k j)) (a j))) (λ k. times q (G i k) (combination q n H a k))
-      (λ k _. sum_same n (λ j. times q (times q (G i k) (H k j)) (a j)) (λ j. times q (G i k) (times q (H k j) (a j))) (λ j _. F.times_assoc (G i k) (H k j) (a j))
+      (λ k _. sum_same n (λ j. times q (times q (G i k) (H k j)) (a j)) (λ j. times q (G i k) (times q (H k j) (a j)))
+      (λ j _. F.times_assoc (G i k) (H k j) (a j))
       ∙ sum_times n (G i k) (λ j. times q (H k j) (a j)))
 
   pub combination-same : (n : ℕ) (A : Matrix) (a b : ℕ → ℕ) (i : ℕ) → ((j : ℕ) → j < n → a j ≡ b j) → combination q n A a i ≡ combination q n A b i
@@ -135,7 +137,8 @@ module _ (q : ℕ) (F : IsField q) where
   -- a sum in another order
   pub sum_relabelled : (n : ℕ) (p u : ℕ → ℕ) → ArePermutation n p u → (f : ℕ → ℕ) → ((j : ℕ) → j < n → f j < q) → sum_below q n (λ j. f (p j)) ≡ sum_below q n f
   sum_relabelled n p u v f c =
-      sum_same n (λ j. f (p j)) (λ j. sum_below q n (λ k. times q (unit (p j) k) (f k))) (λ j l. sym (combination-unit n f (p j) (v.below j l) (c (p j) (v.below j l))))
+      sum_same n (λ j. f (p j)) (λ j. sum_below q n (λ k. times q (unit (p j) k) (f k)))
+      (λ j l. sym (combination-unit n f (p j) (v.below j l) (c (p j) (v.below j l))))
       ∙ sum_swap n n (λ j k. times q (unit (p j) k) (f k))
       ∙ sum_same n (λ k. sum_below q n (λ j. times q (unit (p j) k) (f k))) f at
     where

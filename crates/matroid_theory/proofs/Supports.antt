@@ -26,12 +26,15 @@ but_none i j S e = elim (j == i) as (λ b. cond b false (S j) ≡ false) [ true 
 
 pub size_exchanged : (r n i : ℕ) → r ≤ n → i < r → size_below (suc n) (exchanged r n i) ≡ r
 size_exchanged r n i le l =
-    let a : size_below (suc n) (exchanged r n i) ≡ size_below (suc n) (but i (λ j. nat_lt j r)) + 1 = size_with n (suc n) (but i (λ j. nat_lt j r)) (omega arith) (but_none i n (λ j. nat_lt j r) (le-ltb n r le)) in
-    let b : size_below (suc n) (but i (λ j. nat_lt j r)) + 1 ≡ size_below (suc n) (λ j. nat_lt j r) = size_but i (suc n) (λ j. nat_lt j r) (omega arith) (lt-ltb i r l) in
+    let a : size_below (suc n) (exchanged r n i) ≡ size_below (suc n) (but i (λ j. nat_lt j r)) + 1 =
+    size_with n (suc n) (but i (λ j. nat_lt j r)) (omega arith) (but_none i n (λ j. nat_lt j r) (le-ltb n r le)) in
+    let b : size_below (suc n) (but i (λ j. nat_lt j r)) + 1 ≡ size_below (suc n) (λ j. nat_lt j r) =
+    size_but i (suc n) (λ j. nat_lt j r) (omega arith) (lt-ltb i r l) in
     a ∙ b ∙ size_front r (suc n) (omega arith)
 
 module _ (q : ℕ) (F : IsField q) (r n : ℕ) (A : Matrix) (le : r ≤ n) (u : (i j : ℕ) → i < r → j < r → A i j ≡ unit i j) (i : ℕ) (m : i < r) where
-  module _ (code : A i n < q) (ne : A i n ≢ 0) (a : ℕ → ℕ) (c : AreCoefficients q (suc n) (exchanged r n i) a) (z : (k : ℕ) → k < r → combination q (suc n) A a k ≡ 0) where
+  module _ (code : A i n < q) (ne : A i n ≢ 0) (a : ℕ → ℕ) (c : AreCoefficients q (suc n) (exchanged r n i) a)
+      (z : (k : ℕ) → k < r → combination q (suc n) A a k ≡ 0) where
     front : AreCoefficients q n (λ j. nat_lt j r) a
     front = record {
       codes = λ j l. c.codes j (omega arith);
@@ -98,19 +101,23 @@ module _ (q : ℕ) (F : IsField q) (r n : ℕ) (A : Matrix) (le : r ≤ n) (u : 
       ]
 
       coefficients : AreCoefficients q (suc n) (exchanged r n i) (with_last q F n x 1)
-      coefficients = last_coefficients q F n (exchanged r n i) x 1 (record { codes = λ j l. x_code j; outside = x_outside }) F.two (λ o. absurd (true≢false (sym (with_own n (but i (λ j. nat_lt j r))) ∙ o)))
+      coefficients = last_coefficients q F n (exchanged r n i) x 1 (record { codes = λ j l. x_code j; outside = x_outside }) F.two
+          (λ o. absurd (true≢false (sym (with_own n (but i (λ j. nat_lt j r))) ∙ o)))
 
       zero_row : (k : ℕ) → k < r → combination q (suc n) A (with_last q F n x 1) k ≡ 0
       zero_row k l =
           combination_last q F n A x 1 k
-          ∙ (λ t. plus q ((units_row q F r n A le u x (record { codes = λ j _. x_code j; outside = λ j _ o. x_rest j o }) k l ∙ x_front k l) t) ((F.times_comm (A k n) 1 ∙ F.times_one (A k n) (code k l)) t))
+          ∙ (λ t. plus q ((units_row q F r n A le u x (record { codes = λ j _. x_code j; outside = λ j _ o. x_rest j o }) k l
+          ∙ x_front k l) t) ((F.times_comm (A k n) 1 ∙ F.times_one (A k n) (code k l)) t))
           ∙ F.plus_comm (negative q (A k n)) (A k n) ∙ F.plus_negative (A k n)
 
 -- a column of zeros is dependent
-pub zeros_dependent : (q : ℕ) (F : IsField q) (r n : ℕ) (A : Matrix) (S : ℕ → Bool) → S n ≡ true → ((k : ℕ) → k < r → A k n ≡ 0) → ¬ (IsIndependent q r (suc n) A S)
+pub zeros_dependent : (q : ℕ) (F : IsField q) (r n : ℕ) (A : Matrix) (S : ℕ → Bool) → S n ≡ true → ((k : ℕ) → k < r → A k n ≡ 0) →
+    ¬ (IsIndependent q r (suc n) A S)
 zeros_dependent q F r n A S t z d =
     let one : 1 ≡ zero = sym (last_own q F n (λ _. 0) 1) ∙ d.only_zero (with_last q F n (λ _. 0) 1)
     (last_coefficients q F n S (λ _. 0) 1 (record { codes = λ _ _. zero_below q F; outside = λ _ _ _. refl }) F.two (λ o. absurd (true≢false (sym t ∙ o))))
     (λ k l. combination_last q F n A (λ _. 0) 1 k
-    ∙ (λ t. plus q (combination_zero q F n A (λ _. 0) k (λ _ _. refl) t) ((ap (λ y. times q y 1) (z k l) ∙ zero_times q F 1) t)) ∙ F.plus_zero 0 (zero_below q F)) n (omega arith) in
+    ∙ (λ t. plus q (combination_zero q F n A (λ _. 0) k (λ _ _. refl) t) ((ap (λ y. times q y 1) (z k l) ∙ zero_times q F 1) t))
+    ∙ F.plus_zero 0 (zero_below q F)) n (omega arith) in
     absurd (omega arith)

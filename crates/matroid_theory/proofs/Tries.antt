@@ -33,7 +33,8 @@ with_value-own a n j l =
       | inr g ↦ (let e : j ≡ n = omega arith in ap (λ t. cond t (a n) (a j)) (eq-eqb j n e) ∙ sym (ap a e))
     ]
 
-pub every-at : (q n : ℕ) (p : (ℕ → ℕ) → Bool) → ((a b : ℕ → ℕ) → ((j : ℕ) → j < n → a j ≡ b j) → p a ≡ p b) → every q n p ≡ true → (a : ℕ → ℕ) → ((j : ℕ) → j < n → a j < q) → p a ≡ true
+pub every-at : (q n : ℕ) (p : (ℕ → ℕ) → Bool) → ((a b : ℕ → ℕ) → ((j : ℕ) → j < n → a j ≡ b j) → p a ≡ p b) → every q n p ≡ true →
+    (a : ℕ → ℕ) → ((j : ℕ) → j < n → a j < q) → p a ≡ true
 every-at q zero p same h a c = same a (λ _. 0) (λ j l. absurd (omega arith)) ∙ h
 every-at q (suc n) p same h a c =
     same a (with_value a n (a n)) (λ j l. sym (with_value-own a n j l))
@@ -65,7 +66,8 @@ combination-same q (suc n) A a b i h = λ k. plus q (combination-same q n A a b 
 
 only_zero-same : (q r n : ℕ) (A : Matrix) (S : ℕ → Bool) (a b : ℕ → ℕ) → ((j : ℕ) → j < n → a j ≡ b j) → only_zero q r n A S a ≡ only_zero q r n A S b
 only_zero-same q r n A S a b h =
-    λ k. not (all_below-same r (λ i. combination q n A (within S a) i == 0) (λ i. combination q n A (within S b) i == 0) (λ i _ k. combination-same q n A (within S a) (within S b) i inside k == 0) k)
+    λ k. not (all_below-same r (λ i. combination q n A (within S a) i == 0) (λ i. combination q n A (within S b) i == 0)
+    (λ i _ k. combination-same q n A (within S a) (within S b) i inside k == 0) k)
     || all_below-same n (λ j. within S a j == 0) (λ j. within S b j == 0) (λ j l k. inside j l k == 0) k
   where
     inside : (j : ℕ) → j < n → within S a j ≡ within S b j
@@ -76,8 +78,11 @@ independent_by_test q r n A S h = record { only_zero = zero_by }
   where
     zero_by : (a : ℕ → ℕ) → AreCoefficients q n S a → ((i : ℕ) → i < r → combination q n A a i ≡ 0) → (j : ℕ) → j < n → a j ≡ 0
     zero_by a c z j l =
-        elim (or_cases (not (all_below r (λ i. combination q n A (within S a) i == 0))) _ (every-at q n (only_zero q r n A S) (only_zero-same q r n A S) h a c.codes)) [
-          | inl e ↦ absurd (no_way (all_below r (λ i. combination q n A (within S a) i == 0)) (all_below-from r (λ i. combination q n A (within S a) i == 0) (λ i m. eq-eqb _ 0 (combination-same q n A (within S a) a i own ∙ z i m))) e)
+        elim (or_cases (not (all_below r (λ i. combination q n A (within S a) i == 0)))
+        _ (every-at q n (only_zero q r n A S) (only_zero-same q r n A S) h a c.codes)) [
+          | inl e ↦ absurd (no_way (all_below r (λ i. combination q n A (within S a) i == 0))
+              (all_below-from r (λ i. combination q n A (within S a) i == 0)
+              (λ i m. eq-eqb _ 0 (combination-same q n A (within S a) a i own ∙ z i m))) e)
           | inr e ↦ sym (own j l) ∙ eqb-true (within S a j) 0 (all_below-at n (λ j. within S a j == 0) e j l)
         ]
       where
@@ -92,9 +97,12 @@ is_relation q r n A S cs j =
 
 pub dependent_by_test : (q r n : ℕ) (A : Matrix) (S : ℕ → Bool) (cs : List ℕ) (j : ℕ) → is_relation q r n A S cs j ≡ true → ¬ (IsIndependent q r n A S)
 dependent_by_test q r n A S cs j t h =
-    no_way (slice_index cs j == 0) (eq-eqb (slice_index cs j) 0 (h.only_zero (slice_index cs) coefficients zero_rows j (ltb-true j n (both_left (nat_lt j n) _ t3)))) (both_right (nat_lt j n) _ t3)
+    no_way (slice_index cs j == 0)
+    (eq-eqb (slice_index cs j) 0
+    (h.only_zero (slice_index cs) coefficients zero_rows j (ltb-true j n (both_left (nat_lt j n) _ t3)))) (both_right (nat_lt j n) _ t3)
   where
-    t1 : (all_below n (λ k. S k || (slice_index cs k == 0)) && (all_below r (λ i. combination q n A (slice_index cs) i == 0) && (nat_lt j n && not (slice_index cs j == 0)))) ≡ true
+    t1 : (all_below n (λ k. S k || (slice_index cs k == 0)) &&
+        (all_below r (λ i. combination q n A (slice_index cs) i == 0) && (nat_lt j n && not (slice_index cs j == 0)))) ≡ true
     t1 = both_right (all_below n (λ k. nat_lt (slice_index cs k) q)) _ t
 
     t2 : (all_below r (λ i. combination q n A (slice_index cs) i == 0) && (nat_lt j n && not (slice_index cs j == 0))) ≡ true
@@ -104,13 +112,16 @@ dependent_by_test q r n A S cs j t h =
     t3 = both_right (all_below r (λ i. combination q n A (slice_index cs) i == 0)) _ t2
 
     zero_rows : (i : ℕ) → i < r → combination q n A (slice_index cs) i ≡ 0
-    zero_rows i l = eqb-true _ 0 (all_below-at r (λ i. combination q n A (slice_index cs) i == 0) (both_left (all_below r (λ i. combination q n A (slice_index cs) i == 0)) _ t2) i l)
+    zero_rows i l = eqb-true _ 0
+        (all_below-at r (λ i. combination q n A (slice_index cs) i == 0)
+        (both_left (all_below r (λ i. combination q n A (slice_index cs) i == 0)) _ t2) i l)
 
     coefficients : AreCoefficients q n S (slice_index cs)
     coefficients = record {
       codes = λ k l. ltb-true _ _ (all_below-at n (λ k. nat_lt (slice_index cs k) q) (both_left (all_below n (λ k. nat_lt (slice_index cs k) q)) _ t) k l);
       outside = λ k l o.
-          elim (or_cases (S k) _ (all_below-at n (λ k. S k || (slice_index cs k == 0)) (both_left (all_below n (λ k. S k || (slice_index cs k == 0))) _ t1) k l)) [
+          elim (or_cases (S k) _ (all_below-at n (λ k. S k || (slice_index cs k == 0))
+          (both_left (all_below n (λ k. S k || (slice_index cs k == 0))) _ t1) k l)) [
             | inl e ↦ absurd (true≢false (sym e ∙ o))
             | inr e ↦ eqb-true (slice_index cs k) 0 e
           ];

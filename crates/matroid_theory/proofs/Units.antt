@@ -8,7 +8,8 @@ use Rattle.matroid_theory.proofs.Sums.{sum_one, times_zero, zero_times, same_num
 
 module _ (q : ℕ) (F : IsField q) (r : ℕ) where
   -- a combination of the first columns has their coefficients as its codes
-  pub units_row : (n : ℕ) (A : Matrix) → r ≤ n → ((i j : ℕ) → i < r → j < r → A i j ≡ unit i j) → (a : ℕ → ℕ) → AreCoefficients q n (λ j. nat_lt j r) a → (i : ℕ) → i < r → combination q n A a i ≡ a i
+  pub units_row : (n : ℕ) (A : Matrix) → r ≤ n → ((i j : ℕ) → i < r → j < r → A i j ≡ unit i j) → (a : ℕ → ℕ) →
+      AreCoefficients q n (λ j. nat_lt j r) a → (i : ℕ) → i < r → combination q n A a i ≡ a i
   units_row n A le u a c i b =
       sum_one q F n i (λ j. times q (A i j) (a j)) (omega arith) (F.times_below (A i i) (a i)) (λ j m ne. other j m ne)
       ∙ ap (λ x. times q x (a i)) (u i i b b)
@@ -21,7 +22,8 @@ module _ (q : ℕ) (F : IsField q) (r : ℕ) where
             | inr g ↦ ap (times q (A i j)) (c.outside j m (le-ltb j r g)) ∙ times_zero q F (A i j)
           ]
 
-  units_only : (n : ℕ) (A : Matrix) → r ≤ n → ((i j : ℕ) → i < r → j < r → A i j ≡ unit i j) → (a : ℕ → ℕ) → AreCoefficients q n (λ j. nat_lt j r) a → ((i : ℕ) → i < r → combination q n A a i ≡ 0) → (j : ℕ) → j < n → a j ≡ 0
+  units_only : (n : ℕ) (A : Matrix) → r ≤ n → ((i j : ℕ) → i < r → j < r → A i j ≡ unit i j) → (a : ℕ → ℕ) →
+      AreCoefficients q n (λ j. nat_lt j r) a → ((i : ℕ) → i < r → combination q n A a i ≡ 0) → (j : ℕ) → j < n → a j ≡ 0
   units_only n A le u a c z j l =
       elim (cases_lt j r) [
         | inl b ↦ sym (units_row n A le u a c j b) ∙ z j b

@@ -66,7 +66,8 @@ pub record IsNormalised (factors : List ℕ) (rank : ℕ) (v : List ℕ) : Type 
   pub lead_below : lead < rank
   pub zeros : (i f : ℕ) → i < lead → f < length factors → slice_index v (i * length factors + f) ≡ 0
   pub ones : (f : ℕ) → f < length factors → slice_index v (lead * length factors + f) ≡ 1
-  pub support : (i f g : ℕ) → i < rank → f < length factors → g < length factors → slice_index v (i * length factors + f) ≡ 0 → slice_index v (i * length factors + g) ≡ 0
+  pub support : (i f g : ℕ) → i < rank → f < length factors → g < length factors → slice_index v (i * length factors + f) ≡ 0 →
+      slice_index v (i * length factors + g) ≡ 0
 
 -- P followed by the column v
 abbrev pub followed_by : Rep → List ℕ → Rep

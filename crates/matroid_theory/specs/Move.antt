@@ -7,7 +7,8 @@ use Rattle.matroid_theory.specs.Field.{times, raised, degree}
 use Rattle.matroid_theory.specs.Matrix.{Matrix, combination, AreInverse}
 use Rattle.matroid_theory.specs.Rep.{Rep, count, size, matrix, IsShaped, Shape, shape}
 
--- for each factor a power of the Frobenius automorphism, a matrix with its inverse and a scalar for each column, and one relabelling of the columns with its inverse
+-- for each factor a power of the Frobenius automorphism, a matrix with its inverse and a scalar for each column, and
+-- one relabelling of the columns with its inverse
 pub record Move : Type 0 where
   pub power : ℕ → ℕ
   pub rows : ℕ → Matrix

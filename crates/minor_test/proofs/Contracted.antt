@@ -37,7 +37,8 @@ module _ (N : Matroid) (M : Rep) (C : ℕ) (below : C < 2 ^ size M) (tables : Ta
   in_basis small f h = (
     X,
     mask-below (size M) S,
-    (t.whole.exact (bit_or C X) (or_lt (size M) C X below (mask-below (size M) S))).1 (IsBasis-same M 0 S (members (bit_or C X)) (λ i l. sym (with_mask i l)) basis),
+    (t.whole.exact (bit_or C X) (or_lt (size M) C X below (mask-below (size M) S))).1
+        (IsBasis-same M 0 S (members (bit_or C X)) (λ i l. sym (with_mask i l)) basis),
   )
     where
       B : ℕ
@@ -69,7 +70,8 @@ module _ (N : Matroid) (M : Rep) (C : ℕ) (below : C < 2 ^ size M) (tables : Ta
 
   -- so with none of the elements the search may begin
   pub begins : (images : Images) (sets : List ℕ) → images.list.items ≡ [] → images.used ≡ C → slice_index sets 0 ≡ C
-      → N.rank + size_below (size M) (members C) ≡ M.rank → has tables.minor.words 0 ≡ has tables.whole.words C → AreImagesOf N M C (length images.list.items) images sets
+      → N.rank + size_below (size M) (members C) ≡ M.rank → has tables.minor.words 0 ≡ has tables.whole.words C →
+      AreImagesOf N M C (length images.list.items) images sets
   begins images sets el eu es r e = subst (λ (n : ℕ). AreImagesOf N M C n images sets) (sym (ap (λ (xs : List ℕ). length xs) el)) (record {
     few = omega arith;
     embedding = none_embedded N M (slice_index images.list.items) (members C) r (

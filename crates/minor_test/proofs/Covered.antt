@@ -23,7 +23,8 @@ begins_next images f b x l =
     ]
 
 -- and the images that it begins with pass each test
-pub next_of : (N : Matroid) (M : Rep) (C : ℕ) (images : List ℕ) (j : ℕ) (f : ℕ → ℕ) → length images < N.size → BeginsWith (images ++ j ∷ []) f → IsMinorBy N M f (members C) → IsNext N M C images j
+pub next_of : (N : Matroid) (M : Rep) (C : ℕ) (images : List ℕ) (j : ℕ) (f : ℕ → ℕ) → length images < N.size →
+    BeginsWith (images ++ j ∷ []) f → IsMinorBy N M f (members C) → IsNext N M C images j
 next_of N M C images j f l b h =
     let e : length (images ++ j ∷ []) ≡ length images + 1 = length_next images j in
     embedding-same (first N (length images + 1)) M f (slice_index (images ++ j ∷ [])) (members C) (λ x m. b x (omega arith))

@@ -33,7 +33,8 @@ module _ (N : Matroid) (M : Rep) where
     };
     outside = λ x l. ap C (sym (e x l)) ∙ h.outside x l;
     contracted = h.contracted;
-    bases = λ X l. basis_iff M (image_with N.size f C (members X)) (image_with N.size g C (members X)) (λ j _. ap (λ a. a || C j) (image-same N.size f g (members X) (members X) j e (λ _ _. refl))) (h.bases X l);
+    bases = λ X l. basis_iff M (image_with N.size f C (members X)) (image_with N.size g C (members X))
+        (λ j _. ap (λ a. a || C j) (image-same N.size f g (members X) (members X) j e (λ _ _. refl))) (h.bases X l);
   }
 
   -- and of the contracted set the numbers of columns
@@ -42,7 +43,8 @@ module _ (N : Matroid) (M : Rep) where
     injection = h.injection;
     outside = λ x l. sym (e (f x) (h.injection.below x l)) ∙ h.outside x l;
     contracted = ap (λ k. N.rank + k) (sym (size-same (size M) C D e)) ∙ h.contracted;
-    bases = λ X l. basis_iff M (image_with N.size f C (members X)) (image_with N.size f D (members X)) (λ j m. ap (λ a. image N.size f (members X) j || a) (e j m)) (h.bases X l);
+    bases = λ X l. basis_iff M (image_with N.size f C (members X)) (image_with N.size f D (members X))
+        (λ j m. ap (λ a. image N.size f (members X) j || a) (e j m)) (h.bases X l);
   }
 
   -- so it is a mask
@@ -52,7 +54,8 @@ module _ (N : Matroid) (M : Rep) where
   -- there are columns for the elements and for the contracted set
   pub room : (f : ℕ → ℕ) (C : ℕ → Bool) → IsMinorBy N M f C → N.size + size_below (size M) C ≤ size M
   room f C h =
-      let e : size_below (size M) (image_with N.size f C (λ _. true)) ≡ N.size + size_below (size M) C = size_image_with N.size (size M) f C h.injection.below h.injection.apart h.outside in
+      let e : size_below (size M) (image_with N.size f C (λ _. true)) ≡ N.size + size_below (size M) C =
+      size_image_with N.size (size M) f C h.injection.below h.injection.apart h.outside in
       let m : size_below (size M) (image_with N.size f C (λ _. true)) ≤ size M = size_most (size M) (image_with N.size f C (λ _. true)) in
       omega arith
 

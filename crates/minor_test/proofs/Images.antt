@@ -12,7 +12,8 @@ use Rattle.minor_test.specs.Searches.{image_with}
 -- the elements and their images below n alone count
 pub image-same : (n : ℕ) (f g : ℕ → ℕ) (S T : ℕ → Bool) (j : ℕ) → ((x : ℕ) → x < n → f x ≡ g x) → ((x : ℕ) → x < n → S x ≡ T x) → image n f S j ≡ image n g T j
 image-same zero f g S T j e s = refl
-image-same (suc n) f g S T j e s = λ i. image-same n f g S T j (λ x l. e x (omega arith)) (λ x l. s x (omega arith)) i || (s n (omega arith) i && (e n (omega arith) i == j))
+image-same (suc n) f g S T j e s = λ i. image-same n f g S T j (λ x l. e x (omega arith)) (λ x l. s x (omega arith)) i ||
+    (s n (omega arith) i && (e n (omega arith) i == j))
 
 or_out : (a b : Bool) → b ≡ false → (a || b) ≡ a
 or_out true b e = refl
@@ -24,7 +25,8 @@ image_narrower n zero f S j l out = let e : 0 ≡ n = omega arith in ap (λ k. i
 image_narrower n (suc m) f S j l out =
     elim (cases_lt m n) [
       | inl b ↦ (let e : suc m ≡ n = omega arith in ap (λ k. image k f S j) e)
-      | inr g ↦ or_out (image m f S j) (S m && (f m == j)) (and_left (S m) (f m == j) (out m g (omega arith))) ∙ image_narrower n m f S j g (λ x k o. out x k (omega arith))
+      | inr g ↦ or_out (image m f S j) (S m && (f m == j)) (and_left (S m) (f m == j) (out m g (omega arith)))
+          ∙ image_narrower n m f S j g (λ x k o. out x k (omega arith))
     ]
 
 -- what is the image of a member is in the image, and nothing else is
@@ -47,7 +49,8 @@ image_has (suc n) f S x l t =
 pub image_lacks : (n : ℕ) (f : ℕ → ℕ) (S : ℕ → Bool) (j : ℕ) → ((x : ℕ) → x < n → f x ≢ j) → image n f S j ≡ false
 image_lacks zero f S j h = refl
 image_lacks (suc n) f S j h =
-    or_out (image n f S j) (S n && (f n == j)) (and_right (S n) (f n == j) (other_number (f n) j (h n (omega arith)))) ∙ image_lacks n f S j (λ x l. h x (omega arith))
+    or_out (image n f S j) (S n && (f n == j)) (and_right (S n) (f n == j) (other_number (f n) j (h n (omega arith))))
+    ∙ image_lacks n f S j (λ x l. h x (omega arith))
 
 -- one more element
 regroup_next : (a b c : Bool) → ((a || b) || c) ≡ ((a || c) || b)
@@ -62,13 +65,17 @@ image_with_next n f C S j t =
     ap (λ a. (image n f S j || (a && (f n == j))) || C j) t ∙ regroup_next (image n f S j) (f n == j) (C j)
 
 -- a set's image has as many numbers as the set, and C has the others
-pub size_image_with : (n m : ℕ) (f : ℕ → ℕ) (C : ℕ → Bool) → ((x : ℕ) → x < n → f x < m) → ((x y : ℕ) → x < n → y < n → f x ≡ f y → x ≡ y) → ((x : ℕ) → x < n → C (f x) ≡ false)
+pub size_image_with : (n m : ℕ) (f : ℕ → ℕ) (C : ℕ → Bool) → ((x : ℕ) → x < n → f x < m) →
+    ((x y : ℕ) → x < n → y < n → f x ≡ f y → x ≡ y) → ((x : ℕ) → x < n → C (f x) ≡ false)
     → size_below m (image_with n f C (λ _. true)) ≡ n + size_below m C
 size_image_with zero m f C below apart out = let z : 0 + size_below m C ≡ size_below m C = omega arith in sym z
 size_image_with (suc n) m f C below apart out =
-    let h : size_below m (image_with n f C (λ _. true)) ≡ n + size_below m C = size_image_with n m f C (λ x l. below x (omega arith)) (λ x y l o. apart x y (omega arith) (omega arith)) (λ x l. out x (omega arith)) in
-    let s : size_below m (image_with (suc n) f C (λ _. true)) ≡ size_below m (with_element (f n) (image_with n f C (λ _. true))) = size-same m (image_with (suc n) f C (λ _. true)) (with_element (f n) (image_with n f C (λ _. true))) (λ j _. as_element j) in
-    let k : size_below m (with_element (f n) (image_with n f C (λ _. true))) ≡ size_below m (image_with n f C (λ _. true)) + 1 = size_with (f n) m (image_with n f C (λ _. true)) (below n (omega arith)) free in
+    let h : size_below m (image_with n f C (λ _. true)) ≡ n + size_below m C =
+    size_image_with n m f C (λ x l. below x (omega arith)) (λ x y l o. apart x y (omega arith) (omega arith)) (λ x l. out x (omega arith)) in
+    let s : size_below m (image_with (suc n) f C (λ _. true)) ≡ size_below m (with_element (f n) (image_with n f C (λ _. true))) =
+    size-same m (image_with (suc n) f C (λ _. true)) (with_element (f n) (image_with n f C (λ _. true))) (λ j _. as_element j) in
+    let k : size_below m (with_element (f n) (image_with n f C (λ _. true))) ≡ size_below m (image_with n f C (λ _. true)) + 1 =
+    size_with (f n) m (image_with n f C (λ _. true)) (below n (omega arith)) free in
     omega arith
   where
     commute : (a b : Bool) → (a || b) ≡ (b || a)
@@ -84,10 +91,12 @@ size_image_with (suc n) m f C below apart out =
     ]
 
     as_element : (j : ℕ) → image_with (suc n) f C (λ _. true) j ≡ with_element (f n) (image_with n f C (λ _. true)) j
-    as_element j = image_with_next n f C (λ _. true) j refl ∙ commute (image_with n f C (λ _. true) j) (f n == j) ∙ ap (λ b. b || image_with n f C (λ _. true) j) (turned (f n) j)
+    as_element j = image_with_next n f C (λ _. true) j refl ∙ commute (image_with n f C (λ _. true) j) (f n == j)
+        ∙ ap (λ b. b || image_with n f C (λ _. true) j) (turned (f n) j)
 
     free : image_with n f C (λ _. true) (f n) ≡ false
-    free = or_out (image n f (λ _. true) (f n)) (C (f n)) (out n (omega arith)) ∙ image_lacks n f (λ _. true) (f n) (λ x l e. absurd (let i : x ≡ n = apart x n (omega arith) (omega arith) e in omega arith))
+    free = or_out (image n f (λ _. true) (f n)) (C (f n)) (out n (omega arith))
+        ∙ image_lacks n f (λ _. true) (f n) (λ x l e. absurd (let i : x ≡ n = apart x n (omega arith) (omega arith) e in omega arith))
 
 pub image_member : (n : ℕ) (f : ℕ → ℕ) (S : ℕ → Bool) (j : ℕ) → image n f S j ≡ true → (x : ℕ) × (x < n) × (S x ≡ true) × (f x ≡ j)
 image_member zero f S j t = absurd (false≢true t)

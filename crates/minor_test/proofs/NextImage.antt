@@ -95,7 +95,8 @@ module _ (N : Matroid) (M : Rep) (C n : ℕ) (images : Images) (sets : List ℕ)
 
     module _ (h : AreImagesOf N M C n images sets) (l : j < size M) where
       -- the mask of a set's image
-      mask_top : (X i : ℕ) → X < 2 ^ n → i < size M → members (bit_or (slice_index sets X) (2 ^ j)) i ≡ image_with (suc n) new (members C) (members (2 ^ n + X)) i
+      mask_top : (X i : ℕ) → X < 2 ^ n → i < size M →
+          members (bit_or (slice_index sets X) (2 ^ j)) i ≡ image_with (suc n) new (members C) (members (2 ^ n + X)) i
       mask_top X i m o = members_or (slice_index sets X) j i ∙ ap (λ a. a || (j == i)) (h.sets_are X m i o) ∙ sym (image_top X i m)
 
       mask_below : (X : ℕ) → X < 2 ^ n → bit_or (slice_index sets X) (2 ^ j) < 2 ^ size M
@@ -105,11 +106,15 @@ module _ (N : Matroid) (M : Rep) (C n : ℕ) (images : Images) (sets : List ℕ)
         in_minor : (X : ℕ) → X < 2 ^ n → IsTrue (has tables.minor.words (2 ^ n + X)) ↔ Contains N.bases (2 ^ n + X)
         in_minor X m = t.minor.exact (2 ^ n + X) (let d : 2 ^ suc n ≡ 2 ^ n + 2 ^ n = two-pow-succ n in omega arith)
 
-        in_whole : (X : ℕ) → X < 2 ^ n → IsTrue (has tables.whole.words (bit_or (slice_index sets X) (2 ^ j))) ↔ IsBasis M 0 (image_with (suc n) new (members C) (members (2 ^ n + X)))
+        in_whole : (X : ℕ) → X < 2 ^ n →
+            IsTrue (has tables.whole.words (bit_or (slice_index sets X) (2 ^ j))) ↔ IsBasis M 0
+            (image_with (suc n) new (members C) (members (2 ^ n + X)))
         in_whole X m =
             let w = t.whole.exact (bit_or (slice_index sets X) (2 ^ j)) (mask_below X m) in (
-              (λ y. IsBasis-same M 0 (members (bit_or (slice_index sets X) (2 ^ j))) (image_with (suc n) new (members C) (members (2 ^ n + X))) (λ i o. mask_top X i m o) (w.0 y)),
-              (λ b. w.1 (IsBasis-same M 0 (image_with (suc n) new (members C) (members (2 ^ n + X))) (members (bit_or (slice_index sets X) (2 ^ j))) (λ i o. sym (mask_top X i m o)) b)),
+              (λ y. IsBasis-same M 0 (members (bit_or (slice_index sets X) (2 ^ j)))
+                  (image_with (suc n) new (members C) (members (2 ^ n + X))) (λ i o. mask_top X i m o) (w.0 y)),
+              (λ b. w.1 (IsBasis-same M 0 (image_with (suc n) new (members C) (members (2 ^ n + X)))
+                  (members (bit_or (slice_index sets X) (2 ^ j))) (λ i o. sym (mask_top X i m o)) b)),
             )
 
         -- what is tested
@@ -127,13 +132,18 @@ module _ (N : Matroid) (M : Rep) (C n : ℕ) (images : Images) (sets : List ℕ)
         pub next_free : IsMinorBy (first N (n + 1)) M new (members C) → members images.used j ≡ false
         next_free g =
             h.used j l
-            ∙ ap (λ a. a || members C j) (image_lacks n old (λ _. true) j (λ x m s. absurd (let i : x ≡ n = g.injection.apart x n (omega arith) (omega arith) (new_before x m ∙ s ∙ sym new_last) in omega arith)))
+            ∙ ap (λ a. a || members C j)
+            (image_lacks n old (λ _. true) j
+            (λ x m s. absurd (let i : x ≡ n = g.injection.apart x n (omega arith) (omega arith)
+            (new_before x m ∙ s ∙ sym new_last) in omega arith)))
             ∙ ap (members C) (sym new_last) ∙ g.outside n (omega arith)
 
         pub next_carries : IsMinorBy (first N (n + 1)) M new (members C) → CarriesNext tables (2 ^ n) sets j
         next_carries g X o =
             same_from_iff (has tables.minor.words (2 ^ n + X)) (has tables.whole.words (bit_or (slice_index sets X) (2 ^ j)))
-            (in_minor X o) (in_whole X o) ((subst (λ (y : ℕ). IsMinorBy (first N y) M new (members C)) (add-one n) g).bases (2 ^ n + X) (let d : 2 ^ suc n ≡ 2 ^ n + 2 ^ n = two-pow-succ n in omega arith))
+            (in_minor X o) (in_whole X o)
+            ((subst (λ (y : ℕ). IsMinorBy (first N y) M new (members C)) (add-one n) g).bases (2 ^ n + X)
+            (let d : 2 ^ suc n ≡ 2 ^ n + 2 ^ n = two-pow-succ n in omega arith))
 
       -- what is kept with this image
       pub images_next : (longer : Images) (after : List ℕ) → longer.list.items ≡ images.list.items ++ j ∷ [] → longer.used ≡ bit_or images.used (2 ^ j)
@@ -141,16 +151,19 @@ module _ (N : Matroid) (M : Rep) (C n : ℕ) (images : Images) (sets : List ℕ)
           → n < N.size → IsMinorBy (first N (n + 1)) M new (members C) → AreImagesOf N M C (suc n) longer after
       images_next longer after el eu low high room g = record {
         few = omega arith;
-        embedding = subst (λ (xs : List ℕ). IsMinorBy (first N (suc n)) M (slice_index xs) (members C)) (sym el) (subst (λ (y : ℕ). IsMinorBy (first N y) M new (members C)) (add-one n) g);
+        embedding = subst (λ (xs : List ℕ). IsMinorBy (first N (suc n)) M (slice_index xs) (members C)) (sym el)
+            (subst (λ (y : ℕ). IsMinorBy (first N y) M new (members C)) (add-one n) g);
         used_below = subst (λ (x : ℕ). x < 2 ^ size M) (sym eu) (or_lt (size M) images.used (2 ^ j) h.used_below (pow_below j (size M) l));
-        used = λ i o. ap (λ x. members x i) eu ∙ members_or images.used j i ∙ ap (λ a. a || (j == i)) (h.used i o) ∙ sym (image_next (λ _. true) i refl) ∙ ap (λ (xs : List ℕ). image_with (suc n) (slice_index xs) (members C) (λ _. true) i) (sym el);
+        used = λ i o. ap (λ x. members x i) eu ∙ members_or images.used j i ∙ ap (λ a. a || (j == i)) (h.used i o)
+            ∙ sym (image_next (λ _. true) i refl) ∙ ap (λ (xs : List ℕ). image_with (suc n) (slice_index xs) (members C) (λ _. true) i) (sym el);
         sets_below = λ X m. elim (cases_lt X (2 ^ n)) [
           | inl b ↦ subst (λ (x : ℕ). x < 2 ^ size M) (sym (low X b)) (h.sets_below X b)
           | inr v ↦ (let (Y, o, e) = split X m v in subst (λ (y : ℕ). y < 2 ^ size M) (sym (ap (slice_index after) (sym e) ∙ high Y o)) (mask_below Y o))
         ];
         sets_are = λ X m i o. (elim (cases_lt X (2 ^ n)) [
           | inl b ↦ ap (λ x. members x i) (low X b) ∙ h.sets_are X b i o ∙ sym (image_before X i b)
-          | inr v ↦ (let (Y, p, e) = split X m v in ap (λ x. members x i) (ap (slice_index after) (sym e) ∙ high Y p) ∙ mask_top Y i p o ∙ ap (λ x. image_with (suc n) new (members C) (members x) i) e)
+          | inr v ↦ (let (Y, p, e) = split X m v in ap (λ x. members x i) (ap (slice_index after) (sym e) ∙ high Y p)
+              ∙ mask_top Y i p o ∙ ap (λ x. image_with (suc n) new (members C) (members x) i) e)
         ]) ∙ ap (λ (xs : List ℕ). image_with (suc n) (slice_index xs) (members C) (members X) i) (sym el);
       }
         where
@@ -158,7 +171,8 @@ module _ (N : Matroid) (M : Rep) (C n : ℕ) (images : Images) (sets : List ℕ)
           split X m g = let d : 2 ^ suc n ≡ 2 ^ n + 2 ^ n = two-pow-succ n in (X - 2 ^ n, omega arith, omega arith)
 
 -- the sets are still right where they agree
-pub images_kept : (N : Matroid) (M : Rep) (C n : ℕ) (images : Images) (sets others : List ℕ) → AgreeBelow (2 ^ n) sets others → AreImagesOf N M C n images sets → AreImagesOf N M C n images others
+pub images_kept : (N : Matroid) (M : Rep) (C n : ℕ) (images : Images) (sets others : List ℕ) → AgreeBelow (2 ^ n) sets others →
+    AreImagesOf N M C n images sets → AreImagesOf N M C n images others
 images_kept N M C n images sets others e h = record {
   few = h.few;
   embedding = h.embedding;

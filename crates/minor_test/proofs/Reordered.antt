@@ -110,7 +110,8 @@ module _ (N : Matroid) (M : Rep) (C : ℕ → Bool) where
           let m : mask N.size (λ x. members X (swapped i j x)) < 2 ^ N.size = mask-below N.size (λ x. members X (swapped i j x)) in
           let e : IsSwapped N.size i j X (mask N.size (λ x. members X (swapped i j x))) = members-mask N.size (λ x. members X (swapped i j x)) in
           let b = basis_iff M (image_with N.size f C (members (mask N.size (λ x. members X (swapped i j x))))) (image_with N.size turned C (members X))
-          (λ k _. ap (λ a. a || C k) (same_image X (mask N.size (λ x. members X (swapped i j x))) e k)) (h.bases (mask N.size (λ x. members X (swapped i j x))) m) in (
+          (λ k _. ap (λ a. a || C k) (same_image X (mask N.size (λ x. members X (swapped i j x))) e k))
+          (h.bases (mask N.size (λ x. members X (swapped i j x))) m) in (
             (λ p. b.0 (t.bases X (mask N.size (λ x. members X (swapped i j x))) l m e p)),
             (λ q. t.bases (mask N.size (λ x. members X (swapped i j x))) X m l (λ x o. sym (e (swapped i j x) (inside x o) ∙ ap (members X) (back x))) (b.1 q)),
           );
@@ -122,7 +123,9 @@ module _ (N : Matroid) (M : Rep) (C : ℕ → Bool) where
         (λ x l. let b : f (swapped i j x) < size M = h.injection.below (swapped i j x) (inside x l) in omega arith)
         (λ x l. ap f (swapped_other i j x (λ e. absurd (omega arith)) (λ e. absurd (let a : i < j = t.before in omega arith))))
         (let e : turned i ≡ f j = ap f (swapped_first i j) in
-        let ne : f i ≢ f j = (λ s. absurd (let c : i ≡ j = h.injection.apart i j (let a : i < j = t.before in let b : j < N.size = t.below in omega arith) t.below s in let a : i < j = t.before in omega arith)) in
+        let ne : f i ≢ f j = (λ s.
+        absurd (let c : i ≡ j = h.injection.apart i j (let a : i < j = t.before in let b : j < N.size = t.below in omega arith)
+        t.below s in let a : i < j = t.before in omega arith)) in
         omega arith)
 
   module _ (few : size M ≤ 16) (twins : List (Option ℕ)) (t : AreTwinsOf N twins) where
@@ -138,7 +141,8 @@ module _ (N : Matroid) (M : Rep) (C : ℕ → Bool) where
     reordered_within : (fuel : ℕ) (f : ℕ → ℕ) → value N.size f < fuel → IsMinorBy N M f C → (g : ℕ → ℕ) × KeepsOrder twins g × IsMinorBy N M g C
     reordered_within zero f l h = absurd (omega arith)
     reordered_within (suc fuel) f l h =
-        elim (search_below N.size (λ j. (i : ℕ) × (slice_index_or twins j None ≡ Some i) × (f j ≤ f i)) (λ j. (i : ℕ) → slice_index_or twins j None ≡ Some i → f i < f j) (λ j _. at_element f j (slice_index_or twins j None) refl)) [
+        elim (search_below N.size (λ j. (i : ℕ) × (slice_index_or twins j None ≡ Some i) × (f j ≤ f i))
+        (λ j. (i : ℕ) → slice_index_or twins j None ≡ Some i → f i < f j) (λ j _. at_element f j (slice_index_or twins j None) refl)) [
           | inr y ↦ (f, (λ i j e. y j (t i j e).below i e), h)
           | inl (j, m, (i, e, d)) ↦ (let v : value N.size (turned i j (t i j e) f h) < value N.size f = turned_lower i j (t i j e) f h few d in
               reordered_within fuel (turned i j (t i j e) f h) (omega arith) (turned_embedding i j (t i j e) f h))

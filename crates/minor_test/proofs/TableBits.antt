@@ -50,7 +50,8 @@ has_more words set word bit we be l X = elim (cases_eq X set) [
         ∙ or_true (has words X) (set == X) (ap (λ x. set == x) e ∙ same_number set)
 
     other_bit : X ≢ set → X / 64 ≡ word → X % 64 ≢ bit
-    other_bit ne e i = ne (let a : 64 * (X / 64) + X % 64 ≡ X = div-add-mod X 64 in let b : 64 * (set / 64) + set % 64 ≡ set = div-add-mod set 64 in omega arith)
+    other_bit ne e i = ne (let a : 64 * (X / 64) + X % 64 ≡ X = div-add-mod X 64 in
+        let b : 64 * (set / 64) + set % 64 ≡ set = div-add-mod set 64 in omega arith)
 
     elsewhere : X ≢ set → has (slice_set words word new) X ≡ (has words X || (set == X))
     elsewhere ne =

@@ -73,11 +73,13 @@ more_twins N twins longer o j e n t h i x s =
     let d : slice_index_or (twins ++ o ∷ []) x None ≡ Some i = ap (λ (xs : List (Option ℕ)). slice_index_or xs x None) (sym e) ∙ s in
     elim (cases_order x (length twins)) [
       | inl q ↦ (let z : length twins + 0 ≡ x = omega arith in
-          subst (λ (y : ℕ). AreTwins N i y) (sym (q ∙ n)) (t i (sym (get_or-append-add twins (o ∷ []) 0 None) ∙ ap (λ y. slice_index_or (twins ++ o ∷ []) y None) z ∙ d)))
+          subst (λ (y : ℕ). AreTwins N i y) (sym (q ∙ n))
+          (t i (sym (get_or-append-add twins (o ∷ []) 0 None) ∙ ap (λ y. slice_index_or (twins ++ o ∷ []) y None) z ∙ d)))
       | inr w ↦ elim w [
         | inl l ↦ h i x (sym (get_or_append_left twins (o ∷ []) None x l) ∙ d)
         | inr g ↦ (let k : length (twins ++ o ∷ []) ≡ length twins + 1 = length-append twins (o ∷ []) in
-            let past : slice_index_or (twins ++ o ∷ []) x None ≡ None = get_or_past (twins ++ o ∷ []) x None (omega arith) in absurd (let c : None ≡ Some i = sym past ∙ d in cc))
+            let past : slice_index_or (twins ++ o ∷ []) x None ≡ None = get_or_past (twins ++ o ∷ []) x None (omega arith) in
+            absurd (let c : None ≡ Some i = sym past ∙ d in cc))
       ]
     ]
 
@@ -87,7 +89,8 @@ more_found N twins longer o j e n found h i x l t =
     ap (λ (xs : List (Option ℕ)). is_some (slice_index_or xs x None)) e ∙ elim (cases_lt x (length twins)) [
       | inl b ↦ ap is_some (get_or_append_left twins (o ∷ []) None x b) ∙ h i x (omega arith) t
       | inr g ↦ (let z : x ≡ length twins + 0 = omega arith in let q : x ≡ j = omega arith in
-          ap (λ y. is_some (slice_index_or (twins ++ o ∷ []) y None)) z ∙ ap is_some (get_or-append-add twins (o ∷ []) 0 None) ∙ is_found o found (subst (λ (y : ℕ). AreTwins N i y) q t))
+          ap (λ y. is_some (slice_index_or (twins ++ o ∷ []) y None)) z ∙ ap is_some (get_or-append-add twins (o ∷ []) 0 None)
+          ∙ is_found o found (subst (λ (y : ℕ). AreTwins N i y) q t))
     ]
   where
     is_found : (o : Option ℕ) → MatchOption o ((i : ℕ) → i < j → ¬ (AreTwins N i j)) (λ i. AreTwins N i j) → AreTwins N i j → is_some o ≡ true

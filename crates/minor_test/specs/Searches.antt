@@ -33,7 +33,8 @@ pub record AreImagesOf (N : Matroid) (M : Rep) (C n : ℕ) (images : Images) (se
   pub used_below : images.used < 2 ^ size M
   pub used : (j : ℕ) → j < size M → members images.used j ≡ image_with n (slice_index images.list.items) (members C) (λ _. true) j
   pub sets_below : (X : ℕ) → X < 2 ^ n → slice_index sets X < 2 ^ size M
-  pub sets_are : (X : ℕ) → X < 2 ^ n → (j : ℕ) → j < size M → members (slice_index sets X) j ≡ image_with n (slice_index images.list.items) (members C) (members X) j
+  pub sets_are : (X : ℕ) → X < 2 ^ n → (j : ℕ) → j < size M →
+      members (slice_index sets X) j ≡ image_with n (slice_index images.list.items) (members C) (members X) j
 
 abbrev pub AreImages : Matroid → Rep → ℕ → Images → List ℕ → Type 0
 AreImages N M C images sets = AreImagesOf N M C (length images.list.items) images sets

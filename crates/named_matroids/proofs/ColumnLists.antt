@@ -28,10 +28,14 @@ pub same_height : (columns : List (ArrayVec ℕ)) → given.column_length (lists
 same_height columns = ap (λ (c : List ℕ). length c) (column_codes columns 0)
 
 -- what is given by the codes is what the columns are
-pub independent_codes : (q : ℕ) (columns : List (ArrayVec ℕ)) (S : ℕ → Bool) → IsIndependent q (given.column_length (lists columns)) (length (lists columns)) (given.matrix_of_lists (lists columns)) S ≡ IsIndependent q (height columns) (length columns) (matrix_of columns) S
+pub independent_codes : (q : ℕ) (columns : List (ArrayVec ℕ)) (S : ℕ → Bool) →
+    IsIndependent q (given.column_length (lists columns)) (length (lists columns))
+    (given.matrix_of_lists (lists columns)) S ≡ IsIndependent q (height columns) (length columns) (matrix_of columns) S
 independent_codes q columns S = λ t. IsIndependent q (same_height columns t) (length_codes columns t) (same_matrix columns t) S
 
-pub rank_codes : (q : ℕ) (columns : List (ArrayVec ℕ)) (S : ℕ → Bool) (k : ℕ) → IsRankOf q (given.column_length (lists columns)) (length (lists columns)) (given.matrix_of_lists (lists columns)) S k ≡ IsRankOf q (height columns) (length columns) (matrix_of columns) S k
+pub rank_codes : (q : ℕ) (columns : List (ArrayVec ℕ)) (S : ℕ → Bool) (k : ℕ) →
+    IsRankOf q (given.column_length (lists columns)) (length (lists columns)) (given.matrix_of_lists (lists columns)) S k ≡ IsRankOf q
+    (height columns) (length columns) (matrix_of columns) S k
 rank_codes q columns S k = λ t. IsRankOf q (same_height columns t) (length_codes columns t) (same_matrix columns t) S k
 
 each : {X : Type 0} (p : X → Bool) (xs : List X) (d : X) → list_all p xs ≡ true → (j : ℕ) → j < length xs → p (slice_index_or xs j d) ≡ true
@@ -46,7 +50,9 @@ test_lt x y e = grind (arith, nat_tests)
 pub tested_columns : (q rows : ℕ) (columns : List (ArrayVec ℕ)) → are_codes q rows (lists columns) ≡ true → AreColumns q (height columns) columns
 tested_columns q rows columns t j l = record {
   rows = rows_at j l ∙ sym (rows_at 0 (omega arith));
-  below = λ i m. test_lt (slice_index (column columns j) i) q (each (λ code. nat_lt code q) (column columns j) 0 (both_right (length (column columns j) == rows) _ (test_at j l)) i (let e : length (column columns j) ≡ length (column columns 0) = rows_at j l ∙ sym (rows_at 0 (omega arith)) in omega arith));
+  below = λ i m. test_lt (slice_index (column columns j) i) q
+      (each (λ code. nat_lt code q) (column columns j) 0 (both_right (length (column columns j) == rows) _ (test_at j l)) i
+      (let e : length (column columns j) ≡ length (column columns 0) = rows_at j l ∙ sym (rows_at 0 (omega arith)) in omega arith));
 }
   where
     test_at : (j : ℕ) → j < length columns → ((length (column columns j) == rows) && list_all (λ code. nat_lt code q) (column columns j)) ≡ true
@@ -65,19 +71,23 @@ all_at P (x ∷ xs) d all (suc j) l = all_at P xs d all.1 j (omega arith)
 matrix_columns : (q : ℕ) (columns : List (ArrayVec ℕ)) → IsMatrix q (lists columns) → AreColumns q (height columns) columns
 matrix_columns q columns m j l = record {
   rows = rows_at j l ∙ sym (rows_at 0 (omega arith));
-  below = λ i k. all_at (λ code. code < q) (column columns j) 0 (codes_at j l) i (let e : length (column columns j) ≡ length (column columns 0) = rows_at j l ∙ sym (rows_at 0 (omega arith)) in omega arith);
+  below = λ i k. all_at (λ code. code < q) (column columns j) 0 (codes_at j l) i
+      (let e : length (column columns j) ≡ length (column columns 0) = rows_at j l ∙ sym (rows_at 0 (omega arith)) in omega arith);
 }
   where
     rows_at : (j : ℕ) → j < length columns → length (column columns j) ≡ m.height.0
     rows_at j l =
         subst (λ (c : List ℕ). length c ≡ m.height.0) (column_codes columns j)
-        (all_at (λ (c : List ℕ). length c ≡ m.height.0) (lists columns) [] m.height.3 j (let e : length (lists columns) ≡ length columns = length_codes columns in omega arith))
+        (all_at (λ (c : List ℕ). length c ≡ m.height.0) (lists columns) [] m.height.3 j
+        (let e : length (lists columns) ≡ length columns = length_codes columns in omega arith))
 
     codes_at : (j : ℕ) → j < length columns → AllByRecursion (λ code. code < q) (column columns j)
     codes_at j l =
         subst (λ (c : List ℕ). AllByRecursion (λ code. code < q) c) (column_codes columns j)
-        (all_at (λ (c : List ℕ). AllByRecursion (λ code. code < q) c) (lists columns) [] m.entries j (let e : length (lists columns) ≡ length columns = length_codes columns in omega arith))
+        (all_at (λ (c : List ℕ). AllByRecursion (λ code. code < q) c) (lists columns) [] m.entries j
+        (let e : length (lists columns) ≡ length columns = length_codes columns in omega arith))
 
 -- the same for other names of the order and of the list
-pub named_matrix : (q order : ℕ) (v : List (ArrayVec ℕ)) (columns : List (List ℕ)) → q ≡ order → lists v ≡ columns → IsMatrix order columns → AreColumns q (height v) v
+pub named_matrix : (q order : ℕ) (v : List (ArrayVec ℕ)) (columns : List (List ℕ)) → q ≡ order → lists v ≡ columns →
+    IsMatrix order columns → AreColumns q (height v) v
 named_matrix q order v columns e f m = subst (λ (q : ℕ). AreColumns q (height v) v) (sym e) (matrix_columns order v (subst (IsMatrix order) (sym f) m))

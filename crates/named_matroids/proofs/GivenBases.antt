@@ -32,7 +32,9 @@ given_small what N h some few = record {
   some = (let c = h.some.1 in let l : c.0 < length N.bases = c.1 in omega arith);
 }
 
-pub uniform_given : (rank size : ℕ) (masks : List ℕ) → rank ≤ size → AreMasks size (λ X. IsGivenBasis (AllSets rank size) (members X)) masks → IsGivenBy (AllSets rank size) (record { rank = rank; size = size; bases = masks })
+pub uniform_given : (rank size : ℕ) (masks : List ℕ) → rank ≤ size →
+    AreMasks size (λ X. IsGivenBasis (AllSets rank size) (members X)) masks →
+    IsGivenBy (AllSets rank size) (record { rank = rank; size = size; bases = masks })
 uniform_given rank size masks l h = record {
   sizes = refl;
   rising = h.rising;
@@ -49,7 +51,8 @@ uniform_given rank size masks l h = record {
 
 module _ (q : ℕ) (columns : List (ArrayVec ℕ)) (k : ℕ) (rank : IsRankOfColumns q (height columns) columns k) where
   -- rank many independent columns are a basis
-  column_basis : (S : ℕ → Bool) → size_below (length columns) S ≡ k → IsIndependent q (height columns) (length columns) (matrix_of columns) S → IsColumnBasis q (lists columns) S
+  column_basis : (S : ℕ → Bool) → size_below (length columns) S ≡ k →
+      IsIndependent q (height columns) (length columns) (matrix_of columns) S → IsColumnBasis q (lists columns) S
   column_basis S e d = record {
     independent = subst (λ (T : Type 0). T) (sym (independent_codes q columns S)) d;
     greatest =
@@ -63,7 +66,8 @@ module _ (q : ℕ) (columns : List (ArrayVec ℕ)) (k : ℕ) (rank : IsRankOfCol
   basis_full : (S : ℕ → Bool) → IsColumnBasis q (lists columns) S → size_below (length columns) S ≡ k
   basis_full S b =
       sym (ap (λ n. size_below n S) (length_codes columns))
-      ∙ rank_unique q (height columns) (length columns) (matrix_of columns) (λ _. true) (size_below (length (lists columns)) S) k (subst (λ (T : Type 0). T) (rank_codes q columns (λ _. true) (size_below (length (lists columns)) S)) b.greatest) rank
+      ∙ rank_unique q (height columns) (length columns) (matrix_of columns) (λ _. true) (size_below (length (lists columns)) S) k
+      (subst (λ (T : Type 0). T) (rank_codes q columns (λ _. true) (size_below (length (lists columns)) S)) b.greatest) rank
 
   given_by_bases : (masks : List ℕ) → AreMasks (length columns) (λ X. IsGivenBasis (ColumnsOver q (lists columns)) (members X)) masks
       → IsGivenBy (ColumnsOver q (lists columns)) (record { rank = k; size = length columns; bases = masks })
@@ -76,8 +80,10 @@ module _ (q : ℕ) (columns : List (ArrayVec ℕ)) (k : ℕ) (rank : IsRankOfCol
           mask (length columns) I,
           (h.exact (mask (length columns) I)).1 (
             mask-below (length columns) I,
-            column_basis (members (mask (length columns) I)) (size-same (length columns) (members (mask (length columns) I)) I (members-mask (length columns) I) ∙ p.elements)
-                (IsIndependent-same q (height columns) (length columns) (matrix_of columns) I (members (mask (length columns) I)) (λ j l. sym (members-mask (length columns) I j l)) p.independent),
+            column_basis (members (mask (length columns) I))
+                (size-same (length columns) (members (mask (length columns) I)) I (members-mask (length columns) I) ∙ p.elements)
+                (IsIndependent-same q (height columns) (length columns) (matrix_of columns) I (members (mask (length columns) I))
+                (λ j l. sym (members-mask (length columns) I j l)) p.independent),
           ),
         ));
     ranks = λ X c. basis_full (members X) ((h.exact X).0 c).1;
@@ -85,19 +91,27 @@ module _ (q : ℕ) (columns : List (ArrayVec ℕ)) (k : ℕ) (rank : IsRankOfCol
 
   pub columns_given : (masks : List ℕ) → AreMasks (length columns) (λ X. IsBasisOfColumns q k columns (members X)) masks
       → IsGivenBy (ColumnsOver q (lists columns)) (record { rank = k; size = length columns; bases = masks })
-  columns_given masks h = given_by_bases masks (masks_same (length columns) (λ X. IsBasisOfColumns q k columns (members X)) (λ X. IsGivenBasis (ColumnsOver q (lists columns)) (members X)) masks
-      (λ X _. ((λ b. column_basis (members X) b.full b.independent), (λ b. record { full = basis_full (members X) b; independent = basis_independent (members X) b })))
+  columns_given masks h = given_by_bases masks
+      (masks_same (length columns) (λ X. IsBasisOfColumns q k columns (members X))
+      (λ X. IsGivenBasis (ColumnsOver q (lists columns)) (members X)) masks
+      (λ X _. (
+        (λ b. column_basis (members X) b.full b.independent),
+        (λ b. record { full = basis_full (members X) b; independent = basis_independent (members X) b }),
+      ))
       h)
 
   -- the rank is at most the number of columns
   pub rank_most : k ≤ length columns
-  rank_most = let p = rank.reached.1 in let e : size_below (length columns) rank.reached.0 ≡ k = p.elements in let m : size_below (length columns) rank.reached.0 ≤ length columns = size_most (length columns) rank.reached.0 in omega arith
+  rank_most = let p = rank.reached.1 in let e : size_below (length columns) rank.reached.0 ≡ k = p.elements in
+      let m : size_below (length columns) rank.reached.0 ≤ length columns = size_most (length columns) rank.reached.0 in omega arith
 
 -- a basis is one by its columns alone
-basis_same : (q : ℕ) (columns : List (List ℕ)) (S T : ℕ → Bool) → ((j : ℕ) → j < length columns → S j ≡ T j) → IsColumnBasis q columns S → IsColumnBasis q columns T
+basis_same : (q : ℕ) (columns : List (List ℕ)) (S T : ℕ → Bool) → ((j : ℕ) → j < length columns → S j ≡ T j) →
+    IsColumnBasis q columns S → IsColumnBasis q columns T
 basis_same q columns S T e b = record {
   independent = IsIndependent-same q (given.column_length columns) (length columns) (given.matrix_of_lists columns) S T e b.independent;
-  greatest = subst (λ (m : ℕ). IsRankOf q (given.column_length columns) (length columns) (given.matrix_of_lists columns) (λ _. true) m) (size-same (length columns) S T e) b.greatest;
+  greatest = subst (λ (m : ℕ). IsRankOf q (given.column_length columns) (length columns) (given.matrix_of_lists columns)
+      (λ _. true) m) (size-same (length columns) S T e) b.greatest;
 }
 
 module _ (N : Matroid) (small : IsSmallMatroid N) where
@@ -106,13 +120,17 @@ module _ (N : Matroid) (small : IsSmallMatroid N) where
 
   pub complement_ones : (X : ℕ) → X < 2 ^ N.size → Contains N.bases (2 ^ N.size - 1 - X) → size_below N.size (members X) + N.rank ≡ N.size
   complement_ones X l c =
-      let e : size_below N.size (members (2 ^ N.size - 1 - X)) ≡ N.rank = (let k = c.0 in subst (λ (x : ℕ). size_below N.size (members x) ≡ N.rank) c.2 (small.of_rank k (2 ^ N.size - 1 - X) c.1)) in
-      let s : size_below N.size (members (2 ^ N.size - 1 - X)) ≡ size_below N.size (λ j. not (members X j)) = size-same N.size (members (2 ^ N.size - 1 - X)) (λ j. not (members X j)) (λ j m. members_complement N.size few_elements X j l m) in
+      let e : size_below N.size (members (2 ^ N.size - 1 - X)) ≡ N.rank =
+      (let k = c.0 in subst (λ (x : ℕ). size_below N.size (members x) ≡ N.rank) c.2 (small.of_rank k (2 ^ N.size - 1 - X) c.1)) in
+      let s : size_below N.size (members (2 ^ N.size - 1 - X)) ≡ size_below N.size (λ j. not (members X j)) =
+      size-same N.size (members (2 ^ N.size - 1 - X)) (λ j. not (members X j)) (λ j m. members_complement N.size few_elements X j l m) in
       let t : size_below N.size (members X) + size_below N.size (λ j. not (members X j)) ≡ N.size = size_complement N.size (members X) in
       omega arith
 
   pub rank_within : N.rank ≤ N.size
-  rank_within = let e : size_below N.size (members (slice_index_or N.bases 0 0)) ≡ N.rank = small.of_rank 0 0 small.some in let m : size_below N.size (members (slice_index_or N.bases 0 0)) ≤ N.size = size_most N.size (members (slice_index_or N.bases 0 0)) in omega arith
+  rank_within = let e : size_below N.size (members (slice_index_or N.bases 0 0)) ≡ N.rank = small.of_rank 0 0 small.some in
+      let m : size_below N.size (members (slice_index_or N.bases 0 0)) ≤ N.size =
+      size_most N.size (members (slice_index_or N.bases 0 0)) in omega arith
 
   module _ (D : Matroid) (d : IsDual N D) where
     dual_ranks : (X : ℕ) → Contains D.bases X → size_below D.size (members X) ≡ D.rank
@@ -139,7 +157,8 @@ module _ (N : Matroid) (small : IsSmallMatroid N) where
       size_positive = (let e : D.size ≡ N.size = d.sizes in let s : 0 < N.size = small.size_positive in omega arith);
       size_most = (let e : D.size ≡ N.size = d.sizes in let s : N.size ≤ 10 = small.size_most in omega arith);
       rising = d.bases.rising;
-      below = λ k e l. subst (λ (n : ℕ). slice_index_or D.bases k e < 2 ^ n) (sym d.sizes) ((d.bases.exact (slice_index_or D.bases k e)).0 (Contains-get_or D.bases k e l)).0;
+      below = λ k e l. subst (λ (n : ℕ). slice_index_or D.bases k e < 2 ^ n) (sym d.sizes)
+          ((d.bases.exact (slice_index_or D.bases k e)).0 (Contains-get_or D.bases k e l)).0;
       of_rank = λ k e l. dual_ranks (slice_index_or D.bases k e) (Contains-get_or D.bases k e l);
       some = (let c = dual_some.1 in let l : c.0 < length D.bases = c.1 in omega arith);
     }
@@ -152,7 +171,9 @@ module _ (N : Matroid) (small : IsSmallMatroid N) where
       exact = λ X. (
         (λ c. let w : (X < 2 ^ N.size) × Contains N.bases (2 ^ N.size - 1 - X) = (d.bases.exact X).0 c in (
           subst (λ (n : ℕ). X < 2 ^ n) (sym d.sizes) w.0,
-          basis_same q columns (members (2 ^ N.size - 1 - X)) (λ j. not (members X j)) (λ j m. members_complement N.size few_elements X j w.0 (subst (λ (n : ℕ). j < n) (sym h.sizes) m)) ((h.exact (2 ^ N.size - 1 - X)).0 w.1).1,
+          basis_same q columns (members (2 ^ N.size - 1 - X)) (λ j. not (members X j))
+              (λ j m. members_complement N.size few_elements X j w.0 (subst (λ (n : ℕ). j < n) (sym h.sizes) m))
+              ((h.exact (2 ^ N.size - 1 - X)).0 w.1).1,
         )),
         (λ w. let l : X < 2 ^ N.size = subst (λ (n : ℕ). X < 2 ^ n) d.sizes w.0 in
             let m : 2 ^ N.size - 1 - X < 2 ^ N.size = omega arith in
@@ -160,7 +181,8 @@ module _ (N : Matroid) (small : IsSmallMatroid N) where
               l,
               (h.exact (2 ^ N.size - 1 - X)).1 (
                 m,
-                basis_same q columns (λ j. not (members X j)) (members (2 ^ N.size - 1 - X)) (λ j o. sym (members_complement N.size few_elements X j l (subst (λ (n : ℕ). j < n) (sym h.sizes) o))) w.1,
+                basis_same q columns (λ j. not (members X j)) (members (2 ^ N.size - 1 - X))
+                    (λ j o. sym (members_complement N.size few_elements X j l (subst (λ (n : ℕ). j < n) (sym h.sizes) o))) w.1,
               ),
             )),
       );

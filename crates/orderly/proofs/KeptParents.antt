@@ -91,7 +91,8 @@ module _ (mode : Mode) (Ns : List Matroid) (parents : List Rep) (P : Rep) (befor
 
 -- in a rising list of representations of one size those before a place come before the one there
 module _ (parents : List Rep) (rising : AllPairs (λ M N. rep_cmp M N ≡ Less) parents)
-    (one_size : (M N : Rep) → Contains parents M → Contains parents N → size M ≡ size N) (i : ℕ) (P : Rep) (l : i < length parents) (is : P ≡ get_or parents i P) where
+    (one_size : (M N : Rep) → Contains parents M → Contains parents N → size M ≡ size N) (i : ℕ) (P : Rep) (l : i < length parents)
+    (is : P ≡ get_or parents i P) where
   come_before : (M : Rep) → Contains (take i parents) M → ComesBefore P M
   come_before M (k, m, e) =
       let n : length (take i parents) ≡ i = length-take-le i parents (omega arith) in

@@ -27,7 +27,8 @@ set_below xs p x j q l new old =
 
 -- an entry set in a list that was lent
 pub set_in_place : (old now : List ℕ) (p x : ℕ) → now ≡ old → refill (length old) old (slice_set now p x) ≡ slice_set old p x
-set_in_place old now p x e = whole (length old) old (slice_set now p x) refl (length-set now p x ∙ ap (λ (v : List ℕ). length v) e) ∙ ap (λ (v : List ℕ). slice_set v p x) e
+set_in_place old now p x e = whole (length old) old (slice_set now p x) refl (length-set now p x ∙ ap (λ (v : List ℕ). length v) e)
+    ∙ ap (λ (v : List ℕ). slice_set v p x) e
   where
     whole : (n : ℕ) (old new : List ℕ) → n ≡ length old → length new ≡ length old → refill n old new ≡ new
     whole n old new e h = grind (arith, common_steps)
@@ -44,22 +45,31 @@ factor_of_scalar : (n f j g k : ℕ) → j < n → k < n → f * n + j ≡ g * n
 factor_of_scalar n f j g k jl kl e = sym (div-mul-add f n j jl) ∙ ap (λ (p : ℕ). p / n) e ∙ div-mul-add g n k kl
 
 module _ (t : MoveTable) (h : KeepsMove t) where
-  row_room : (xs : List ℕ) (f i k : ℕ) → length xs ≡ length t.shape.factors * t.shape.rank * t.shape.rank → f < length t.shape.factors → i < t.shape.rank → k < t.shape.rank → row_place t.shape f i k < length xs
-  row_room xs f i k e l m o = subst (λ (n : ℕ). row_place t.shape f i k < n) (sym e) (place_below (length t.shape.factors * t.shape.rank) t.shape.rank (f * t.shape.rank + i) k (place_below (length t.shape.factors) t.shape.rank f i l m) o)
+  row_room : (xs : List ℕ) (f i k : ℕ) → length xs ≡ length t.shape.factors * t.shape.rank * t.shape.rank →
+      f < length t.shape.factors → i < t.shape.rank → k < t.shape.rank → row_place t.shape f i k < length xs
+  row_room xs f i k e l m o = subst (λ (n : ℕ). row_place t.shape f i k < n) (sym e)
+      (place_below (length t.shape.factors * t.shape.rank) t.shape.rank (f * t.shape.rank + i) k
+      (place_below (length t.shape.factors) t.shape.rank f i l m) o)
 
   -- the codes of a list of matrices, one of which was set
-  set_codes : (xs : List ℕ) (f i k x : ℕ) → length xs ≡ length t.shape.factors * t.shape.rank * t.shape.rank → f < length t.shape.factors → i < t.shape.rank → k < t.shape.rank → x < slice_index t.shape.factors f
-      → ((f i k : ℕ) → f < length t.shape.factors → i < t.shape.rank → k < t.shape.rank → slice_index xs (row_place t.shape f i k) < slice_index t.shape.factors f)
-      → (g j m : ℕ) → g < length t.shape.factors → j < t.shape.rank → m < t.shape.rank → slice_index (slice_set xs (row_place t.shape f i k) x) (row_place t.shape g j m) < slice_index t.shape.factors g
+  set_codes : (xs : List ℕ) (f i k x : ℕ) → length xs ≡ length t.shape.factors * t.shape.rank * t.shape.rank →
+      f < length t.shape.factors → i < t.shape.rank → k < t.shape.rank → x < slice_index t.shape.factors f
+      → ((f i k : ℕ) → f < length t.shape.factors → i < t.shape.rank → k < t.shape.rank →
+      slice_index xs (row_place t.shape f i k) < slice_index t.shape.factors f)
+      → (g j m : ℕ) → g < length t.shape.factors → j < t.shape.rank → m < t.shape.rank →
+      slice_index (slice_set xs (row_place t.shape f i k) x) (row_place t.shape g j m) < slice_index t.shape.factors g
   set_codes xs f i k x e l m o b codes g j n gl jl nl =
       set_below xs (row_place t.shape f i k) x (row_place t.shape g j n) (slice_index t.shape.factors g) (row_room xs f i k e l m o)
       (λ s. subst (λ (f : ℕ). x < slice_index t.shape.factors f) (factor_of_row t.shape.rank f i k g j n m o jl nl s) b) (codes g j n gl jl nl)
 
   -- the tables that the setters make, where the place is computed from the fields
-  pub rows_kept : (f i k x y p : ℕ) → f < length t.shape.factors → i < t.shape.rank → k < t.shape.rank → x < slice_index t.shape.factors f → y < slice_index t.shape.factors f → p ≡ row_place t.shape f i k
+  pub rows_kept : (f i k x y p : ℕ) → f < length t.shape.factors → i < t.shape.rank → k < t.shape.rank →
+      x < slice_index t.shape.factors f → y < slice_index t.shape.factors f → p ≡ row_place t.shape f i k
       → (rows back : List ℕ) → rows ≡ slice_set t.rows p x → back ≡ slice_set t.back p y → KeepsMove (record t { rows = rows; back = back })
   rows_kept f i k x y p l m o bx by e rows back re be =
-      subst (λ (v : List ℕ). KeepsMove (record t { rows = v; back = back })) (sym re) (subst (λ (v : List ℕ). KeepsMove (record t { rows = slice_set t.rows p x; back = v })) (sym be) (subst (λ (p : ℕ). KeepsMove (record t { rows = slice_set t.rows p x; back = slice_set t.back p y })) (sym e) (record {
+      subst (λ (v : List ℕ). KeepsMove (record t { rows = v; back = back })) (sym re)
+      (subst (λ (v : List ℕ). KeepsMove (record t { rows = slice_set t.rows p x; back = v })) (sym be)
+      (subst (λ (p : ℕ). KeepsMove (record t { rows = slice_set t.rows p x; back = slice_set t.back p y })) (sym e) (record {
         fields = h.fields;
         rank_positive = h.rank_positive;
         rank_most = h.rank_most;
@@ -98,24 +108,25 @@ module _ (t : MoveTable) (h : KeepsMove t) where
 
   pub scalar_kept : (f j x p : ℕ) → f < length t.shape.factors → j < t.shape.size → x < slice_index t.shape.factors f → p ≡ scalar_place t.shape f j
       → (scalars : List ℕ) → scalars ≡ slice_set t.scalars p x → KeepsMove (record t { scalars = scalars })
-  scalar_kept f j x p l m b e scalars se = subst (λ (v : List ℕ). KeepsMove (record t { scalars = v })) (sym se) (subst (λ (p : ℕ). KeepsMove (record t { scalars = slice_set t.scalars p x })) (sym e) (record {
-    fields = h.fields;
-    rank_positive = h.rank_positive;
-    rank_most = h.rank_most;
-    size_most = h.size_most;
-    powers = h.powers;
-    powers_below = h.powers_below;
-    rows = h.rows;
-    back = h.back;
-    scalars = length-set t.scalars (scalar_place t.shape f j) x ∙ h.scalars;
-    labels = h.labels;
-    row_codes = h.row_codes;
-    back_codes = h.back_codes;
-    scalar_codes = λ g k gl kl. set_below t.scalars (scalar_place t.shape f j) x (scalar_place t.shape g k) (slice_index t.shape.factors g)
-        (subst (λ (n : ℕ). scalar_place t.shape f j < n) (sym h.scalars) (place_below (length t.shape.factors) t.shape.size f j l m))
-        (λ s. subst (λ (f : ℕ). x < slice_index t.shape.factors f) (factor_of_scalar t.shape.size f j g k m kl s) b) (h.scalar_codes g k gl kl);
-    label_columns = h.label_columns;
-  }))
+  scalar_kept f j x p l m b e scalars se = subst (λ (v : List ℕ). KeepsMove (record t { scalars = v })) (sym se)
+      (subst (λ (p : ℕ). KeepsMove (record t { scalars = slice_set t.scalars p x })) (sym e) (record {
+        fields = h.fields;
+        rank_positive = h.rank_positive;
+        rank_most = h.rank_most;
+        size_most = h.size_most;
+        powers = h.powers;
+        powers_below = h.powers_below;
+        rows = h.rows;
+        back = h.back;
+        scalars = length-set t.scalars (scalar_place t.shape f j) x ∙ h.scalars;
+        labels = h.labels;
+        row_codes = h.row_codes;
+        back_codes = h.back_codes;
+        scalar_codes = λ g k gl kl. set_below t.scalars (scalar_place t.shape f j) x (scalar_place t.shape g k) (slice_index t.shape.factors g)
+            (subst (λ (n : ℕ). scalar_place t.shape f j < n) (sym h.scalars) (place_below (length t.shape.factors) t.shape.size f j l m))
+            (λ s. subst (λ (f : ℕ). x < slice_index t.shape.factors f) (factor_of_scalar t.shape.size f j g k m kl s) b) (h.scalar_codes g k gl kl);
+        label_columns = h.label_columns;
+      }))
 
   pub label_kept : (j x : ℕ) → j < t.shape.size → x < t.shape.size → KeepsMove (record t { labels = slice_set t.labels j x })
   label_kept j x l b = record {

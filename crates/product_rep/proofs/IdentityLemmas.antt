@@ -22,7 +22,8 @@ use Rattle.matroid_theory.proofs.Dimension.{unit_code}
 use Rattle.product_rep.proofs.PiecesLemmas.{place_below}
 
 -- one more entry of a list that follows a function
-pub one_more : (g : ℕ → ℕ) (xs ys : List ℕ) (x n : ℕ) → length xs ≡ n → ys ≡ xs ++ x ∷ [] → ((p : ℕ) → p < n → slice_index xs p ≡ g p) → x ≡ g n → (p : ℕ) → p < n + 1 → slice_index ys p ≡ g p
+pub one_more : (g : ℕ → ℕ) (xs ys : List ℕ) (x n : ℕ) → length xs ≡ n → ys ≡ xs ++ x ∷ [] →
+    ((p : ℕ) → p < n → slice_index xs p ≡ g p) → x ≡ g n → (p : ℕ) → p < n + 1 → slice_index ys p ≡ g p
 one_more g xs ys x n l e h k p b =
     ap (λ (ys : List ℕ). slice_index ys p) e
     ∙ elim (cases_lt p n) [
@@ -32,7 +33,8 @@ one_more g xs ys x n l e h k p b =
     ]
 
 -- the entries of identity matrices, one after another
-pub unit-at : (c r n : ℕ) (xs : List ℕ) → c * r * r ≤ n → ((p : ℕ) → p < n → slice_index xs p ≡ unit (p / r % r) (p % r)) → (f i k : ℕ) → f < c → i < r → k < r → slice_index xs ((f * r + i) * r + k) ≡ unit i k
+pub unit-at : (c r n : ℕ) (xs : List ℕ) → c * r * r ≤ n → ((p : ℕ) → p < n → slice_index xs p ≡ unit (p / r % r) (p % r)) →
+    (f i k : ℕ) → f < c → i < r → k < r → slice_index xs ((f * r + i) * r + k) ≡ unit i k
 unit-at c r n xs e h f i k l m o =
     let b : (f * r + i) * r + k < c * r * r = place_below (c * r) r (f * r + i) k (place_below c r f i l m) o in
     h ((f * r + i) * r + k) (omega arith)
@@ -40,21 +42,27 @@ unit-at c r n xs e h f i k l m o =
     ∙ ap (λ (x : ℕ). unit x k) (mod-mul-add f r i m)
 
 -- where a number first stands in a list
-pub place-at : (xs : List ℕ) (j i : ℕ) → i < length xs → slice_index xs i ≡ j → ((k : ℕ) → k < i → slice_index xs k ≢ j) → unwrap_or (position (λ l. l == j) xs) 0 ≡ i
-place-at xs j i l e n = found (position_or_len (λ l. l == j) xs) (position_or_len_is (λ l. l == j) xs i 0 (omega arith) (λ k b. other_number (slice_index xs k) j (n k b)) (λ _. ap (λ (x : ℕ). x == j) e ∙ same_number j))
+pub place-at : (xs : List ℕ) (j i : ℕ) → i < length xs → slice_index xs i ≡ j → ((k : ℕ) → k < i → slice_index xs k ≢ j) →
+    unwrap_or (position (λ l. l == j) xs) 0 ≡ i
+place-at xs j i l e n = found (position_or_len (λ l. l == j) xs)
+    (position_or_len_is (λ l. l == j) xs i 0 (omega arith) (λ k b. other_number (slice_index xs k) j (n k b))
+    (λ _. ap (λ (x : ℕ). x == j) e ∙ same_number j))
   where
     found : (p : ℕ) → p ≡ i → unwrap_or (cond (nat_lt p (length xs)) (Some p) None) 0 ≡ i
     found p e = grind (arith, common_steps)
 
 -- a number that is none of the list's
 pub place-none : (xs : List ℕ) (j : ℕ) → ((k : ℕ) → k < length xs → slice_index xs k ≢ j) → unwrap_or (position (λ l. l == j) xs) 0 ≡ 0
-place-none xs j n = found (position_or_len (λ l. l == j) xs) (position_or_len_is (λ l. l == j) xs (length xs) 0 (omega arith) (λ k b. other_number (slice_index xs k) j (n k b)) (λ d. absurd (omega arith)))
+place-none xs j n = found (position_or_len (λ l. l == j) xs)
+    (position_or_len_is (λ l. l == j) xs (length xs) 0 (omega arith) (λ k b. other_number (slice_index xs k) j (n k b))
+    (λ d. absurd (omega arith)))
   where
     found : (p : ℕ) → p ≡ length xs → unwrap_or (cond (nat_lt p (length xs)) (Some p) None) 0 ≡ 0
     found p e = grind (arith, common_steps)
 
 -- the product of two identity matrices
-unit-product : (q r : ℕ) → IsField q → (A B : Matrix) → ((i k : ℕ) → i < r → k < r → A i k ≡ unit i k) → ((i k : ℕ) → i < r → k < r → B i k ≡ unit i k) → (i j : ℕ) → i < r → j < r → matrix_product q r A B i j ≡ unit i j
+unit-product : (q r : ℕ) → IsField q → (A B : Matrix) → ((i k : ℕ) → i < r → k < r → A i k ≡ unit i k) →
+    ((i k : ℕ) → i < r → k < r → B i k ≡ unit i k) → (i j : ℕ) → i < r → j < r → matrix_product q r A B i j ≡ unit i j
 unit-product q r F A B a b i j l m =
     sum_same q F r (λ k. times q (A i k) (B k j)) (λ k. times q (unit i k) (unit k j)) (λ k o. λ u. times q (a i k l o u) (b k j o m u))
     ∙ combination-unit q F r (λ k. unit k j) i l (unit_code q F i j)
@@ -103,10 +111,13 @@ module _ (M : Rep) (t : MoveTable) (h : KeepsLimits M)
       code : raised (order M f) (slice_index t.powers f) (matrix M f i j) < order M f
       code = raised_below (order M f) (field f l) (slice_index t.powers f) (matrix M f i j) (h.shaped.codes f i j l m o)
 
-      terms : sum_below (order M f) M.rank (λ k. times (order M f) (slice_index t.rows (row_place t.shape f i k)) (raised (order M f) (slice_index t.powers f) (matrix M f k (slice_index t.labels j))))
+      terms : sum_below (order M f) M.rank
+          (λ k. times (order M f) (slice_index t.rows (row_place t.shape f i k))
+          (raised (order M f) (slice_index t.powers f) (matrix M f k (slice_index t.labels j))))
           ≡ sum_below (order M f) M.rank (λ k. times (order M f) (unit i k) (raised (order M f) (slice_index t.powers f) (matrix M f k j)))
       terms = sum_same (order M f) (field f l) M.rank
-          (λ k. times (order M f) (slice_index t.rows (row_place t.shape f i k)) (raised (order M f) (slice_index t.powers f) (matrix M f k (slice_index t.labels j))))
+          (λ k. times (order M f) (slice_index t.rows (row_place t.shape f i k))
+          (raised (order M f) (slice_index t.powers f) (matrix M f k (slice_index t.labels j))))
           (λ k. times (order M f) (unit i k) (raised (order M f) (slice_index t.powers f) (matrix M f k j)))
           (λ k b. λ u. times (order M f) (rows f i k l m b u) (raised (order M f) (slice_index t.powers f) (matrix M f k (labels j o u))))
 

@@ -28,7 +28,8 @@ module _ (M : Rep) (t : MoveTable) (f p : ℕ) (h : KeepsLimits M) (k : KeepsMov
     where
       at : (g : ℕ) → slice_index (slice_set t.powers f p) g ≡ with_power f p (slice_index t.powers) g
       at g = elim (cases_eq g f) [
-        | inl e ↦ ap (slice_index (slice_set t.powers f p)) e ∙ set_here ∙ sym (ap (with_power f p (slice_index t.powers)) e ∙ power_here f p (slice_index t.powers))
+        | inl e ↦ ap (slice_index (slice_set t.powers f p)) e ∙ set_here
+            ∙ sym (ap (with_power f p (slice_index t.powers)) e ∙ power_here f p (slice_index t.powers))
         | inr n ↦ set_elsewhere g n ∙ sym (power_elsewhere f p (slice_index t.powers) g n)
       ]
 

@@ -24,7 +24,8 @@ back w a b xs l =
     ∙ (λ i. drop-take w a xs i ++ sym (drop-drop b w xs) i)
 
 -- the pieces without piece j
-pub pieces-remove : (w n : ℕ) (xs : List ℕ) (j : ℕ) → j ≤ n → length xs ≡ suc n * w → pieces w n (take (j * w) xs ++ drop (suc j * w) xs) ≡ remove (pieces w (suc n) xs) j
+pub pieces-remove : (w n : ℕ) (xs : List ℕ) (j : ℕ) → j ≤ n → length xs ≡ suc n * w →
+    pieces w n (take (j * w) xs ++ drop (suc j * w) xs) ≡ remove (pieces w (suc n) xs) j
 pieces-remove w n xs zero l e = (λ i. pieces w n (take (none i) xs ++ drop (one i) xs))
   where
     none : zero * w ≡ zero
@@ -48,7 +49,8 @@ pieces-remove w (suc n) xs (suc j) l e =
     room = let h : j * w ≤ n * w = mul-le-mul (omega arith) (le_refl w) in omega arith
 
 -- a column that is left was one before
-was_column : (columns : List (List ℕ)) (j k : ℕ) → j < length columns → k < length (remove columns j) → (m : ℕ) × (m < length columns) × (slice_index_or (remove columns j) k [] ≡ slice_index_or columns m [])
+was_column : (columns : List (List ℕ)) (j k : ℕ) → j < length columns → k < length (remove columns j) →
+    (m : ℕ) × (m < length columns) × (slice_index_or (remove columns j) k [] ≡ slice_index_or columns m [])
 was_column columns j k l m =
     let n : length (remove columns j) + 1 ≡ length columns = length-remove columns j l in
     elim (cases_lt k j) [
@@ -64,7 +66,8 @@ pub shaped_without : (M : Rep) (j : ℕ) → j < size M → IsShaped M → IsSha
 shaped_without M j l s = record {
   orders = s.orders;
   lengths = λ k m. let c = was_column M.columns j k l m in ap (λ (v : List ℕ). length v) c.2 ∙ s.lengths c.0 c.1;
-  codes = λ f i k o p m. let c = was_column M.columns j k l m in subst (λ (v : List ℕ). slice_index v (i * count M + f) < order M f) (sym c.2) (s.codes f i c.0 o p c.1);
+  codes = λ f i k o p m. let c = was_column M.columns j k l m in
+      subst (λ (v : List ℕ). slice_index v (i * count M + f) < order M f) (sym c.2) (s.codes f i c.0 o p c.1);
 }
 
 -- how many codes are left
@@ -75,7 +78,9 @@ length-without n w j xs l e =
     omega (arith, length-append (take (j * w) xs) (drop ((j + 1) * w) xs), length-take-le (j * w) xs (omega arith), length-drop ((j + 1) * w) xs)
 
 -- what the removal of a column makes of the fields
-pub remove_view : (a b : Inside) (j : ℕ) → KeepsRep a → j < a.size → b.factors ≡ a.factors → b.rank ≡ a.rank → b.size + 1 ≡ a.size → b.codes.items ≡ take (j * (a.rank * length a.factors)) a.codes.items ++ drop ((j + 1) * (a.rank * length a.factors)) a.codes.items → matrices b ≡ without (matrices a) j
+pub remove_view : (a b : Inside) (j : ℕ) → KeepsRep a → j < a.size → b.factors ≡ a.factors → b.rank ≡ a.rank → b.size + 1 ≡ a.size →
+    b.codes.items ≡ take (j * (a.rank * length a.factors)) a.codes.items ++ drop
+    ((j + 1) * (a.rank * length a.factors)) a.codes.items → matrices b ≡ without (matrices a) j
 remove_view a b j k l f r s c =
     λ i. record { factors = f i; rank = r i; columns = columns i }
   where
@@ -92,14 +97,17 @@ remove_view a b j k l f r s c =
         ∙ pieces-remove w b.size a.codes.items j (omega arith) (k.full ∙ ap (λ n. n * w) (sym sizes))
         ∙ ap (λ n. remove (pieces w n a.codes.items) j) sizes
 
-pub remove_keeps : (a b : Inside) (j : ℕ) → KeepsRep a → j < a.size → b.factors ≡ a.factors → b.rank ≡ a.rank → b.size + 1 ≡ a.size → b.codes.items ≡ take (j * (a.rank * length a.factors)) a.codes.items ++ drop ((j + 1) * (a.rank * length a.factors)) a.codes.items → KeepsRep b
+pub remove_keeps : (a b : Inside) (j : ℕ) → KeepsRep a → j < a.size → b.factors ≡ a.factors → b.rank ≡ a.rank →
+    b.size + 1 ≡ a.size → b.codes.items ≡ take (j * (a.rank * length a.factors)) a.codes.items ++ drop
+    ((j + 1) * (a.rank * length a.factors)) a.codes.items → KeepsRep b
 remove_keeps a b j k l f r s c = record {
   full = ap (λ (xs : List ℕ). length xs) c ∙ length-without a.size w j a.codes.items l k.full ∙ rows ∙ (λ i. b.size * (sym r i * length (sym f i)));
   is_rep = subst KeepsLimits (sym (remove_view a b j k l f r s c)) (record {
     fields = whole.fields;
     rank_positive = whole.rank_positive;
     rank_most = whole.rank_most;
-    size_most = (let n : length (remove (matrices a).columns j) + 1 ≡ size (matrices a) = length-remove (matrices a).columns j below in let m = whole.size_most in omega arith);
+    size_most = (let n : length (remove (matrices a).columns j) + 1 ≡ size (matrices a) =
+        length-remove (matrices a).columns j below in let m = whole.size_most in omega arith);
     shaped = shaped_without (matrices a) j below whole.shaped;
   });
 }

@@ -15,14 +15,16 @@ pub rank_is : (a : Inside) (t : MoveTable) (n : ℕ) → table a ≡ t → n ≡
 rank_is a t n v e = e ∙ ap (λ (t : MoveTable). t.shape.rank) v
 
 -- a list of as many matrices as factors has that of each factor
-pub has_block : (t : MoveTable) (xs ys : List ℕ) (n f : ℕ) → KeepsMove t → n ≡ t.shape.rank → length xs ≡ length t.shape.factors * t.shape.rank * t.shape.rank → ys ≡ xs → f < length t.shape.factors → HasBlock n f ys
+pub has_block : (t : MoveTable) (xs ys : List ℕ) (n f : ℕ) → KeepsMove t → n ≡ t.shape.rank →
+    length xs ≡ length t.shape.factors * t.shape.rank * t.shape.rank → ys ≡ xs → f < length t.shape.factors → HasBlock n f ys
 has_block t xs ys n f h e l y b =
     let m : length t.shape.factors ≤ 3 = h.fields.few in
     subst (λ (r : ℕ). HasBlock r f ys) (sym e) (subst (λ (ys : List ℕ). HasBlock t.shape.rank f ys) (sym y) (record {
       rank = h.rank_most;
       factor = omega arith;
       places = λ i k o p. subst (λ (n : ℕ). (f * t.shape.rank + i) * t.shape.rank + k < n) (sym l)
-          (place_below (length t.shape.factors * t.shape.rank) t.shape.rank (f * t.shape.rank + i) k (place_below (length t.shape.factors) t.shape.rank f i b o) p);
+          (place_below (length t.shape.factors * t.shape.rank) t.shape.rank (f * t.shape.rank + i) k
+          (place_below (length t.shape.factors) t.shape.rank f i b o) p);
     }))
 
 -- its matrix has codes, in the terms of equal ones
@@ -48,7 +50,8 @@ same_test q s r n f g m h xs vs ys ws b qe re fe me he xe ye d =
 
 -- a table whose powers, factors and labels are those of a move of the mode
 pub is_move : (mode : Mode) (t : MoveTable) → KeepsMove t → ((f : ℕ) → f < length t.shape.factors → AllowsPower mode (slice_index t.powers f))
-    → ((f : ℕ) → f < length t.shape.factors → IsFactorPart t f) → ArePermutation t.shape.size (move_of t).label (move_of t).place → IsMove mode t.shape (move_of t)
+    → ((f : ℕ) → f < length t.shape.factors → IsFactorPart t f) → ArePermutation t.shape.size (move_of t).label (move_of t).place →
+    IsMove mode t.shape (move_of t)
 is_move mode t h a p l = record {
   powers = h.powers_below;
   allowed = a;

@@ -28,9 +28,12 @@ pub record KeepsMove (t : MoveTable) : Type 0 where
   pub scalars : length t.scalars ≡ length t.shape.factors * t.shape.size
   pub labels : length t.labels ≡ t.shape.size
   pub powers_below : (f : ℕ) → f < length t.shape.factors → slice_index t.powers f < degree (slice_index t.shape.factors f)
-  pub row_codes : (f i k : ℕ) → f < length t.shape.factors → i < t.shape.rank → k < t.shape.rank → slice_index t.rows (row_place t.shape f i k) < slice_index t.shape.factors f
-  pub back_codes : (f i k : ℕ) → f < length t.shape.factors → i < t.shape.rank → k < t.shape.rank → slice_index t.back (row_place t.shape f i k) < slice_index t.shape.factors f
-  pub scalar_codes : (f j : ℕ) → f < length t.shape.factors → j < t.shape.size → slice_index t.scalars (scalar_place t.shape f j) < slice_index t.shape.factors f
+  pub row_codes : (f i k : ℕ) → f < length t.shape.factors → i < t.shape.rank → k < t.shape.rank →
+      slice_index t.rows (row_place t.shape f i k) < slice_index t.shape.factors f
+  pub back_codes : (f i k : ℕ) → f < length t.shape.factors → i < t.shape.rank → k < t.shape.rank →
+      slice_index t.back (row_place t.shape f i k) < slice_index t.shape.factors f
+  pub scalar_codes : (f j : ℕ) → f < length t.shape.factors → j < t.shape.size →
+      slice_index t.scalars (scalar_place t.shape f j) < slice_index t.shape.factors f
   pub label_columns : (j : ℕ) → j < t.shape.size → slice_index t.labels j < t.shape.size
 
 -- the entries of the move of representations of this shape that changes nothing: powers 0, unit matrices, scalars 1 and each column's own label

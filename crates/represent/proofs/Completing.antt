@@ -70,7 +70,8 @@ module _ (q : ℕ) (N : Matroid) (s : IsSought q N) where
               ∙ column_of N.rank s.rank_positive (suc (p / N.rank)) 0 s.rank_positive ∙ omega arith,
         )
 
-    next_place : (L : Rep) → Completes q N M (suc (row_at N.rank p)) (column_at N.rank p) L ↔ Completes q N M (row_at N.rank (suc p)) (column_at N.rank (suc p)) L
+    next_place : (L : Rep) →
+        Completes q N M (suc (row_at N.rank p)) (column_at N.rank p) L ↔ Completes q N M (row_at N.rank (suc p)) (column_at N.rank (suc p)) L
     next_place L = elim (cases_lt (suc (row_at N.rank p)) N.rank) [
       | inl b ↦ (let (e, d) = same_column b in (
         (λ c. subst (λ j. Completes q N M (row_at N.rank (suc p)) j L) (sym d) (subst (λ i. Completes q N M i (column_at N.rank p) L) (sym e) c)),

@@ -45,7 +45,8 @@ module _ (q : ℕ) (N : Matroid) (M : Rep) (over : IsStandardOver q N M) (limits
 -- so too at the last entry of a list of codes
 module _ (q : ℕ) (N : Matroid) (s : IsSought q N) (codes : List ℕ) (c : AreCodes q N codes) (some : 0 < length codes) (P : Rep)
     (same : P ≡ filled q N codes)
-    (matrix : FactorColumns) (f : IsFactorOf P 0 matrix.field matrix.columns.items) (place : Place) (row : place.row ≡ row_at N.rank (length codes - 1)) (column : place.column ≡ column_at N.rank (length codes - 1)) where
+    (matrix : FactorColumns) (f : IsFactorOf P 0 matrix.field matrix.columns.items) (place : Place)
+    (row : place.row ≡ row_at N.rank (length codes - 1)) (column : place.column ≡ column_at N.rank (length codes - 1)) where
   factor : IsFactorOf (filled q N codes) 0 matrix.field matrix.columns.items
   factor = subst (λ (M : Rep). IsFactorOf M 0 matrix.field matrix.columns.items) same f
 

@@ -87,7 +87,8 @@ module _ (q : ℕ) (F : IsField q) (columns : List (List ℕ)) (codes : list_all
       square_basis (members (2 ^ column_length columns - 1))
       (sym (size-same (length columns) (λ j. nat_lt j (column_length columns)) (members (2 ^ column_length columns - 1)) same)
       ∙ size_front (column_length columns) (length columns) room)
-      (IsIndependent-same q (column_length columns) (length columns) (matrix_of_lists columns) (λ j. nat_lt j (column_length columns)) (members (2 ^ column_length columns - 1)) same
+      (IsIndependent-same q (column_length columns) (length columns) (matrix_of_lists columns)
+      (λ j. nat_lt j (column_length columns)) (members (2 ^ column_length columns - 1)) same
       (units_independent q F (column_length columns) (length columns) (matrix_of_lists columns) room units))
     where
       same : (j : ℕ) → j < length columns → nat_lt j (column_length columns) ≡ members (2 ^ column_length columns - 1) j
@@ -120,7 +121,8 @@ not_zero : suc zero ≡ zero → ⊥
 not_zero e = omega arith
 
 -- their combination is zero for no others than 0
-only_zero : (x y z : ℕ) → x < 2 → y < 2 → z < 2 → ((i : ℕ) → i < 3 → combination 2 7 (matrix_of_lists fano_columns) (pick x y z) i ≡ 0) → (x ≡ 0) × (y ≡ 0) × (z ≡ 0)
+only_zero : (x y z : ℕ) → x < 2 → y < 2 → z < 2 →
+    ((i : ℕ) → i < 3 → combination 2 7 (matrix_of_lists fano_columns) (pick x y z) i ≡ 0) → (x ≡ 0) × (y ≡ 0) × (z ≡ 0)
 unfolding pick plus times poly characteristic degree remainder
 only_zero zero zero zero l m n h = (refl, refl, refl)
 only_zero zero zero (suc zero) l m n h = absurd (not_zero (h 0 (lit< tt)))

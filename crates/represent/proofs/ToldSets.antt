@@ -97,7 +97,8 @@ module _ (r : ℕ) (place : Place) (inside : place.row < r) (past : r ≤ place.
   abbrev Told : ℕ
   Told = bit_or (bit_or (bit_or units (2 ^ r - 2 ^ suc place.row)) (later * 2 ^ r)) (2 ^ place.column)
 
-  bits : (k : ℕ) → bit_at Told k ≡ max (max (max (bit_at units k) (bit_at (2 ^ r - 2 ^ suc place.row) k)) (bit_at (later * 2 ^ r) k)) (bit_at (2 ^ place.column) k)
+  bits : (k : ℕ) → bit_at Told k ≡ max
+      (max (max (bit_at units k) (bit_at (2 ^ r - 2 ^ suc place.row) k)) (bit_at (later * 2 ^ r) k)) (bit_at (2 ^ place.column) k)
   bits k =
       bit_at_or (bit_or (bit_or units (2 ^ r - 2 ^ suc place.row)) (later * 2 ^ r)) (2 ^ place.column) k
       ∙ ap (λ x. max x (bit_at (2 ^ place.column) k)) (bit_at_or (bit_or units (2 ^ r - 2 ^ suc place.row)) (later * 2 ^ r) k

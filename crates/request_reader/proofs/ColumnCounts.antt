@@ -30,7 +30,8 @@ product-append [] y = omega arith
 product-append (x ∷ xs) y = let e = product-append xs y in grind (arith, common_steps)
 
 -- one factor more
-pub product_more : (xs : List ℕ) (i : ℕ) → i < length xs → product_of (map (λ q. q - 1) (take (i + 1) xs)) ≡ product_of (map (λ q. q - 1) (take i xs)) * (slice_index xs i - 1)
+pub product_more : (xs : List ℕ) (i : ℕ) → i < length xs →
+    product_of (map (λ q. q - 1) (take (i + 1) xs)) ≡ product_of (map (λ q. q - 1) (take i xs)) * (slice_index xs i - 1)
 product_more xs i l =
     ap (λ (ys : List ℕ). product_of (map (λ q. q - 1) ys)) (take_more xs i 0 l)
     ∙ ap product_of (map-append (λ (q : ℕ). q - 1) (take i xs) (slice_index xs i ∷ []))
@@ -47,7 +48,9 @@ pub entries_few : (n i : ℕ) → n ≤ 12 ^ i → i ≤ 3 → n ≤ 1728
 entries_few n i h l = let p : 12 ^ i ≤ 12 ^ 3 = pow-le-pow_right (lit< tt) l in omega arith
 
 -- one support more
-pub count_more : (rank : ℕ) (factors : List ℕ) (s : ℕ) → sum (map (columns_of_support rank factors) (range_with_len 1 (s + 1))) ≡ sum (map (columns_of_support rank factors) (range_with_len 1 s)) + subsets rank (s + 1) * product_of (map (λ q. q - 1) factors) ^ s
+pub count_more : (rank : ℕ) (factors : List ℕ) (s : ℕ) →
+    sum (map (columns_of_support rank factors) (range_with_len 1 (s + 1))) ≡ sum
+    (map (columns_of_support rank factors) (range_with_len 1 s)) + subsets rank (s + 1) * product_of (map (λ q. q - 1) factors) ^ s
 count_more rank factors s =
     let at : s + 1 - 1 ≡ s = omega arith in
     ap sum (map-range_with_len_more (columns_of_support rank factors) 1 s (s + 1) (omega arith))
@@ -97,7 +100,10 @@ pub choices_few : (choices rank : ℕ) → choices ≤ 2 ^ rank → rank ≤ 6 �
 choices_few choices rank h l = let p : 2 ^ rank ≤ 2 ^ 6 = pow-le-pow_right (lit< tt) l in omega arith
 
 -- one step of the count
-pub count_step : (rank : ℕ) (factors : List ℕ) (s count choices below entries : ℕ) → count ≡ sum (map (columns_of_support rank factors) (range_with_len 1 s)) → choices ≡ subsets rank (s + 1) → below ≡ entries ^ s → entries ≡ product_of (map (λ q. q - 1) factors) → count + choices * below ≡ sum (map (columns_of_support rank factors) (range_with_len 1 (s + 1)))
+pub count_step : (rank : ℕ) (factors : List ℕ) (s count choices below entries : ℕ) →
+    count ≡ sum (map (columns_of_support rank factors) (range_with_len 1 s)) → choices ≡ subsets rank (s + 1) → below ≡ entries ^ s →
+    entries ≡ product_of (map (λ q. q - 1) factors) →
+    count + choices * below ≡ sum (map (columns_of_support rank factors) (range_with_len 1 (s + 1)))
 count_step rank factors s count choices below entries c h b e =
     (λ i. c i + h i * (b ∙ (λ t. e t ^ s)) i) ∙ sym (count_more rank factors s)
 

@@ -61,6 +61,7 @@ mode_asked (EquivalenceIs Semilinear ∷ es) (Some Semilinear) is = refl
 mode_asked (e ∷ es) o is = mode_asked es o is
 
 -- one matroid more
-pub given_end : (items : List NamedMatroid) (item : NamedMatroid) → AreGiven items → IsGivenBy (given_as (named_by item.spelling)) item.matroid → AreGiven (items ++ item ∷ [])
+pub given_end : (items : List NamedMatroid) (item : NamedMatroid) → AreGiven items →
+    IsGivenBy (given_as (named_by item.spelling)) item.matroid → AreGiven (items ++ item ∷ [])
 given_end [] item all given = (given, tt)
 given_end (x ∷ items) item all given = (all.0, given_end items item all.1 given)

@@ -30,7 +30,8 @@ use Rattle.request_reader.proofs.FilterValues.{filters_kept}
 use Rattle.formats.proofs.KindCounts.{of_kind, count_end, count_kept, order_end, order_new, rank_count, field_count, size_count, forbid_count, values_end, values_kept, values_more, flag_again, value_again, none_there}
 
 -- one entry more, of a kind that wasn't there
-pub version_end : (es : List Statement) (values : Values) (n : ℕ) → Holds es values → values.version ≡ false → Holds (es ++ VersionIs n ∷ []) (record values { version = true })
+pub version_end : (es : List Statement) (values : Values) (n : ℕ) → Holds es values → values.version ≡ false →
+    Holds (es ++ VersionIs n ∷ []) (record values { version = true })
 version_end es values n h new =
     let none : count_of_kind 0 es ≡ 0 = h.version ∙ ap (λ (b : Bool). cond b 1 0) new in
     record {
@@ -46,7 +47,8 @@ version_end es values n h new =
       mode = values_kept mode_in es (VersionIs n) _ h.mode refl;
     }
 
-pub rank_end : (es : List Statement) (values : Values) (n : ℕ) → Holds es values → values.rank ≡ None → Holds (es ++ RankIs n ∷ []) (record values { rank = Some n })
+pub rank_end : (es : List Statement) (values : Values) (n : ℕ) → Holds es values → values.rank ≡ None →
+    Holds (es ++ RankIs n ∷ []) (record values { rank = Some n })
 rank_end es values n h new =
     let none : filter_map rank_in es ≡ [] = h.rank ∙ ap option_to_list new in
     record {
@@ -62,7 +64,8 @@ rank_end es values n h new =
       mode = values_kept mode_in es (RankIs n) _ h.mode refl;
     }
 
-pub field_end : (es : List Statement) (values : Values) (fs : List ℕ) → Holds es values → values.factors ≡ None → Holds (es ++ FieldIs fs ∷ []) (record values { factors = Some fs })
+pub field_end : (es : List Statement) (values : Values) (fs : List ℕ) → Holds es values → values.factors ≡ None →
+    Holds (es ++ FieldIs fs ∷ []) (record values { factors = Some fs })
 field_end es values fs h new =
     let none : filter_map field_in es ≡ [] = h.field ∙ ap option_to_list new in
     record {
@@ -78,7 +81,8 @@ field_end es values fs h new =
       mode = values_kept mode_in es (FieldIs fs) _ h.mode refl;
     }
 
-pub size_end : (es : List Statement) (values : Values) (n : ℕ) → Holds es values → values.size ≡ None → Holds (es ++ SizeIs n ∷ []) (record values { size = Some n })
+pub size_end : (es : List Statement) (values : Values) (n : ℕ) → Holds es values → values.size ≡ None →
+    Holds (es ++ SizeIs n ∷ []) (record values { size = Some n })
 size_end es values n h new =
     let none : filter_map size_in es ≡ [] = h.size ∙ ap option_to_list new in
     record {
@@ -94,7 +98,8 @@ size_end es values n h new =
       mode = values_kept mode_in es (SizeIs n) _ h.mode refl;
     }
 
-pub print_end : (es : List Statement) (values : Values) (p : PrintMode) → Holds es values → values.print ≡ None → Holds (es ++ Prints p ∷ []) (record values { print = Some p })
+pub print_end : (es : List Statement) (values : Values) (p : PrintMode) → Holds es values → values.print ≡ None →
+    Holds (es ++ Prints p ∷ []) (record values { print = Some p })
 print_end es values p h new =
     let none : filter_map print_in es ≡ [] = h.print ∙ ap option_to_list new in
     record {
@@ -110,7 +115,8 @@ print_end es values p h new =
       mode = values_kept mode_in es (Prints p) _ h.mode refl;
     }
 
-pub mode_end : (es : List Statement) (values : Values) (m : Mode) → Holds es values → values.mode ≡ None → Holds (es ++ EquivalenceIs m ∷ []) (record values { mode = Some m })
+pub mode_end : (es : List Statement) (values : Values) (m : Mode) → Holds es values → values.mode ≡ None →
+    Holds (es ++ EquivalenceIs m ∷ []) (record values { mode = Some m })
 mode_end es values m h new =
     let none : filter_map mode_in es ≡ [] = h.mode ∙ ap option_to_list new in
     record {
@@ -130,7 +136,9 @@ mode_end es values m h new =
 pub forbids_held : (es : List Statement) (values : Values) → Holds es values → count_of_kind 4 es ≡ length values.forbid.items
 forbids_held es values h = forbid_count es ∙ ap length h.forbid ∙ length-map values.forbid.items (λ item. named_by item.spelling)
 
-pub forbid_end : (es : List Statement) (values : Values) (item : NamedMatroid) → Holds es values → length values.forbid.items < 8 → IsSmallName (named_by item.spelling) → IsGivenBy (given_as (named_by item.spelling)) item.matroid → Holds (es ++ Forbids (named_by item.spelling) ∷ []) (record values { forbid = record { items = values.forbid.items ++ item ∷ [] } })
+pub forbid_end : (es : List Statement) (values : Values) (item : NamedMatroid) → Holds es values → length values.forbid.items < 8 →
+    IsSmallName (named_by item.spelling) → IsGivenBy (given_as (named_by item.spelling)) item.matroid →
+    Holds (es ++ Forbids (named_by item.spelling) ∷ []) (record values { forbid = record { items = values.forbid.items ++ item ∷ [] } })
 forbid_end es values item h room small given =
     let e : Statement = Forbids (named_by item.spelling) in
     let fewer : count_of_kind 4 es < 8 = omega (arith, forbids_held es values h) in
@@ -140,7 +148,8 @@ forbid_end es values item h room small given =
       rank = values_kept rank_in es e _ h.rank refl;
       field = values_kept field_in es e _ h.field refl;
       size = values_kept size_in es e _ h.size refl;
-      forbid = values_more forbidden_in es e (named_by item.spelling) _ h.forbid refl ∙ sym (map-append (λ (x : NamedMatroid). named_by x.spelling) values.forbid.items (item ∷ []));
+      forbid = values_more forbidden_in es e (named_by item.spelling) _ h.forbid refl
+          ∙ sym (map-append (λ (x : NamedMatroid). named_by x.spelling) values.forbid.items (item ∷ []));
       given = given_end values.forbid.items item h.given given;
       filters = filters_kept es e values.filters h.filters refl refl refl refl refl;
       print = values_kept print_in es e _ h.print refl;
@@ -165,9 +174,12 @@ flag_tells flag.Distinct = record { version = refl; rank = refl; field = refl; s
 
 filter_tells : (filter : Filter) (e : Statement) → IsFilter filter e → TellsNoLine e
 filter_tells (filter.Flag flag) e is = subst TellsNoLine (sym is) (flag_tells flag)
-filter_tells (filter.Has item) e is = subst TellsNoLine (sym is.1) (record { version = refl; rank = refl; field = refl; size = refl; forbid = refl; print = refl; mode = refl })
+filter_tells (filter.Has item) e is = subst TellsNoLine (sym is.1)
+    (record { version = refl; rank = refl; field = refl; size = refl; forbid = refl; print = refl; mode = refl })
 
-pub filter_new : (es : List Statement) (values : Values) (s : Said) (e : Statement) (filter : Filter) (filters : Filters) → Holds es values → IsSaid s e → s ≡ said.Filter filter → (HoldsFilters es values.filters → IsFilter filter e → IsNewFilter es e filters) → Holds (es ++ e ∷ []) (record values { filters = filters })
+pub filter_new : (es : List Statement) (values : Values) (s : Said) (e : Statement) (filter : Filter) (filters : Filters) →
+    Holds es values → IsSaid s e → s ≡ said.Filter filter →
+    (HoldsFilters es values.filters → IsFilter filter e → IsNewFilter es e filters) → Holds (es ++ e ∷ []) (record values { filters = filters })
 filter_new es values s e filter filters h said is with_it =
     let at : IsFilter filter e = subst (λ (s : Said). IsSaid s e) is said in
     let new = with_it h.filters at in
@@ -185,84 +197,103 @@ filter_new es values s e filter filters h said is with_it =
       mode = values_kept mode_in es e _ h.mode tells.mode;
     }
 
-pub filter_wrong : (es : List Statement) (values : Values) (s : Said) (e : Statement) (filter : Filter) (w : Wrong) → Holds es values → IsSaid s e → s ≡ said.Filter filter → (HoldsFilters es values.filters → IsFilter filter e → IsWrong es e w) → IsWrong es e w
+pub filter_wrong : (es : List Statement) (values : Values) (s : Said) (e : Statement) (filter : Filter) (w : Wrong) →
+    Holds es values → IsSaid s e → s ≡ said.Filter filter → (HoldsFilters es values.filters → IsFilter filter e → IsWrong es e w) → IsWrong es e w
 filter_wrong es values s e filter w h said is with_it = with_it h.filters (subst (λ (s : Said). IsSaid s e) is said)
 
 -- what is said was not said before, or was
-pub version_new : (es : List Statement) (values : Values) (s : Said) (e : Statement) → Holds es values → IsSaid s e → s ≡ said.Version → values.version ≡ false → Holds (es ++ e ∷ []) (record values { version = true })
+pub version_new : (es : List Statement) (values : Values) (s : Said) (e : Statement) → Holds es values → IsSaid s e →
+    s ≡ said.Version → values.version ≡ false → Holds (es ++ e ∷ []) (record values { version = true })
 version_new es values s e h said is new =
     let at = subst (λ (s : Said). IsSaid s e) is said in
     subst (λ (e : Statement). Holds (es ++ e ∷ []) (record values { version = true })) (sym at.1) (version_end es values at.0 h new)
 
-pub rank_new : (es : List Statement) (values : Values) (s : Said) (e : Statement) (n : ℕ) → Holds es values → IsSaid s e → s ≡ said.Rank n → is_some values.rank ≡ false → Holds (es ++ e ∷ []) (record values { rank = Some n })
+pub rank_new : (es : List Statement) (values : Values) (s : Said) (e : Statement) (n : ℕ) → Holds es values → IsSaid s e →
+    s ≡ said.Rank n → is_some values.rank ≡ false → Holds (es ++ e ∷ []) (record values { rank = Some n })
 rank_new es values s e n h said is new =
     let at : e ≡ RankIs n = subst (λ (s : Said). IsSaid s e) is said in
     subst (λ (e : Statement). Holds (es ++ e ∷ []) (record values { rank = Some n })) (sym at) (rank_end es values n h (none_there values.rank new))
 
-pub field_new : (es : List Statement) (values : Values) (s : Said) (e : Statement) (fs : List ℕ) → Holds es values → IsSaid s e → s ≡ said.Field fs → is_some values.factors ≡ false → Holds (es ++ e ∷ []) (record values { factors = Some fs })
+pub field_new : (es : List Statement) (values : Values) (s : Said) (e : Statement) (fs : List ℕ) → Holds es values → IsSaid s e →
+    s ≡ said.Field fs → is_some values.factors ≡ false → Holds (es ++ e ∷ []) (record values { factors = Some fs })
 field_new es values s e fs h said is new =
     let at : e ≡ FieldIs fs = subst (λ (s : Said). IsSaid s e) is said in
     subst (λ (e : Statement). Holds (es ++ e ∷ []) (record values { factors = Some fs })) (sym at) (field_end es values fs h (none_there values.factors new))
 
-pub size_new : (es : List Statement) (values : Values) (s : Said) (e : Statement) (n : ℕ) → Holds es values → IsSaid s e → s ≡ said.Size n → is_some values.size ≡ false → Holds (es ++ e ∷ []) (record values { size = Some n })
+pub size_new : (es : List Statement) (values : Values) (s : Said) (e : Statement) (n : ℕ) → Holds es values → IsSaid s e →
+    s ≡ said.Size n → is_some values.size ≡ false → Holds (es ++ e ∷ []) (record values { size = Some n })
 size_new es values s e n h said is new =
     let at : e ≡ SizeIs n = subst (λ (s : Said). IsSaid s e) is said in
     subst (λ (e : Statement). Holds (es ++ e ∷ []) (record values { size = Some n })) (sym at) (size_end es values n h (none_there values.size new))
 
-pub print_new : (es : List Statement) (values : Values) (s : Said) (e : Statement) (p : PrintMode) → Holds es values → IsSaid s e → s ≡ said.Print p → is_some values.print ≡ false → Holds (es ++ e ∷ []) (record values { print = Some p })
+pub print_new : (es : List Statement) (values : Values) (s : Said) (e : Statement) (p : PrintMode) → Holds es values → IsSaid s e →
+    s ≡ said.Print p → is_some values.print ≡ false → Holds (es ++ e ∷ []) (record values { print = Some p })
 print_new es values s e p h said is new =
     let at : e ≡ Prints p = subst (λ (s : Said). IsSaid s e) is said in
     subst (λ (e : Statement). Holds (es ++ e ∷ []) (record values { print = Some p })) (sym at) (print_end es values p h (none_there values.print new))
 
-pub mode_new : (es : List Statement) (values : Values) (s : Said) (e : Statement) (m : Mode) → Holds es values → IsSaid s e → s ≡ said.Equivalence m → is_some values.mode ≡ false → Holds (es ++ e ∷ []) (record values { mode = Some m })
+pub mode_new : (es : List Statement) (values : Values) (s : Said) (e : Statement) (m : Mode) → Holds es values → IsSaid s e →
+    s ≡ said.Equivalence m → is_some values.mode ≡ false → Holds (es ++ e ∷ []) (record values { mode = Some m })
 mode_new es values s e m h said is new =
     let at : e ≡ EquivalenceIs m = subst (λ (s : Said). IsSaid s e) is said in
     subst (λ (e : Statement). Holds (es ++ e ∷ []) (record values { mode = Some m })) (sym at) (mode_end es values m h (none_there values.mode new))
 
-pub forbid_new : (es : List Statement) (values : Values) (s : Said) (e : Statement) (item : NamedMatroid) → Holds es values → IsSaid s e → s ≡ said.Forbid (minor.Small item) → length values.forbid.items < 8 → IsGivenBy (given_as (named_by item.spelling)) item.matroid → Holds (es ++ e ∷ []) (record values { forbid = record { items = values.forbid.items ++ item ∷ [] } })
+pub forbid_new : (es : List Statement) (values : Values) (s : Said) (e : Statement) (item : NamedMatroid) → Holds es values →
+    IsSaid s e → s ≡ said.Forbid (minor.Small item) → length values.forbid.items < 8 →
+    IsGivenBy (given_as (named_by item.spelling)) item.matroid →
+    Holds (es ++ e ∷ []) (record values { forbid = record { items = values.forbid.items ++ item ∷ [] } })
 forbid_new es values s e item h said is room given =
     let at = subst (λ (s : Said). IsSaid s e) is said in
     let small : IsSmallName (named_by item.spelling) = subst IsSmallName at.2.0 at.2.1 in
     let same : e ≡ Forbids (named_by item.spelling) = at.1 ∙ ap Forbids at.2.0 in
-    subst (λ (e : Statement). Holds (es ++ e ∷ []) (record values { forbid = record { items = values.forbid.items ++ item ∷ [] } })) (sym same) (forbid_end es values item h room small given)
+    subst (λ (e : Statement). Holds (es ++ e ∷ []) (record values { forbid = record { items = values.forbid.items ++ item ∷ [] } }))
+    (sym same) (forbid_end es values item h room small given)
 
-pub version_again : (es : List Statement) (values : Values) (s : Said) (e : Statement) → Holds es values → IsSaid s e → s ≡ said.Version → values.version ≡ true → IsWrong es e wrong.Again
+pub version_again : (es : List Statement) (values : Values) (s : Said) (e : Statement) → Holds es values → IsSaid s e →
+    s ≡ said.Version → values.version ≡ true → IsWrong es e wrong.Again
 version_again es values s e h said is set =
     let at = subst (λ (s : Said). IsSaid s e) is said in
     subst (λ (e : Statement). IsWrong es e wrong.Again) (sym at.1) (λ k. omega (arith, k), flag_again es 0 values.version h.version set)
 
-pub rank_again : (es : List Statement) (values : Values) (s : Said) (e : Statement) (n : ℕ) → Holds es values → IsSaid s e → s ≡ said.Rank n → is_some values.rank ≡ true → IsWrong es e wrong.Again
+pub rank_again : (es : List Statement) (values : Values) (s : Said) (e : Statement) (n : ℕ) → Holds es values → IsSaid s e →
+    s ≡ said.Rank n → is_some values.rank ≡ true → IsWrong es e wrong.Again
 rank_again es values s e n h said is set =
     let at : e ≡ RankIs n = subst (λ (s : Said). IsSaid s e) is said in
     subst (λ (e : Statement). IsWrong es e wrong.Again) (sym at) (λ k. omega (arith, k), value_again values.rank _ _ (rank_count es) h.rank set)
 
-pub field_again : (es : List Statement) (values : Values) (s : Said) (e : Statement) (fs : List ℕ) → Holds es values → IsSaid s e → s ≡ said.Field fs → is_some values.factors ≡ true → IsWrong es e wrong.Again
+pub field_again : (es : List Statement) (values : Values) (s : Said) (e : Statement) (fs : List ℕ) → Holds es values → IsSaid s e →
+    s ≡ said.Field fs → is_some values.factors ≡ true → IsWrong es e wrong.Again
 field_again es values s e fs h said is set =
     let at : e ≡ FieldIs fs = subst (λ (s : Said). IsSaid s e) is said in
     subst (λ (e : Statement). IsWrong es e wrong.Again) (sym at) (λ k. omega (arith, k), value_again values.factors _ _ (field_count es) h.field set)
 
-pub size_again : (es : List Statement) (values : Values) (s : Said) (e : Statement) (n : ℕ) → Holds es values → IsSaid s e → s ≡ said.Size n → is_some values.size ≡ true → IsWrong es e wrong.Again
+pub size_again : (es : List Statement) (values : Values) (s : Said) (e : Statement) (n : ℕ) → Holds es values → IsSaid s e →
+    s ≡ said.Size n → is_some values.size ≡ true → IsWrong es e wrong.Again
 size_again es values s e n h said is set =
     let at : e ≡ SizeIs n = subst (λ (s : Said). IsSaid s e) is said in
     subst (λ (e : Statement). IsWrong es e wrong.Again) (sym at) (λ k. omega (arith, k), value_again values.size _ _ (size_count es) h.size set)
 
-pub print_again : (es : List Statement) (values : Values) (s : Said) (e : Statement) (p : PrintMode) → Holds es values → IsSaid s e → s ≡ said.Print p → is_some values.print ≡ true → IsWrong es e wrong.Again
+pub print_again : (es : List Statement) (values : Values) (s : Said) (e : Statement) (p : PrintMode) → Holds es values →
+    IsSaid s e → s ≡ said.Print p → is_some values.print ≡ true → IsWrong es e wrong.Again
 print_again es values s e p h said is set =
     let at : e ≡ Prints p = subst (λ (s : Said). IsSaid s e) is said in
     subst (λ (e : Statement). IsWrong es e wrong.Again) (sym at) (λ k. omega (arith, k), value_again values.print _ _ (print_count es) h.print set)
 
-pub mode_again : (es : List Statement) (values : Values) (s : Said) (e : Statement) (m : Mode) → Holds es values → IsSaid s e → s ≡ said.Equivalence m → is_some values.mode ≡ true → IsWrong es e wrong.Again
+pub mode_again : (es : List Statement) (values : Values) (s : Said) (e : Statement) (m : Mode) → Holds es values → IsSaid s e →
+    s ≡ said.Equivalence m → is_some values.mode ≡ true → IsWrong es e wrong.Again
 mode_again es values s e m h said is set =
     let at : e ≡ EquivalenceIs m = subst (λ (s : Said). IsSaid s e) is said in
     subst (λ (e : Statement). IsWrong es e wrong.Again) (sym at) (λ k. omega (arith, k), value_again values.mode _ _ (mode_count es) h.mode set)
 
 -- the ninth minor, and one that is too big
-pub ninth : (es : List Statement) (values : Values) (s : Said) (e : Statement) (named : NamedMinor) → Holds es values → IsSaid s e → s ≡ said.Forbid named → length values.forbid.items ≡ 8 → IsWrong es e wrong.NinthForbid
+pub ninth : (es : List Statement) (values : Values) (s : Said) (e : Statement) (named : NamedMinor) → Holds es values → IsSaid s e →
+    s ≡ said.Forbid named → length values.forbid.items ≡ 8 → IsWrong es e wrong.NinthForbid
 ninth es values s e named h said is full =
     let at = subst (λ (s : Said). IsSaid s e) is said in
     (ap kind_number at.1, omega (arith, forbids_held es values h, full))
 
-pub too_big : (es : List Statement) (values : Values) (s : Said) (e : Statement) → Holds es values → IsSaid s e → s ≡ said.Forbid minor.TooBig → length values.forbid.items < 8 → IsWrong es e wrong.TooBig
+pub too_big : (es : List Statement) (values : Values) (s : Said) (e : Statement) → Holds es values → IsSaid s e →
+    s ≡ said.Forbid minor.TooBig → length values.forbid.items < 8 → IsWrong es e wrong.TooBig
 too_big es values s e h said is room =
     let at = subst (λ (s : Said). IsSaid s e) is said in
     let fewer : count_of_kind 4 es < 8 = omega (arith, forbids_held es values h) in

@@ -16,7 +16,8 @@ pub version_after : (text line after : List ℕ) → lines_of text ≡ line ∷ 
 version_after text line after e skipped = ap (λ (l : List (List ℕ)). version_in (statements_of l)) e ∙ ap version_in (skips line (lines_of after) skipped)
 
 -- a first line that isn't
-pub version_said : (text line after : List ℕ) (two : Bool) → lines_of text ≡ line ∷ lines_of after → is_skipped (words_of line) ≡ false → says_two (words_of line) ≡ two
+pub version_said : (text line after : List ℕ) (two : Bool) → lines_of text ≡ line ∷ lines_of after →
+    is_skipped (words_of line) ≡ false → says_two (words_of line) ≡ two
     → version_of text ≡ cond two 2 1
 version_said text line after two e counts says =
     ap (λ (l : List (List ℕ)). version_in (statements_of l)) e ∙ ap version_in (stands line (lines_of after) counts) ∙ ap (λ (b : Bool). cond b 2 1) says

@@ -31,7 +31,8 @@ pub record IsNext (rest line after : List ℕ) : Type 0 where
   pub shorter : length after < length rest
 
 -- nothing was read at the start
-pub start_read : (version : ℕ) (text : List ℕ) (values : Values) → length text ≤ 65536 → version ≡ version_of text → Holds [] values → HasRead version text values 0 text
+pub start_read : (version : ℕ) (text : List ℕ) (values : Values) → length text ≤ 65536 → version ≡ version_of text →
+    Holds [] values → HasRead version text values 0 text
 start_read version text values short is_version none = record {
   short = short;
   is_version = is_version;
@@ -47,17 +48,21 @@ start_read version text values short is_version none = record {
 -- a skipped line says nothing
 statements_skipped : (before : List (List ℕ)) (line : List ℕ) → is_skipped (words_of line) ≡ true → statements_of (before ++ line ∷ []) ≡ statements_of before
 statements_skipped [] line skip = ap (λ (b : Bool). cond (not b) (words_of line ∷ []) []) skip
-statements_skipped (x ∷ before) line skip = ap (λ (l : List (List (List ℕ))). cond (not (is_skipped (words_of x))) (words_of x ∷ l) l) (statements_skipped before line skip)
+statements_skipped (x ∷ before) line skip =
+    ap (λ (l : List (List (List ℕ))). cond (not (is_skipped (words_of x))) (words_of x ∷ l) l) (statements_skipped before line skip)
 
 -- what was read, and its number, after one line more
-split_next : (text : List ℕ) (before : List (List ℕ)) (rest line after : List ℕ) → lines_of text ≡ before ++ lines_of rest → lines_of rest ≡ line ∷ lines_of after → lines_of text ≡ (before ++ line ∷ []) ++ lines_of after
+split_next : (text : List ℕ) (before : List (List ℕ)) (rest line after : List ℕ) → lines_of text ≡ before ++ lines_of rest →
+    lines_of rest ≡ line ∷ lines_of after → lines_of text ≡ (before ++ line ∷ []) ++ lines_of after
 split_next text before rest line after e f = e ∙ ap (λ (l : List (List ℕ)). before ++ l) f ∙ sym (append_assoc before (line ∷ []) (lines_of after))
 
 place_next : (before : List (List ℕ)) (line : List ℕ) (number : ℕ) → number ≡ length before → number + 1 ≡ length (before ++ line ∷ [])
 place_next before line number e = let l : length (before ++ line ∷ []) ≡ length before + 1 = length-append before (line ∷ []) in omega arith
 
 -- after a line that is skipped, and one that says something new
-pub skip_line : (version : ℕ) (text : List ℕ) (values : Values) (number : ℕ) (rest line after : List ℕ) → HasRead version text values number rest → IsNext rest line after → is_skipped (words_of line) ≡ true → HasRead version text values (number + 1) after
+pub skip_line : (version : ℕ) (text : List ℕ) (values : Values) (number : ℕ) (rest line after : List ℕ) →
+    HasRead version text values number rest → IsNext rest line after → is_skipped (words_of line) ≡ true →
+    HasRead version text values (number + 1) after
 skip_line version text values number rest line after h n skip = record {
   short = h.short;
   is_version = h.is_version;
@@ -70,7 +75,10 @@ skip_line version text values number rest line after h n skip = record {
   few = omega (arith, h.few, n.shorter);
 }
 
-pub say_line : (version : ℕ) (text : List ℕ) (values more : Values) (number : ℕ) (rest line after : List ℕ) (e : Statement) → HasRead version text values number rest → IsNext rest line after → is_skipped (words_of line) ≡ false → Says version (words_of line) e → ((entries : List Statement) → Holds entries values → Holds (entries ++ e ∷ []) more) → HasRead version text more (number + 1) after
+pub say_line : (version : ℕ) (text : List ℕ) (values more : Values) (number : ℕ) (rest line after : List ℕ) (e : Statement) →
+    HasRead version text values number rest → IsNext rest line after → is_skipped (words_of line) ≡ false →
+    Says version (words_of line) e → ((entries : List Statement) → Holds entries values → Holds (entries ++ e ∷ []) more) →
+    HasRead version text more (number + 1) after
 say_line version text values more number rest line after e h n counts says with_it = record {
   short = h.short;
   is_version = h.is_version;
@@ -88,7 +96,9 @@ say_line version text values more number rest line after e h n counts says with_
 }
 
 -- the next line is the first at fault
-fault_here : (version : ℕ) (text : List ℕ) (values : Values) (number : ℕ) (rest line after : List ℕ) (h : HasRead version text values number rest) → IsNext rest line after → is_skipped (words_of line) ≡ false → (fault : Fault) → HasFault version h.entries (words_of line) fault → FirstFault text (number + 1) fault
+fault_here : (version : ℕ) (text : List ℕ) (values : Values) (number : ℕ) (rest line after : List ℕ)
+    (h : HasRead version text values number rest) → IsNext rest line after → is_skipped (words_of line) ≡ false → (fault : Fault) →
+    HasFault version h.entries (words_of line) fault → FirstFault text (number + 1) fault
 fault_here version text values number rest line after h n counts fault wrong = record {
   short = h.short;
   before = h.before;
@@ -104,7 +114,10 @@ fault_here version text values number rest line after h n counts fault wrong = r
 }
 
 -- the text is refused for the next line
-pub wrong_line : (version : ℕ) (text : List ℕ) (values : Values) (number : ℕ) (rest line after : List ℕ) (e : Statement) (w : Wrong) → HasRead version text values number rest → IsNext rest line after → is_skipped (words_of line) ≡ false → Says version (words_of line) e → ((entries : List Statement) → Holds entries values → IsWrong entries e w) → HasRefusal text (refusal_at w (number + 1))
+pub wrong_line : (version : ℕ) (text : List ℕ) (values : Values) (number : ℕ) (rest line after : List ℕ) (e : Statement)
+    (w : Wrong) → HasRead version text values number rest → IsNext rest line after → is_skipped (words_of line) ≡ false →
+    Says version (words_of line) e → ((entries : List Statement) → Holds entries values → IsWrong entries e w) →
+    HasRefusal text (refusal_at w (number + 1))
 wrong_line version text values number rest line after e w h n counts says is = by w (is h.entries h.holds)
   where
     by : (w : Wrong) → IsWrong h.entries e w → HasRefusal text (refusal_at w (number + 1))

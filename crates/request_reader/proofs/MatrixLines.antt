@@ -17,9 +17,12 @@ all_push P (y ∷ ys) x all p = (all.0, all_push P ys x all.1 p)
 -- the letter at a place of a word of a column is that of an entry
 pub letter_at : (order : ℕ) (column word : List ℕ) (i d : ℕ) → AllByRecursion (λ code. code < order) column → word ≡ column_word column → i < length word
     → (code : ℕ) × (code < order) × (get_or word i d ≡ entry_letter code)
-letter_at order column word i d below e lt = subst (λ (w : List ℕ). (code : ℕ) × (code < order) × (get_or w i d ≡ entry_letter code)) (sym e) (by column i below (omega (arith, ap length e, length-map column entry_letter)))
+letter_at order column word i d below e lt =
+    subst (λ (w : List ℕ). (code : ℕ) × (code < order) × (get_or w i d ≡ entry_letter code)) (sym e)
+    (by column i below (omega (arith, ap length e, length-map column entry_letter)))
   where
-    by : (codes : List ℕ) (k : ℕ) → AllByRecursion (λ code. code < order) codes → k < length codes → (code : ℕ) × (code < order) × (get_or (column_word codes) k d ≡ entry_letter code)
+    by : (codes : List ℕ) (k : ℕ) → AllByRecursion (λ code. code < order) codes → k < length codes → (code : ℕ) × (code < order)
+        × (get_or (column_word codes) k d ≡ entry_letter code)
     by [] k all l = absurd (omega arith)
     by (code ∷ codes) zero all l = (code, all.0, refl)
     by (code ∷ codes) (suc k) all l = by codes k all.1 (omega arith)
@@ -55,7 +58,8 @@ high_more order rows columns column are codes long = record {
   entries = all_push (λ c. AllByRecursion (λ code. code < order) c) columns column are.entries codes.below;
 }
 
-pub words_more : (columns words left after : List (List ℕ)) (word column : List ℕ) → words ≡ column_words columns ++ left → left ≡ word ∷ after → word ≡ column_word column
+pub words_more : (columns words left after : List (List ℕ)) (word column : List ℕ) → words ≡ column_words columns ++ left →
+    left ≡ word ∷ after → word ≡ column_word column
     → words ≡ column_words (columns ++ column ∷ []) ++ after
 words_more columns words left after word column e f g =
     e ∙ ap (λ (l : List (List ℕ)). column_words columns ++ l) (f ∙ ap (λ (w : List ℕ). w ∷ after) g)
@@ -63,17 +67,21 @@ words_more columns words left after word column e f g =
     ∙ ap (λ (l : List (List ℕ)). l ++ after) (sym (map-append column_word columns (column ∷ [])))
 
 -- a column more that is kept, where the earlier ones are
-pub kept_more : (is_many : Bool) (kept now columns : List (List ℕ)) (column : List ℕ) → AreKept is_many kept columns → now ≡ kept ++ column ∷ [] → AreKept is_many now (columns ++ column ∷ [])
+pub kept_more : (is_many : Bool) (kept now columns : List (List ℕ)) (column : List ℕ) → AreKept is_many kept columns →
+    now ≡ kept ++ column ∷ [] → AreKept is_many now (columns ++ column ∷ [])
 kept_more false kept now columns column are e = e ∙ ap (λ (l : List (List ℕ)). l ++ column ∷ []) are
 kept_more true kept now columns column are e = omega (arith, are, length-append columns (column ∷ []))
 
 -- a column more where ten are kept
-pub many_more : (is_many : Bool) (kept columns : List (List ℕ)) (column : List ℕ) → AreKept is_many kept columns → length kept ≡ 10 → 10 < length (columns ++ column ∷ [])
+pub many_more : (is_many : Bool) (kept columns : List (List ℕ)) (column : List ℕ) → AreKept is_many kept columns →
+    length kept ≡ 10 → 10 < length (columns ++ column ∷ [])
 many_more false kept columns column are full = omega (arith, ap length are, length-append columns (column ∷ []))
 many_more true kept columns column are full = omega (arith, are, length-append columns (column ∷ []))
 
-pub read_more : (order rows : ℕ) (is_many : Bool) (kept now : List (List ℕ)) (words left after : List (List ℕ)) (word column : List ℕ) → AreRead order rows is_many kept words left
-    → left ≡ word ∷ after → AreCodes order column → word ≡ column_word column → length column ≡ rows → now ≡ kept ++ column ∷ [] → AreRead order rows is_many now words after
+pub read_more : (order rows : ℕ) (is_many : Bool) (kept now : List (List ℕ)) (words left after : List (List ℕ))
+    (word column : List ℕ) → AreRead order rows is_many kept words left
+    → left ≡ word ∷ after → AreCodes order column → word ≡ column_word column → length column ≡ rows → now ≡ kept ++ column ∷ [] →
+    AreRead order rows is_many now words after
 read_more order rows is_many kept now words left after word column read e codes is long push = record {
   columns = read.columns ++ column ∷ [];
   are = high_more order rows read.columns column read.are codes long;
@@ -81,8 +89,10 @@ read_more order rows is_many kept now words left after word column read e codes 
   kept_are = kept_more is_many kept now read.columns column read.kept_are push;
 }
 
-pub read_past : (order rows : ℕ) (is_many : Bool) (kept now : List (List ℕ)) (words left after : List (List ℕ)) (word column : List ℕ) → AreRead order rows is_many kept words left
-    → left ≡ word ∷ after → AreCodes order column → word ≡ column_word column → length column ≡ rows → length kept ≡ 10 → AreRead order rows true now words after
+pub read_past : (order rows : ℕ) (is_many : Bool) (kept now : List (List ℕ)) (words left after : List (List ℕ))
+    (word column : List ℕ) → AreRead order rows is_many kept words left
+    → left ≡ word ∷ after → AreCodes order column → word ≡ column_word column → length column ≡ rows → length kept ≡ 10 →
+    AreRead order rows true now words after
 read_past order rows is_many kept now words left after word column read e codes is long full = record {
   columns = read.columns ++ column ∷ [];
   are = high_more order rows read.columns column read.are codes long;
@@ -112,7 +122,8 @@ same_rows : (rows others : ℕ) (columns all left : List (List ℕ)) → 0 < len
     → AllByRecursion (λ column. length column ≡ others) all → column_words columns ++ left ≡ column_words all → others ≡ rows
 same_rows rows others [] all left some long longs e = absurd (omega arith)
 same_rows rows others (x ∷ xs) [] left some long longs e = cc (e)
-same_rows rows others (x ∷ xs) (y ∷ ys) left some long longs e = let same : column_word x ≡ column_word y = cc (e) in sym longs.0 ∙ sym (same_word x y same) ∙ long.0
+same_rows rows others (x ∷ xs) (y ∷ ys) left some long longs e = let same : column_word x ≡ column_word y = cc (e) in
+    sym longs.0 ∙ sym (same_word x y same) ∙ long.0
 
 next_word : (order rows : ℕ) (columns all after : List (List ℕ)) (word : List ℕ) → AllByRecursion (λ column. length column ≡ rows) all
     → AllByRecursion (λ column. AllByRecursion (λ code. code < order) column) all → column_words columns ++ word ∷ after ≡ column_words all
@@ -137,10 +148,12 @@ some_word order (x ∷ xs) words are e f = cc (e, f)
 
 -- a word after some columns is a column as long as they are
 pub next_column : (order rows : ℕ) (is_many : Bool) (kept words left all after : List (List ℕ)) (word : List ℕ) → AreRead order rows is_many kept words left
-    → left ≡ word ∷ after → AreColumns order all → words ≡ column_words all → (column : List ℕ) × AreCodes order column × (length column ≡ rows) × (word ≡ column_word column)
+    → left ≡ word ∷ after → AreColumns order all → words ≡ column_words all → (column : List ℕ) × AreCodes order column
+    × (length column ≡ rows) × (word ≡ column_word column)
 next_column order rows is_many kept words left all after word read e are is =
     let height = are.height in
-    let both : column_words read.columns ++ word ∷ after ≡ column_words all = ap (λ (l : List (List ℕ)). column_words read.columns ++ l) (sym e) ∙ sym read.spelled ∙ is in
+    let both : column_words read.columns ++ word ∷ after ≡ column_words all =
+    ap (λ (l : List (List ℕ)). column_words read.columns ++ l) (sym e) ∙ sym read.spelled ∙ is in
     let same : height.0 ≡ rows = same_rows rows height.0 read.columns all (word ∷ after) read.are.some read.are.long height.3 both in
     let next = next_word order height.0 read.columns all after word height.3 are.entries both in
     let long : length next.0 ≡ rows = next.1 ∙ same in
@@ -151,7 +164,8 @@ pub columns_of_matrix : (order : ℕ) (columns : List (List ℕ)) → IsMatrix o
 columns_of_matrix order columns is = record { some = is.some; height = is.height; entries = is.entries }
 
 -- the order that the first word spells is that of the matrix
-pub same_order : (order q : ℕ) (columns words after : List (List ℕ)) (word : List ℕ) → IsOrder order → IsOrder q → words ≡ matrix_words order columns → words ≡ word ∷ after
+pub same_order : (order q : ℕ) (columns words after : List (List ℕ)) (word : List ℕ) → IsOrder order → IsOrder q →
+    words ≡ matrix_words order columns → words ≡ word ∷ after
     → word ≡ decimal q → order ≡ q
 same_order order q columns words after word is of_q e f g =
     let m = order_small order is in

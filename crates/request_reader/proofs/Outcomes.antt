@@ -46,16 +46,20 @@ kept {Y = Y} P Q value each (e ∷ es) all = at (value e) refl (kept P Q value e
     at (Some y) is rest = (each e y is all.0, rest)
 
 -- statements of a version, with small names, ask for a request of that version with such names
-factors_of_version : (version : ℕ) (e : Statement) (fs : List ℕ) → field_in e ≡ Some fs → IsOfVersion version e → AllByRecursion (λ order. order ≤ most_order version) fs
-factors_of_version version (FieldIs gs) fs is of_version = let same : gs ≡ fs = cc (is) in subst (AllByRecursion (λ order. order ≤ most_order version)) same of_version
+factors_of_version : (version : ℕ) (e : Statement) (fs : List ℕ) → field_in e ≡ Some fs → IsOfVersion version e →
+    AllByRecursion (λ order. order ≤ most_order version) fs
+factors_of_version version (FieldIs gs) fs is of_version = let same : gs ≡ fs = cc (is) in
+    subst (AllByRecursion (λ order. order ≤ most_order version)) same of_version
 factors_of_version version _ fs is of_version = cc (is)
 
 forbidden_of_version : (version : ℕ) (e : Statement) (m : MinorName) → forbidden_in e ≡ Some m → IsOfVersion version e → order_of_minor m ≤ most_order version
-forbidden_of_version version (Forbids n) m is of_version = let same : n ≡ m = cc (is) in subst (λ (n : MinorName). order_of_minor n ≤ most_order version) same of_version
+forbidden_of_version version (Forbids n) m is of_version = let same : n ≡ m = cc (is) in
+    subst (λ (n : MinorName). order_of_minor n ≤ most_order version) same of_version
 forbidden_of_version version _ m is of_version = cc (is)
 
 wanted_of_version : (version : ℕ) (e : Statement) (m : MinorName) → wanted_in e ≡ Some m → IsOfVersion version e → order_of_minor m ≤ most_order version
-wanted_of_version version (ListsWith n) m is of_version = let same : n ≡ m = cc (is) in subst (λ (n : MinorName). order_of_minor n ≤ most_order version) same of_version
+wanted_of_version version (ListsWith n) m is of_version = let same : n ≡ m = cc (is) in
+    subst (λ (n : MinorName). order_of_minor n ≤ most_order version) same of_version
 wanted_of_version version _ m is of_version = cc (is)
 
 forbidden_small : (e : Statement) (m : MinorName) → forbidden_in e ≡ Some m → IsStatement e × (named_elements e ≤ 10) → IsSmallName m
@@ -88,23 +92,29 @@ pub request_names : (text : List ℕ) (values : Values) (version rank : ℕ) (fa
 request_names text values version rank factors size said =
     let small = all_both IsStatement (λ e. named_elements e ≤ 10) said.entries said.none.said.may said.none.in_order.not_big in
     record {
-      forbid = subst (AllByRecursion IsSmallName) said.holds.forbid (kept (λ e. IsStatement e × (named_elements e ≤ 10)) IsSmallName forbidden_in forbidden_small said.entries small);
-      has = subst (AllByRecursion IsSmallName) said.holds.filters.has (kept (λ e. IsStatement e × (named_elements e ≤ 10)) IsSmallName wanted_in wanted_small said.entries small);
+      forbid = subst (AllByRecursion IsSmallName) said.holds.forbid
+          (kept (λ e. IsStatement e × (named_elements e ≤ 10)) IsSmallName forbidden_in forbidden_small said.entries small);
+      has = subst (AllByRecursion IsSmallName) said.holds.filters.has
+          (kept (λ e. IsStatement e × (named_elements e ≤ 10)) IsSmallName wanted_in wanted_small said.entries small);
     }
 
 -- the values that are there
-are_values : (entries : List Statement) (values : Values) (rank : ℕ) (factors : List ℕ) (size : ℕ) → Holds entries values → values.rank ≡ Some rank → values.factors ≡ Some factors → values.size ≡ Some size → AreValues entries rank factors size
+are_values : (entries : List Statement) (values : Values) (rank : ℕ) (factors : List ℕ) (size : ℕ) → Holds entries values →
+    values.rank ≡ Some rank → values.factors ≡ Some factors → values.size ≡ Some size → AreValues entries rank factors size
 are_values entries values rank factors size h r f s = record {
   rank_said = h.rank ∙ ap option_to_list r;
   field_said = h.field ∙ ap option_to_list f;
   size_said = h.size ∙ ap option_to_list s;
 }
 
-has_values : (text : List ℕ) (values : Values) (rank : ℕ) (factors : List ℕ) (size : ℕ) → AreSaid text values → values.rank ≡ Some rank → values.factors ≡ Some factors → values.size ≡ Some size → HasValues text rank factors size
-has_values text values rank factors size said r f s = record { entries = said.entries; none = said.none; values = are_values said.entries values rank factors size said.holds r f s }
+has_values : (text : List ℕ) (values : Values) (rank : ℕ) (factors : List ℕ) (size : ℕ) → AreSaid text values →
+    values.rank ≡ Some rank → values.factors ≡ Some factors → values.size ≡ Some size → HasValues text rank factors size
+has_values text values rank factors size said r f s =
+    record { entries = said.entries; none = said.none; values = are_values said.entries values rank factors size said.holds r f s }
 
 -- Entries with these values ask for this request.
-asks : (version : ℕ) (entries : List Statement) (values : Values) (rank : ℕ) (factors : List ℕ) (size : ℕ) → Holds entries values → AreValues entries rank factors size → AskFor entries (request_from version factors rank size values)
+asks : (version : ℕ) (entries : List Statement) (values : Values) (rank : ℕ) (factors : List ℕ) (size : ℕ) → Holds entries values →
+    AreValues entries rank factors size → AskFor entries (request_from version factors rank size values)
 asks version entries values rank factors size h are = record {
   rank = are.rank_said;
   field = are.field_said;
@@ -120,7 +130,9 @@ asks version entries values rank factors size h are = record {
 }
 
 -- a text with values within the limits stands for a request
-stands : (version : ℕ) (text : List ℕ) (values : Values) (rank : ℕ) (factors : List ℕ) (size : ℕ) → version ≡ version_of text → (said : AreSaid text values) → AreValues said.entries rank factors size → IsWithinLimits (request_from version factors rank size values) → StandsFor text (request_from version factors rank size values)
+stands : (version : ℕ) (text : List ℕ) (values : Values) (rank : ℕ) (factors : List ℕ) (size : ℕ) → version ≡ version_of text →
+    (said : AreSaid text values) → AreValues said.entries rank factors size →
+    IsWithinLimits (request_from version factors rank size values) → StandsFor text (request_from version factors rank size values)
 stands version text values rank factors size is said are limits = record {
   short = said.none.short;
   version = sym is;
@@ -132,17 +144,28 @@ stands version text values rank factors size is said are limits = record {
 }
 
 -- what the limits say of the values is said of the text
-late : (text : List ℕ) (rank : ℕ) (factors : List ℕ) (size : ℕ) (why : Refusal) → HasValues text rank factors size → IsLate rank factors size why → HasRefusal text why
-late text rank factors size (refusal.Rank v) h l = (factors, size, subst (λ (n : ℕ). HasValues text n factors size) (sym l.0) h, subst (λ (n : ℕ). IsRankInRange n → ⊥) (sym l.0) l.1)
-late text rank factors size (refusal.Size v) h l = (rank, factors, subst (λ (n : ℕ). HasValues text rank factors n) (sym l.0) h, l.1, subst (λ (n : ℕ). IsSizeInRange rank n → ⊥) (sym l.0) l.2)
+late : (text : List ℕ) (rank : ℕ) (factors : List ℕ) (size : ℕ) (why : Refusal) → HasValues text rank factors size →
+    IsLate rank factors size why → HasRefusal text why
+late text rank factors size (refusal.Rank v) h l =
+    (factors, size, subst (λ (n : ℕ). HasValues text n factors size) (sym l.0) h, subst (λ (n : ℕ). IsRankInRange n → ⊥) (sym l.0) l.1)
+late text rank factors size (refusal.Size v) h l =
+    (rank, factors, subst (λ (n : ℕ). HasValues text rank factors n) (sym l.0) h, l.1, subst (λ (n : ℕ). IsSizeInRange rank n → ⊥) (sym l.0) l.2)
 late text rank factors size (refusal.TooWide c) h l = (rank, factors, size, h, l.1, l.2, l.0, l.3)
 late text rank factors size _ h l = absurd l
 
 -- the answer where all values are there
-pub accepted : (version : ℕ) (text : List ℕ) (values : Values) (rank : ℕ) (factors : List ℕ) (size : ℕ) (result : Result Request Refusal) → version ≡ version_of text → AreSaid text values → values.rank ≡ Some rank → values.factors ≡ Some factors → values.size ≡ Some size → IfOk result (λ request. request ≡ request_from version factors rank size values) → IfOk result (λ request. IsWithinLimits request) → IfOk result (λ request. StandsFor text request)
-accepted version text values rank factors size (Ok request) v said r f s is limits = subst (λ (q : Request). StandsFor text q) (sym is) (stands version text values rank factors size v said (are_values said.entries values rank factors size said.holds r f s) (subst IsWithinLimits is limits))
+pub accepted : (version : ℕ) (text : List ℕ) (values : Values) (rank : ℕ) (factors : List ℕ) (size : ℕ)
+    (result : Result Request Refusal) → version ≡ version_of text → AreSaid text values → values.rank ≡ Some rank →
+    values.factors ≡ Some factors → values.size ≡ Some size →
+    IfOk result (λ request. request ≡ request_from version factors rank size values) →
+    IfOk result (λ request. IsWithinLimits request) → IfOk result (λ request. StandsFor text request)
+accepted version text values rank factors size (Ok request) v said r f s is limits = subst (λ (q : Request). StandsFor text q)
+    (sym is) (stands version text values rank factors size v said (are_values said.entries values rank factors size said.holds r f s)
+    (subst IsWithinLimits is limits))
 accepted version text values rank factors size (Err why) v said r f s is limits = tt
 
-pub refused : (text : List ℕ) (values : Values) (rank : ℕ) (factors : List ℕ) (size : ℕ) (result : Result Request Refusal) → AreSaid text values → values.rank ≡ Some rank → values.factors ≡ Some factors → values.size ≡ Some size → IfErr result (λ why. IsLate rank factors size why) → IfErr result (λ why. HasRefusal text why)
+pub refused : (text : List ℕ) (values : Values) (rank : ℕ) (factors : List ℕ) (size : ℕ) (result : Result Request Refusal) →
+    AreSaid text values → values.rank ≡ Some rank → values.factors ≡ Some factors → values.size ≡ Some size →
+    IfErr result (λ why. IsLate rank factors size why) → IfErr result (λ why. HasRefusal text why)
 refused text values rank factors size (Ok request) said r f s l = tt
 refused text values rank factors size (Err why) said r f s l = late text rank factors size why (has_values text values rank factors size said r f s) l

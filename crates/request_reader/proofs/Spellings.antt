@@ -35,7 +35,8 @@ third words = slice_index (slice_index_or words 0 []) 2
 -- What stands behind the word `filter`.
 pub data IsFilterLine (version : ℕ) (words : List (List ℕ)) : Type 0 where
   WithFlag : (f : Flag) → words ≡ flag_word f ∷ [] → IsFilterLine version words
-  WithMinor : (minor : MinorName) → IsMinorName minor → order_of_minor minor ≤ most_order version → words ≡ codes "has" ∷ minor_words minor → IsFilterLine version words
+  WithMinor : (minor : MinorName) → IsMinorName minor → order_of_minor minor ≤ most_order version →
+      words ≡ codes "has" ∷ minor_words minor → IsFilterLine version words
 
 pub filter_said : (version : ℕ) (words : List (List ℕ)) (entry : Statement) → Says version (codes "filter" ∷ words) entry → IsFilterLine version words
 filter_said version words (VersionIs n) said = absurd (omega (arith, ap third said.spelled))

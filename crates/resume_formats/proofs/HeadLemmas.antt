@@ -21,7 +21,8 @@ use Rattle.resume_formats.proofs.FrontLemmas.{fronts_ordered}
 
 -- all but the last line
 abbrev pub begun : Request → List Statement
-begun q = VersionIs q.version ∷ FieldIs q.factors ∷ RankIs q.rank ∷ SizeIs q.size ∷ where_set (is_semilinear q.mode) (EquivalenceIs Semilinear) ++ map Forbids q.forbid
+begun q = VersionIs q.version ∷ FieldIs q.factors ∷ RankIs q.rank ∷ SizeIs q.size ∷ where_set (is_semilinear q.mode)
+    (EquivalenceIs Semilinear) ++ map Forbids q.forbid
 
 abbrev pub said : Request → List Statement
 said q = begun q ++ Prints Forms ∷ []
@@ -46,7 +47,8 @@ pub head_ends : (q : Request) → ListsAllForms q → head_text q ≡ codes "mac
 unfolding head_text
 head_ends q all =
     ap (λ (es : List Statement). codes "macek listing 1\n" ++ text_of_statements es) (statements_are q all)
-    ∙ ap (λ (t : List ℕ). codes "macek listing 1\n" ++ t) (flat_map-append (λ (entry : Statement). line_of_words (spelling entry)) (begun q) (Prints Forms ∷ []))
+    ∙ ap (λ (t : List ℕ). codes "macek listing 1\n" ++ t)
+    (flat_map-append (λ (entry : Statement). line_of_words (spelling entry)) (begun q) (Prints Forms ∷ []))
 
 -- ---- it may be said
 

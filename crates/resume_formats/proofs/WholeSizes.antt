@@ -23,7 +23,11 @@ line_of_level size classes listed tried =
 -- a level has a line, so it has bytes
 pub level_has_bytes : (q : Request) (x : LevelEntry) → 0 < length (concat (level_pieces q.print x))
 level_has_bytes q x =
-    omega (arith, line_of_level x.size x.classes (length x.listed) x.tried, length-append (level_text x.size x.classes (length x.listed) x.tried) (concat (form_pieces q.print x.listed)))
+    omega (
+      arith,
+      line_of_level x.size x.classes (length x.listed) x.tried,
+      length-append (level_text x.size x.classes (length x.listed) x.tried) (concat (form_pieces q.print x.listed)),
+    )
 
 -- Nothing of a further level fits into what is left: there is none, or its bytes are more.
 pub record NoMoreFits (q : Request) (levels : List LevelEntry) (rest : List ℕ) : Type 0 where
@@ -40,7 +44,8 @@ longer_front (x ∷ xs) (y ∷ ys) zs ws e l =
     let r = longer_front xs ys zs ws more (omega arith) in
     (r.0, λ i. sym first i ∷ r.1 i)
 
-module _ (q : Request) (text : List ℕ) (levels : List LevelEntry) (rest : List ℕ) (are : AreFirstLevels q levels) (is : text ≡ text_of_levels q levels ++ rest) where
+module _ (q : Request) (text : List ℕ) (levels : List LevelEntry) (rest : List ℕ) (are : AreFirstLevels q levels)
+    (is : text ≡ text_of_levels q levels ++ rest) where
   -- the sizes of these levels are whole
   pub whole_there : (n : ℕ) → q.rank ≤ n → n < q.rank + length levels → IsWhole q n text
   whole_there n low high =
@@ -69,7 +74,8 @@ module _ (q : Request) (text : List ℕ) (levels : List LevelEntry) (rest : List
       let bytes = concat (level_pieces q.print x) in
       let left : rest ≡ (bytes ++ texts q more) ++ after =
       append_cancel_left (text_of_levels q levels) rest ((bytes ++ texts q more) ++ after)
-      (sym is ∙ e ∙ ap (λ (t : List ℕ). t ++ after) (text_of_levels-append q levels (x ∷ more)) ∙ append_assoc (text_of_levels q levels) (bytes ++ texts q more) after) in
+      (sym is ∙ e ∙ ap (λ (t : List ℕ). t ++ after) (text_of_levels-append q levels (x ∷ more))
+      ∙ append_assoc (text_of_levels q levels) (bytes ++ texts q more) after) in
       let short : length rest < length bytes =
       fits.none x (let most = all.at_most in omega (arith, length-append levels (x ∷ more))) next.0 next.1 in
       absurd (omega (arith, ap length left, length-append (bytes ++ texts q more) after, length-append bytes (texts q more)))

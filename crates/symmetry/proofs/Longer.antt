@@ -17,7 +17,8 @@ kept : (n : ℕ) (p u : ℕ → ℕ) → ((j : ℕ) → j < n → p j < n) → (
 kept n p u b t j l =
     elim (cases_lt j n) [
       | inl s ↦ ap (at_last n n u) (at_last-before n n p j s) ∙ at_last-before n n u (p j) (b j s) ∙ t j s
-      | inr g ↦ (let e : j ≡ n = omega arith in ap (λ j. at_last n n u (at_last n n p j)) e ∙ ap (at_last n n u) (at_last-own n n p) ∙ at_last-own n n u ∙ sym e)
+      | inr g ↦ (let e : j ≡ n = omega arith in ap (λ j. at_last n n u (at_last n n p j)) e ∙ ap (at_last n n u) (at_last-own n n p)
+          ∙ at_last-own n n u ∙ sym e)
     ]
 
 kept_below : (n : ℕ) (p : ℕ → ℕ) → ((j : ℕ) → j < n → p j < n) → (j : ℕ) → j < suc n → at_last n n p j < suc n
@@ -28,9 +29,12 @@ kept_below n p b j l =
     ]
 
 -- the columns v and u follow P, and u is v raised, multiplied by the move's matrix and scaled
-module _ (mode : Mode) (P : Rep) (m : Move) (shaped : IsShaped P) (valid : IsMove mode (shape P) m) (takes : TakesTo P m P) (v u : List ℕ) (is_column : IsProductColumn P.factors P.rank v) (is_image : IsProductColumn P.factors P.rank u)
+module _ (mode : Mode) (P : Rep) (m : Move) (shaped : IsShaped P) (valid : IsMove mode (shape P) m) (takes : TakesTo P m P)
+    (v u : List ℕ) (is_column : IsProductColumn P.factors P.rank v) (is_image : IsProductColumn P.factors P.rank u)
     (s : ℕ → ℕ) (s_code : (f : ℕ) → f < count P → s f < order P f) (s_nonzero : (f : ℕ) → f < count P → s f ≢ 0)
-    (codes : (f i : ℕ) → f < count P → i < P.rank → slice_index u (i * count P + f) ≡ times (order P f) (s f) (combination (order P f) P.rank (m.rows f) (λ k. raised (order P f) (m.power f) (slice_index v (k * count P + f))) i)) where
+    (codes : (f i : ℕ) → f < count P → i < P.rank →
+    slice_index u (i * count P + f) ≡ times (order P f) (s f)
+    (combination (order P f) P.rank (m.rows f) (λ k. raised (order P f) (m.power f) (slice_index v (k * count P + f))) i)) where
   -- the move with one more column, which keeps its place
   longer : Move
   longer = record m { scalar = λ f. at_last (size P) (s f) (m.scalar f); label = at_last (size P) (size P) m.label; place = at_last (size P) (size P) m.place }
@@ -50,7 +54,8 @@ module _ (mode : Mode) (P : Rep) (m : Move) (shaped : IsShaped P) (valid : IsMov
     ];
     nonzero = λ f j l o z. elim (cases_lt j (size P)) [
       | inl b ↦ valid.nonzero f j l b (sym (at_last-before (size P) (s f) (m.scalar f) j b) ∙ z)
-      | inr g ↦ (let e : j ≡ size P = omega arith in s_nonzero f l (sym (ap (at_last (size P) (s f) (m.scalar f)) e ∙ at_last-own (size P) (s f) (m.scalar f)) ∙ z))
+      | inr g ↦ (let e : j ≡ size P = omega arith in
+          s_nonzero f l (sym (ap (at_last (size P) (s f) (m.scalar f)) e ∙ at_last-own (size P) (s f) (m.scalar f)) ∙ z))
     ];
     labels = record {
       below = kept_below (size P) m.label valid.labels.below;
@@ -72,11 +77,15 @@ module _ (mode : Mode) (P : Rep) (m : Move) (shaped : IsShaped P) (valid : IsMov
       ∙ (λ t. times (order P f) (sym (at_last-before (size P) (s f) (m.scalar f) j b) t) (inner t))
     where
       inner : combination (order P f) P.rank (m.rows f) (λ k. raised (order P f) (m.power f) (matrix P f k (m.label j))) i
-          ≡ combination (order P f) P.rank (m.rows f) (λ k. raised (order P f) (m.power f) (matrix (followed_by P v) f k (at_last (size P) (size P) m.label j))) i
-      inner =
-          combination-same (order P f) (field_laws (order P f) (shaped.orders f l)) P.rank (m.rows f) (λ k. raised (order P f) (m.power f) (matrix P f k (m.label j)))
+          ≡ combination (order P f) P.rank (m.rows f)
           (λ k. raised (order P f) (m.power f) (matrix (followed_by P v) f k (at_last (size P) (size P) m.label j))) i
-          (λ k k'. ap (raised (order P f) (m.power f)) (sym (ap (matrix (followed_by P v) f k) (at_last-before (size P) (size P) m.label j b) ∙ matrix_before P v f k (m.label j) (valid.labels.below j b))))
+      inner =
+          combination-same (order P f) (field_laws (order P f) (shaped.orders f l)) P.rank (m.rows f)
+          (λ k. raised (order P f) (m.power f) (matrix P f k (m.label j)))
+          (λ k. raised (order P f) (m.power f) (matrix (followed_by P v) f k (at_last (size P) (size P) m.label j))) i
+          (λ k k'. ap (raised (order P f) (m.power f))
+          (sym (ap (matrix (followed_by P v) f k) (at_last-before (size P) (size P) m.label j b)
+          ∙ matrix_before P v f k (m.label j) (valid.labels.below j b))))
 
   code_last : (f i : ℕ) → f < count P → i < P.rank → matrix (followed_by P u) f i (size P) ≡ after f i (size P)
   unfolding after longer
@@ -86,9 +95,11 @@ module _ (mode : Mode) (P : Rep) (m : Move) (shaped : IsShaped P) (valid : IsMov
       ∙ (λ t. times (order P f) (sym (at_last-own (size P) (s f) (m.scalar f)) t) (inner t))
     where
       inner : combination (order P f) P.rank (m.rows f) (λ k. raised (order P f) (m.power f) (slice_index v (k * count P + f))) i
-          ≡ combination (order P f) P.rank (m.rows f) (λ k. raised (order P f) (m.power f) (matrix (followed_by P v) f k (at_last (size P) (size P) m.label (size P)))) i
+          ≡ combination (order P f) P.rank (m.rows f)
+          (λ k. raised (order P f) (m.power f) (matrix (followed_by P v) f k (at_last (size P) (size P) m.label (size P)))) i
       inner =
-          combination-same (order P f) (field_laws (order P f) (shaped.orders f l)) P.rank (m.rows f) (λ k. raised (order P f) (m.power f) (slice_index v (k * count P + f)))
+          combination-same (order P f) (field_laws (order P f) (shaped.orders f l)) P.rank (m.rows f)
+          (λ k. raised (order P f) (m.power f) (slice_index v (k * count P + f)))
           (λ k. raised (order P f) (m.power f) (matrix (followed_by P v) f k (at_last (size P) (size P) m.label (size P)))) i
           (λ k k'. ap (raised (order P f) (m.power f)) (sym (ap (matrix (followed_by P v) f k) (at_last-own (size P) (size P) m.label) ∙ matrix_last P v f k)))
 

@@ -14,13 +14,15 @@ use Rattle.product_rep.proofs.PiecesLemmas.{place_below}
 use Rattle.symmetry.specs.Images.{code_at}
 
 -- what holds of each place of a list and of one more entry
-pub pushed : (P : ℕ → ℕ → Type 0) (xs ys : List ℕ) (x n : ℕ) → length xs ≡ n → ys ≡ xs ++ x ∷ [] → ((k : ℕ) → k < n → P k (slice_index xs k)) → P n x → (k : ℕ) → k < n + 1 → P k (slice_index ys k)
+pub pushed : (P : ℕ → ℕ → Type 0) (xs ys : List ℕ) (x n : ℕ) → length xs ≡ n → ys ≡ xs ++ x ∷ [] →
+    ((k : ℕ) → k < n → P k (slice_index xs k)) → P n x → (k : ℕ) → k < n + 1 → P k (slice_index ys k)
 pushed P xs ys x n l e h p k b =
     subst (λ (zs : List ℕ). P k (slice_index zs k)) (sym e)
     (elim (cases_lt k n) [
       | inl d ↦ subst (P k) (sym (get_or-append xs (x ∷ []) 0 k (omega arith))) (h k d)
       | inr d ↦ (let s : length xs ≡ k = omega arith in let u : n ≡ k = omega arith in
-          subst (λ (k : ℕ). P k (slice_index (xs ++ x ∷ []) k)) s (subst (P (length xs)) (sym (get_or-append_seam xs x [] 0)) (subst (λ (n : ℕ). P n x) (sym l) p)))
+          subst (λ (k : ℕ). P k (slice_index (xs ++ x ∷ []) k)) s
+          (subst (P (length xs)) (sym (get_or-append_seam xs x [] 0)) (subst (λ (n : ℕ). P n x) (sym l) p)))
     ])
 
 -- one more term of a sum
@@ -35,14 +37,16 @@ not_zero q F a x one z = never (times q a 0) (times q a x) (times_zero q F a) on
     never a b z o e = omega arith
 
 -- the code at a place of a column is below the order of the place's factor
-pub code_below : (factors : List ℕ) (rank c p : ℕ) (v : List ℕ) → IsProductColumn factors rank v → c ≡ length factors → p < rank * c → 0 < c → slice_index v p < slice_index factors (p % c)
+pub code_below : (factors : List ℕ) (rank c p : ℕ) (v : List ℕ) → IsProductColumn factors rank v → c ≡ length factors →
+    p < rank * c → 0 < c → slice_index v p < slice_index factors (p % c)
 code_below factors rank c p v h e l pos =
     subst (λ (p' : ℕ). slice_index v p' < slice_index factors (p % c)) (whole p c pos)
     (subst (λ (n : ℕ). slice_index v (p / c * n + p % c) < slice_index factors (p % c)) (sym e)
     (h.codes (p / c) (p % c) (row_below p c rank pos (omega arith)) (subst (λ (n : ℕ). p % c < n) e (mod-lt p pos))))
 
 -- the codes of a list by row and factor
-pub made-at : (factors : List ℕ) (rank c n : ℕ) (xs : List ℕ) (g : ℕ → ℕ → ℕ) → c ≡ length factors → rank * c ≤ n → ((k : ℕ) → k < n → slice_index xs k ≡ g (k % c) (k / c)) → (f i : ℕ) → f < length factors → i < rank → code_at factors xs f i ≡ g f i
+pub made-at : (factors : List ℕ) (rank c n : ℕ) (xs : List ℕ) (g : ℕ → ℕ → ℕ) → c ≡ length factors → rank * c ≤ n →
+    ((k : ℕ) → k < n → slice_index xs k ≡ g (k % c) (k / c)) → (f i : ℕ) → f < length factors → i < rank → code_at factors xs f i ≡ g f i
 made-at factors rank c n xs g e l h f i m o =
     let m' : f < c = subst (λ (n : ℕ). f < n) (sym e) m in
     let b : i * c + f < rank * c = place_below rank c i f o m' in
@@ -53,7 +57,8 @@ pub placed : (factors : List ℕ) (c p : ℕ) (v : List ℕ) → c ≡ length fa
 placed factors c p v e pos = ap (slice_index v) (sym (whole p c pos)) ∙ ap (λ (n : ℕ). slice_index v (p / c * n + p % c)) e
 
 -- codes below the orders make a column
-pub column_of_codes : (factors : List ℕ) (rank : ℕ) (v : List ℕ) → length v ≡ rank * length factors → ((f i : ℕ) → f < length factors → i < rank → code_at factors v f i < slice_index factors f) → IsProductColumn factors rank v
+pub column_of_codes : (factors : List ℕ) (rank : ℕ) (v : List ℕ) → length v ≡ rank * length factors →
+    ((f i : ℕ) → f < length factors → i < rank → code_at factors v f i < slice_index factors f) → IsProductColumn factors rank v
 column_of_codes factors rank v l h = record { rows = l; codes = λ i f m o. h f i o m }
 
 -- the length of a list that was filled up to its end

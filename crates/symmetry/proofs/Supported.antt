@@ -76,9 +76,11 @@ module _ (P : Rep) (v : List ℕ) (shaped : IsShaped (followed_by P v)) (st : Is
   -- it isn't zero
   not_zero : 0 < count P → IsSimple (followed_by P v) → ¬ ((i : ℕ) → i < P.rank → entry i 0 ≡ 0)
   not_zero pos h z =
-      zeros_dependent (order P 0) (field 0 pos) P.rank (size P) (matrix (followed_by P v) 0) (λ k. (k == size P) || (k == size P)) (ap (λ b. b || (size P == size P)) (same_number (size P)))
+      zeros_dependent (order P 0) (field 0 pos) P.rank (size P) (matrix (followed_by P v) 0) (λ k. (k == size P) || (k == size P))
+      (ap (λ b. b || (size P == size P)) (same_number (size P)))
       (λ k l. matrix_last P v 0 k ∙ z k l)
-      (subst (λ n. IsIndependent (order P 0) P.rank n (matrix (followed_by P v) 0) (λ k. (k == size P) || (k == size P))) (size_followed P v) (h 0 (size P) (size P) pos last_below last_below))
+      (subst (λ n. IsIndependent (order P 0) P.rank n (matrix (followed_by P v) 0) (λ k. (k == size P) || (k == size P)))
+      (size_followed P v) (h 0 (size P) (size P) pos last_below last_below))
 
   normalised : 0 < count P → HasLeadOnes P.factors P.rank v → Agrees (followed_by P v) → IsSimple (followed_by P v) → IsNormalised P.factors P.rank v
   normalised pos ones a simple =
@@ -98,7 +100,8 @@ module _ (P : Rep) (v : List ℕ) (shaped : IsShaped (followed_by P v)) (st : Is
       zeros w k f b l = same_support a k 0 f (let d : w.at < P.rank = w.below in omega arith) pos l (w.before k b)
 
 -- where P followed by an admissible column is equivalent to P followed by another, whose first codes are 1, the other is admissible
-pub admissible_image : (mode : Mode) (P : Rep) (v u : List ℕ) → 0 < count P → IsStandard P → AreEquivalent mode (followed_by P v) (followed_by P u) → HasLeadOnes P.factors P.rank u → IsAdmissible P v → IsAdmissible P u
+pub admissible_image : (mode : Mode) (P : Rep) (v u : List ℕ) → 0 < count P → IsStandard P →
+    AreEquivalent mode (followed_by P v) (followed_by P u) → HasLeadOnes P.factors P.rank u → IsAdmissible P v → IsAdmissible P u
 admissible_image mode P v u pos st e ones h = record {
   normalised = normalised P u shaped st pos ones agrees simple;
   simple = simple;

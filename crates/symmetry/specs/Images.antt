@@ -23,7 +23,8 @@ HasLeadOnes factors rank v = (f i : ℕ) → f < length factors → i < rank →
 pub record IsLeadScalar (factors : List ℕ) (rank : ℕ) (v : List ℕ) (f scalar : ℕ) : Type 0 where
   pub code : scalar < slice_index factors f
   pub nonzero : scalar ≢ 0
-  pub one : (i : ℕ) → i < rank → ((k : ℕ) → k < i → code_at factors v f k ≡ 0) → code_at factors v f i ≢ 0 → times (slice_index factors f) scalar (code_at factors v f i) ≡ 1
+  pub one : (i : ℕ) → i < rank → ((k : ℕ) → k < i → code_at factors v f k ≡ 0) → code_at factors v f i ≢ 0 →
+      times (slice_index factors f) scalar (code_at factors v f i) ≡ 1
 
 -- such a code for each factor
 pub record AreLeadScalars (factors : List ℕ) (rank : ℕ) (v scalars : List ℕ) : Type 0 where

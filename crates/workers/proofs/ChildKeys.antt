@@ -18,7 +18,8 @@ use Rattle.workers.proofs.KeyLists.{keys_both, keys_none, keys_one, keys_same}
 use Rattle.workers.proofs.Calls.{empty_with}
 
 -- the keys for the columns up to the last one were offered, or are gathered
-pub record HasOffered (mode : Mode) (Ns : List Matroid) (old : PassSide) (columns : ColumnsAfter) (tried : ℕ) (pass : PassSide) (batches : List (List (List ℕ))) : Type 0 where
+pub record HasOffered (mode : Mode) (Ns : List Matroid) (old : PassSide) (columns : ColumnsAfter) (tried : ℕ) (pass : PassSide)
+    (batches : List (List (List ℕ))) : Type 0 where
   pub keys : List (List ℕ)
   pub are_keys : AreKeysOf (IsTriedUpTo Ns columns) (IsChildKey mode columns.parent) keys
   pub count : tried ≡ length keys
@@ -63,7 +64,8 @@ module _ (mode : Mode) (Ns : List Matroid) (old : PassSide) (columns following :
     bound = let b = h.bound in let f = falls in omega arith;
     calls = λ k.
         let c = calls k in let b = h.calls k in
-        let t : times k (h.keys ++ key ∷ []) ≡ times k h.keys + times k (key ∷ []) = sum_by-append (λ (l : List ℕ). cond (bytes_eq k l) 1 0) h.keys (key ∷ []) in
+        let t : times k (h.keys ++ key ∷ []) ≡ times k h.keys + times k (key ∷ []) =
+        sum_by-append (λ (l : List ℕ). cond (bytes_eq k l) 1 0) h.keys (key ∷ []) in
         omega arith;
   }
     where

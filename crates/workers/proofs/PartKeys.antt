@@ -66,7 +66,8 @@ taken_none mode Ns parents before pass = record {
 }
 
 -- in a rising list a form has one place
-one_place : (parents : List Rep) → AllPairs (λ M N. rep_cmp M N ≡ Less) parents → (i j : ℕ) (P : Rep) → slice_get parents i ≡ Some P → slice_get parents j ≡ Some P
+one_place : (parents : List Rep) → AllPairs (λ M N. rep_cmp M N ≡ Less) parents → (i j : ℕ) (P : Rep) →
+    slice_get parents i ≡ Some P → slice_get parents j ≡ Some P
     → ¬ (i < j)
 one_place parents rising i j P a b l =
     let less = rising i j P l (slice_get_within parents j P b) in
@@ -74,7 +75,8 @@ one_place parents rising i j P a b l =
     let second : slice_index_or parents j P ≡ P = get_or_from_slice_get parents j P P b in
     rep_cmp-irreflexive P (subst (λ N. rep_cmp P N ≡ Less) second (subst (λ M. rep_cmp M (slice_index_or parents j P) ≡ Less) first less))
 
-pub same_place : (parents : List Rep) → AllPairs (λ M N. rep_cmp M N ≡ Less) parents → (i j : ℕ) (P : Rep) → slice_get parents i ≡ Some P → slice_get parents j ≡ Some P
+pub same_place : (parents : List Rep) → AllPairs (λ M N. rep_cmp M N ≡ Less) parents → (i j : ℕ) (P : Rep) →
+    slice_get parents i ≡ Some P → slice_get parents j ≡ Some P
     → i ≡ j
 same_place parents rising i j P a b =
     let left = one_place parents rising i j P a b in
@@ -82,8 +84,10 @@ same_place parents rising i j P a b =
     ⊎_elim (λ (l : i < j). absurd (left l))
     (λ (m : j ≤ i). ⊎_elim (λ (l : j < i). absurd (right l)) (λ (n : i ≤ j). omega arith) (cases_lt j i)) (cases_lt i j)
 
-module _ (mode : Mode) (Ns : List Matroid) (parents : List Rep) (rising : AllPairs (λ M N. rep_cmp M N ≡ Less) parents) (before now : List ℕ) (old pass : PassSide) (tried : ℕ)
-    (h : HasTaken mode Ns parents before now old pass tried) (p : ℕ) (P : Rep) (there : slice_get parents p ≡ Some P) (fresh : ¬ (Contains now p)) (small : p < 2 ^ 64) where
+module _ (mode : Mode) (Ns : List Matroid) (parents : List Rep) (rising : AllPairs (λ M N. rep_cmp M N ≡ Less) parents)
+    (before now : List ℕ) (old pass : PassSide) (tried : ℕ)
+    (h : HasTaken mode Ns parents before now old pass tried) (p : ℕ) (P : Rep) (there : slice_get parents p ≡ Some P)
+    (fresh : ¬ (Contains now p)) (small : p < 2 ^ 64) where
   new_one : ¬ (Contains h.numbers p)
   new_one c = fresh (subst (λ (l : List ℕ). Contains l p) (sym h.took) (in_back before h.numbers c))
     where
@@ -97,7 +101,8 @@ module _ (mode : Mode) (Ns : List Matroid) (parents : List Rep) (rising : AllPai
       ↔ (IsExtensionFrom Ns parents h.numbers try ⊎ ((v : List ℕ) × IsCandidate Ns P v × ((P, v) ≡ try)))
   two_kinds try = (to, back)
     where
-      to : IsExtensionFrom Ns parents (h.numbers ++ p ∷ []) try → IsExtensionFrom Ns parents h.numbers try ⊎ ((v : List ℕ) × IsCandidate Ns P v × ((P, v) ≡ try))
+      to : IsExtensionFrom Ns parents (h.numbers ++ p ∷ []) try →
+          IsExtensionFrom Ns parents h.numbers try ⊎ ((v : List ℕ) × IsCandidate Ns P v × ((P, v) ≡ try))
       to e =
           elim (Contains-push_cases h.numbers p e.number e.taken) [
             | inl c ↦ inl record { number = e.number; taken = c; there = e.there; candidate = e.candidate }
@@ -107,7 +112,8 @@ module _ (mode : Mode) (Ns : List Matroid) (parents : List Rep) (rising : AllPai
                 inr (try.1, subst (λ (M : Rep). IsCandidate Ns M try.1) (sym is) e.candidate, λ i. (is i, try.1)))
           ]
 
-      back : IsExtensionFrom Ns parents h.numbers try ⊎ ((v : List ℕ) × IsCandidate Ns P v × ((P, v) ≡ try)) → IsExtensionFrom Ns parents (h.numbers ++ p ∷ []) try
+      back : IsExtensionFrom Ns parents h.numbers try ⊎ ((v : List ℕ) × IsCandidate Ns P v × ((P, v) ≡ try)) →
+          IsExtensionFrom Ns parents (h.numbers ++ p ∷ []) try
       back c =
           elim c [
             | inl e ↦ record {
@@ -130,7 +136,8 @@ module _ (mode : Mode) (Ns : List Matroid) (parents : List Rep) (rising : AllPai
     are_keys =
         keys_both (IsExtensionKey mode) (IsExtensionFrom Ns parents h.numbers) (λ try. (v : List ℕ) × IsCandidate Ns P v × ((P, v) ≡ try))
         (IsExtensionFrom Ns parents (h.numbers ++ p ∷ [])) h.keys offers.keys h.are_keys
-        (keys_images (λ (v : List ℕ). (P, v)) (IsChildKey mode P) (IsExtensionKey mode) (IsCandidate Ns P) offers.keys (λ v w e. ap (λ t. t.1) e) (λ v key a k. k) offers.are_keys)
+        (keys_images (λ (v : List ℕ). (P, v)) (IsChildKey mode P) (IsExtensionKey mode) (IsCandidate Ns P) offers.keys
+        (λ v w e. ap (λ t. t.1) e) (λ v key a k. k) offers.are_keys)
         (λ try e l. new_one (subst (Contains h.numbers)
         (same_place parents rising e.number p P (e.there ∙ ap Some (sym (ap (λ t. t.0) l.2))) there) e.taken)) two_kinds;
     calls = λ key.
@@ -147,13 +154,15 @@ module _ (mode : Mode) (Ns : List Matroid) (parents : List Rep) (rising : AllPai
   }
 
 -- so many tries fit
-pub tries_fit : (mode : Mode) (Ns : List Matroid) (parents : List Rep) (before now : List ℕ) (old pass : PassSide) (tried : ℕ) → HasTaken mode Ns parents before now old pass tried
+pub tries_fit : (mode : Mode) (Ns : List Matroid) (parents : List Rep) (before now : List ℕ) (old pass : PassSide) (tried : ℕ) →
+    HasTaken mode Ns parents before now old pass tried
     → tried < 2 ^ 128
 tries_fit mode Ns parents before now old pass tried h =
     let s = short (2 ^ 64) h.numbers h.below h.once in let f = h.few in omega arith
 
 -- the part of a worker, by the tries of the size after the parents'
-pub part_done : (q : Request) (Ns : List Matroid) → AreGivenBy (map given_as q.forbid) Ns → (parents : List Rep) (before now : List ℕ) (old pass : PassSide) (tried : ℕ)
+pub part_done : (q : Request) (Ns : List Matroid) → AreGivenBy (map given_as q.forbid) Ns →
+    (parents : List Rep) (before now : List ℕ) (old pass : PassSide) (tried : ℕ)
     → HasTaken q.mode Ns parents before now old pass tried → DoesPart q parents before now old pass tried
 part_done q Ns given parents before now old pass tried h = record { numbers = h.numbers; took = h.took; part = part; few = h.few }
   where
@@ -184,10 +193,17 @@ part_done q Ns given parents before now old pass tried h = record { numbers = h.
           },
           λ t.
               let both = (tries_are q family grows n parents (level.level family grows) try).1 t.is_try in
-              record { number = t.number; taken = t.taken; there = t.there; candidate = subst (λ (Ms : List Matroid). IsCandidate Ms try.0 try.1) (sym are) both.1 },
+              record {
+                number = t.number;
+                taken = t.taken;
+                there = t.there;
+                candidate =
+                    subst (λ (Ms : List Matroid). IsCandidate Ms try.0 try.1) (sym are) both.1;
+              },
         )
 
-        key_of : (try : Rep × List ℕ) (key : List ℕ) → IsTryFrom family (n + 1) parents h.numbers try → IsExtensionKey q.mode try key → IsTryKey family (n + 1) try key
+        key_of : (try : Rep × List ℕ) (key : List ℕ) → IsTryFrom family (n + 1) parents h.numbers try →
+            IsExtensionKey q.mode try key → IsTryKey family (n + 1) try key
         key_of try key t (N, form, equivalent, packed) = (
           N,
           record {

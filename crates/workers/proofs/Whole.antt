@@ -168,7 +168,8 @@ module _ (q : Request) (parents : List Rep) (n : ℕ) (family : Family) (level :
       )
 
 -- ---- the answers fit
-took_at_most : (q : Request) (parents : List Rep) (before after : Worker) → IsWorked q parents before after → tried_by after ≤ length (taken_by after) * above_values
+took_at_most : (q : Request) (parents : List Rep) (before after : Worker) → IsWorked q parents before after →
+    tried_by after ≤ length (taken_by after) * above_values
 took_at_most q parents before after worked = by_answer after.answer worked.answered
   where
     by_answer : (answer : Option ℕ)

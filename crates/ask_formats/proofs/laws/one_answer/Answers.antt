@@ -14,4 +14,5 @@ returns c = answers
   where
     answers : (question : Question) (line other : List ℕ) → MayAsk question → IsAnswer question line → IsAnswer question other → line ≡ other
     answers (Dual M) line other may (N, d, e) (K, h, g) =
-        e ∙ ap (λ (L : Rep). form_text (columns_of L)) (one_dual_form Linear M M N K (equivalent-reflexive Linear M may.named.limits.shaped) may.named.agrees.some d h) ∙ sym g
+        e ∙ ap (λ (L : Rep). form_text (columns_of L))
+        (one_dual_form Linear M M N K (equivalent-reflexive Linear M may.named.limits.shaped) may.named.agrees.some d h) ∙ sym g

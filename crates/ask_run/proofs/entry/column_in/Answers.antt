@@ -21,8 +21,10 @@ loop-at-preserved c =
     let xs = c.loop-at.column.items in
     record {
       rows = omega (arith, ap (λ (ys : List ℕ). length ys) c.push.ensures.items, length-append xs (c.in_ok-entry_in.field-0 ∷ []), c.loop-at.invariant.rows);
-      entries = one_more (λ k x. (x < slice_index c.args.factors.now (k % L.factors)) × HasEntry (texts_of c.args.words.now) L (k % L.factors) (k / L.factors) c.args.j x)
-          xs c.push.new.self.items c.loop-at.at c.in_ok-entry_in.field-0 c.loop-at.invariant.rows c.push.ensures.items c.loop-at.invariant.entries c.in_ok-entry_in.ensures;
+      entries = one_more (λ k x. (x < slice_index c.args.factors.now (k % L.factors))
+          × HasEntry (texts_of c.args.words.now) L (k % L.factors) (k / L.factors) c.args.j x)
+          xs c.push.new.self.items c.loop-at.at c.in_ok-entry_in.field-0 c.loop-at.invariant.rows c.push.ensures.items
+          c.loop-at.invariant.entries c.in_ok-entry_in.ensures;
     }
 
 pub returns : goal.returns

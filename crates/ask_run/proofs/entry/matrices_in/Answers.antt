@@ -19,7 +19,8 @@ loop-j-preserved c =
       columns = ap size e ∙ size_followed P v ∙ sym (add-one (size P)) ∙ ap (λ (k : ℕ). k + 1) h.columns;
       entries = λ f i k l m o.
           subst (λ (Q : Rep). HasEntry (texts_of c.args.words.now) L f i k (matrix Q f i k)) (sym e)
-          (next_entries (texts_of c.args.words.now) c.args.factors.now L P c.loop-j.j v h.factors c.requires.factors h.columns c.in_ok-column_in.ensures h.entries f i k l m o);
+          (next_entries (texts_of c.args.words.now) c.args.factors.now L P c.loop-j.j v h.factors c.requires.factors h.columns
+          c.in_ok-column_in.ensures h.entries f i k l m o);
     }
 
 pub returns : goal.returns

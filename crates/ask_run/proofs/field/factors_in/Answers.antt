@@ -8,9 +8,11 @@ use Rattle.ask_run.proofs.field.factors_in.Goals as goal
 
 pub returns-in_err-order_of : goal.returns-in_err-order_of
 returns-in_err-order_of c = rw c.from_residual.ensures (λ orders is read.
-    let n : length orders ≡ c.order_count-count.result = same_count (texts_of c.args.words.now) (length orders) c.order_count-count.result read.count c.order_count-count.ensures in
+    let n : length orders ≡ c.order_count-count.result = same_count (texts_of c.args.words.now)
+    (length orders) c.order_count-count.result read.count c.order_count-count.ensures in
     let l : c.loop-factor.factor < length orders = omega (arith, n, c.loop-factor-test.true) in
-    c.in_err-order_of.ensures (slice_index orders c.loop-factor.factor) (is.fields c.loop-factor.factor l) (c.text_at.ensures ∙ read.spelled c.loop-factor.factor l))
+    c.in_err-order_of.ensures (slice_index orders c.loop-factor.factor) (is.fields c.loop-factor.factor l)
+    (c.text_at.ensures ∙ read.spelled c.loop-factor.factor l))
 
 pub loop-factor-preserved : goal.loop-factor-preserved
 loop-factor-preserved c =

@@ -11,12 +11,14 @@ returns-in_err-factors c = rw c.from_residual.ensures (λ M can e.
 pub returns-in_err-layout : goal.returns-in_err-layout
 returns-in_err-layout c = rw c.from_residual-in_err-layout.ensures (λ M can e.
     c.in_err-layout.ensures (size M) M.rank can.some can.limits.size_most can.limits.rank_positive can.limits.rank_most
-    (layout_read (texts_of c.args.words.now) M can e c.in_ok-factors.factors c.in_ok-factors.ensures c.count.ensures.are_factors c.count.result c.count.ensures.count))
+    (layout_read (texts_of c.args.words.now) M can e c.in_ok-factors.factors c.in_ok-factors.ensures c.count.ensures.are_factors
+    c.count.result c.count.ensures.count))
 
 pub returns-in_err-rep : goal.returns-in_err-rep
 returns-in_err-rep c = rw c.from_residual-in_err-rep.ensures (λ M can e.
     let (j, l, lack) = c.in_err-rep.ensures in
-    no_lack (texts_of c.args.words.now) M can e c.in_ok-factors.factors c.in_ok-factors.ensures c.count.ensures.are_factors c.in_ok-layout.layout c.in_ok-layout.ensures.0
+    no_lack (texts_of c.args.words.now) M can e c.in_ok-factors.factors c.in_ok-factors.ensures c.count.ensures.are_factors
+    c.in_ok-layout.layout c.in_ok-layout.ensures.0
     (c.in_ok-layout.ensures.1 ∙ c.count.ensures.count) j l lack)
 
 pub returns : goal.returns

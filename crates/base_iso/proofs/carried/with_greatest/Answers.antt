@@ -18,7 +18,9 @@ returns-clause-no_others c k l =
     let high : c.set_count-2.result ≡ 2 ^ (c.args.element + 1) = c.set_count-2.ensures.value in
     let at = from_part c.args.sets.now c.place_of-start.result c.place_of-end.result k c.place_of-end.ensures.within l in
     let place : c.place_of-start.result + k < length c.args.sets.now = (let b = at.0 in let m = c.place_of-end.ensures.within in omega arith) in
-    let a : c.set_count.result ≤ slice_index c.args.sets.now (c.place_of-start.result + k) = c.place_of-start.ensures.from (c.place_of-start.result + k) (omega arith) place in
-    let b : slice_index c.args.sets.now (c.place_of-start.result + k) < c.set_count-2.result = c.place_of-end.ensures.below (c.place_of-start.result + k) at.0 in
+    let a : c.set_count.result ≤ slice_index c.args.sets.now (c.place_of-start.result + k) = c.place_of-start.ensures.from
+    (c.place_of-start.result + k) (omega arith) place in
+    let b : slice_index c.args.sets.now (c.place_of-start.result + k) < c.set_count-2.result = c.place_of-end.ensures.below
+    (c.place_of-start.result + k) at.0 in
     subst (IsOneOf c.args.sets.now c.args.element) (sym at.1)
     (record { stands = Contains-get_or c.args.sets.now (c.place_of-start.result + k) 0 place; low = omega arith; high = omega arith })

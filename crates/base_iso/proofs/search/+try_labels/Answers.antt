@@ -19,7 +19,10 @@ loop-label-preserved t c p u s l i =
     elim (cases_lt (p (length c.args.labels.items)) c.loop-label.label) [
       | inl b ↦ c.loop-label.invariant p u s b i
       | inr g ↦ elim c.match-extended.branch [
-        | in-Some+in_default-try_labels w ↦ w.in_default-try_labels.ensures.none refl p u (subst (λ (xs : List ℕ). Begins xs p) (sym w.in-Some.ensures.labels) (begins_more c.args.labels.items c.loop-label.label p s (omega arith))) i
+        | in-Some+in_default-try_labels w ↦
+            w.in_default-try_labels.ensures.none refl p u
+            (subst (λ (xs : List ℕ). Begins xs p) (sym w.in-Some.ensures.labels)
+            (begins_more c.args.labels.items c.loop-label.label p s (omega arith))) i
         | in_default w ↦ w.in_default.ensures.none refl p u (begins_more c.args.labels.items c.loop-label.label p s (omega arith)) i
       ]
     ]

@@ -14,21 +14,31 @@ followed_by-longer-requires c =
 
 pub may_begin-requires-clause-labels : goal.may_begin-requires-clause-labels
 may_begin-requires-clause-labels c =
-    more_labels c.args.labels.now.items c.as_slice-3.result.now c.args.label (c.as_slice-3.ensures.value ∙ (c.followed_by-longer.ensures ∙ ap (λ (xs : List ℕ). xs ++ c.args.label ∷ []) c.as_slice-2.ensures.value)) c.args.a.now.size c.requires.labels c.requires.few c.requires.label
+    more_labels c.args.labels.now.items c.as_slice-3.result.now c.args.label
+    (c.as_slice-3.ensures.value
+    ∙ (c.followed_by-longer.ensures ∙ ap (λ (xs : List ℕ). xs ++ c.args.label ∷ []) c.as_slice-2.ensures.value)) c.args.a.now.size
+    c.requires.labels c.requires.few c.requires.label
     (is_new c.args.labels.now.items c.as_slice.result.now c.args.label c.contains.result c.as_slice.ensures.value c.contains.ensures.cases c.if-contains.false)
 
 pub returns-then-may_begin-clause-different : goal.returns-then-may_begin-clause-different
 returns-then-may_begin-clause-different c =
-    more_labels c.args.labels.now.items c.followed_by-longer.result.items c.args.label (c.followed_by-longer.ensures ∙ ap (λ (xs : List ℕ). xs ++ c.args.label ∷ []) c.as_slice-2.ensures.value) c.args.a.now.size c.requires.labels c.requires.few c.requires.label
+    more_labels c.args.labels.now.items c.followed_by-longer.result.items c.args.label
+    (c.followed_by-longer.ensures ∙ ap (λ (xs : List ℕ). xs ++ c.args.label ∷ []) c.as_slice-2.ensures.value) c.args.a.now.size
+    c.requires.labels c.requires.few c.requires.label
     (is_new c.args.labels.now.items c.as_slice.result.now c.args.label c.contains.result c.as_slice.ensures.value c.contains.ensures.cases c.if-contains.false)
 
 pub returns-then-may_begin-clause-bases : goal.returns-then-may_begin-clause-bases
 returns-then-may_begin-clause-bases c =
-    more_carried c.args.labels.now.items c.followed_by-longer.result.items c.args.label (c.followed_by-longer.ensures ∙ ap (λ (xs : List ℕ). xs ++ c.args.label ∷ []) c.as_slice-2.ensures.value) c.args.a.now c.args.b.now c.requires.bases
+    more_carried c.args.labels.now.items c.followed_by-longer.result.items c.args.label
+    (c.followed_by-longer.ensures ∙ ap (λ (xs : List ℕ). xs ++ c.args.label ∷ []) c.as_slice-2.ensures.value) c.args.a.now
+    c.args.b.now c.requires.bases
     (subst (CarriesLast c.args.a.now.bases c.args.b.now.bases) c.as_slice-3.ensures.value (c.may_begin.ensures.bases c.if-may_begin.true))
 
 pub returns-else-may_begin-clause-none : goal.returns-else-may_begin-clause-none
-returns-else-may_begin-clause-none c _ = subst (NoneBegins c.args.a.now c.args.b.now) (c.as_slice-3.ensures.value ∙ (c.followed_by-longer.ensures ∙ ap (λ (xs : List ℕ). xs ++ c.args.label ∷ []) c.as_slice-2.ensures.value)) (c.may_begin.ensures.none c.if-may_begin.false)
+returns-else-may_begin-clause-none c _ = subst (NoneBegins c.args.a.now c.args.b.now)
+    (c.as_slice-3.ensures.value
+    ∙ (c.followed_by-longer.ensures ∙ ap (λ (xs : List ℕ). xs ++ c.args.label ∷ []) c.as_slice-2.ensures.value))
+    (c.may_begin.ensures.none c.if-may_begin.false)
 
 pub returns-then-contains-clause-none : goal.returns-then-contains-clause-none
 returns-then-contains-clause-none c _ =

@@ -8,5 +8,7 @@ use Rattle.bases.proofs.basis.has_rank_many.Goals as goal
 
 pub returns : goal.returns
 returns c =
-    let e : size_below (size c.args.rep.now) (members c.args.set) ≡ count_ones c.args.set = size-members (size c.args.rep.now) c.args.set c.requires in
-    (λ t. e ∙ eqb-true (count_ones c.args.set) c.rank.result t ∙ c.rank.ensures, λ t. eq-eqb (count_ones c.args.set) c.rank.result (sym e ∙ t ∙ sym c.rank.ensures))
+    let e : size_below (size c.args.rep.now) (members c.args.set) ≡ count_ones c.args.set = size-members (size c.args.rep.now) c.args.set c.requires in (
+      λ t. e ∙ eqb-true (count_ones c.args.set) c.rank.result t ∙ c.rank.ensures,
+      λ t. eq-eqb (count_ones c.args.set) c.rank.result (sym e ∙ t ∙ sym c.rank.ensures),
+    )

@@ -12,12 +12,14 @@ pub returns-then-not-is_alike : goal.returns-then-not-is_alike
 returns-then-not-is_alike c = (
   λ t. absurd (false≢true t),
   λ h. absurd (false≢true (sym c.if-not-is_alike.true ∙ c.is_alike.ensures.1 (h c.loop-factor.factor
-      (subst (λ (n : ℕ). c.loop-factor.factor < n) (c.count-factor-end.ensures.count ∙ ap (λ (fs : List ℕ). length fs) c.factors.ensures) c.loop-factor-test.true)))),
+      (subst (λ (n : ℕ). c.loop-factor.factor < n)
+      (c.count-factor-end.ensures.count ∙ ap (λ (fs : List ℕ). length fs) c.factors.ensures) c.loop-factor-test.true)))),
 )
 
 pub loop-factor-preserved : goal.loop-factor-preserved
 loop-factor-preserved c =
-    one_more c.loop-factor.factor (λ f. (S : ℕ → Bool) → (IsBasis c.args.rep.now 0 S ↔ IsBasis c.args.rep.now f S)) c.loop-factor.invariant (c.is_alike.ensures.0 c.if-not-is_alike.false)
+    one_more c.loop-factor.factor (λ f. (S : ℕ → Bool) → (IsBasis c.args.rep.now 0 S ↔ IsBasis c.args.rep.now f S))
+    c.loop-factor.invariant (c.is_alike.ensures.0 c.if-not-is_alike.false)
 
 pub returns : goal.returns
 returns c =

@@ -10,5 +10,6 @@ loop-factor-preserved c f l =
     elim (cases_lt f c.loop-factor.factor) [
       | inl b ↦ c.loop-factor.invariant f b
       | inr g ↦ (let e : c.loop-factor.factor ≡ f = omega arith in
-          subst (λ (x : ℕ). (i j : ℕ) → i < size c.args.rep.now → j < size c.args.rep.now → IsIndependentIn c.args.rep.now x (pair i j)) e (c.is_simple_in.ensures.0 c.if-not-is_simple_in.false))
+          subst (λ (x : ℕ). (i j : ℕ) → i < size c.args.rep.now → j < size c.args.rep.now →
+          IsIndependentIn c.args.rep.now x (pair i j)) e (c.is_simple_in.ensures.0 c.if-not-is_simple_in.false))
     ]

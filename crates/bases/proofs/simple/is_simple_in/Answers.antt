@@ -16,7 +16,8 @@ loop-j-preserved c j l =
     elim (cases_lt j c.loop-j.j) [
       | inl b ↦ c.loop-j.invariant j b
       | inr g ↦ (let e : c.loop-j.j ≡ j = omega arith in
-          subst (λ (x : ℕ). (i : ℕ) → i ≤ x → IsIndependentIn c.args.rep.now c.args.factor (pair i x)) e (c.is_apart_from_earlier.ensures.0 c.if-not-is_apart_from_earlier.false))
+          subst (λ (x : ℕ). (i : ℕ) → i ≤ x → IsIndependentIn c.args.rep.now c.args.factor (pair i x)) e
+          (c.is_apart_from_earlier.ensures.0 c.if-not-is_apart_from_earlier.false))
     ]
 
 pub returns : goal.returns

@@ -8,7 +8,8 @@ use Rattle.canonical_form.proofs.coordinates.coordinates.Goals as goal
 
 pub returns : goal.returns
 returns c =
-    let n : c.count-factor-end.result ≡ count c.args.rep.now = count_at c.args.rep.now c.factors.result c.count-factor-end.result c.factors.ensures c.count-factor-end.ensures.count in
+    let n : c.count-factor-end.result ≡ count c.args.rep.now =
+    count_at c.args.rep.now c.factors.result c.count-factor-end.result c.factors.ensures c.count-factor-end.ensures.count in
     let g : c.count-factor-end.result ≤ c.loop-factor.factor = c.loop-factor-test.false in
     let m : c.loop-factor.factor ≤ c.count-factor-end.result = c.loop-factor.auto.factor-end in
     let e : c.loop-factor.factor ≡ count c.args.rep.now = omega arith in

@@ -11,5 +11,6 @@ invariant-loop-factor l =
     record {
       count : length l.by_factor.items ≡ l.factor;
       codes : (f : ℕ) → f < l.factor → IsColumn (order l.rep f) l.rep.rank (column l.by_factor.items f);
-      combined : (f : ℕ) → f < l.factor → (i : ℕ) → i < l.rep.rank → combination (order l.rep f) l.rep.rank (chosen l.rep l.basis f) (slice_index (column l.by_factor.items f)) i ≡ matrix l.rep f i l.k;
+      combined : (f : ℕ) → f < l.factor → (i : ℕ) → i < l.rep.rank →
+          combination (order l.rep f) l.rep.rank (chosen l.rep l.basis f) (slice_index (column l.by_factor.items f)) i ≡ matrix l.rep f i l.k;
     }

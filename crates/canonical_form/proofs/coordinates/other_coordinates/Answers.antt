@@ -14,7 +14,8 @@ loop-k-preserved c = let b = contains_by_any c.args.basis.now c.loop-k.k in
           (λ m. false≢true (sym w.if-not-contains.true ∙ c.contains.ensures.value ∙ b.1 m)) w.coordinates.ensures)
       | else-not-contains w ↦
           subst (λ (v : List (List ℕ)). AreOthersBelow c.args.rep.now c.args.basis.now (c.loop-k.k + 1) v) (sym w.list-is)
-          (same_others c.args.rep.now c.args.basis.now c.loop-k.k c.loop-k.list c.loop-k.invariant (b.0 (sym c.contains.ensures.value ∙ w.if-not-contains.false)))
+          (same_others c.args.rep.now c.args.basis.now c.loop-k.k c.loop-k.list c.loop-k.invariant
+          (b.0 (sym c.contains.ensures.value ∙ w.if-not-contains.false)))
     ]
 
 pub returns : goal.returns

@@ -11,16 +11,21 @@ begins_with_none columns m e i l = let n : length columns ≡ zero = ap (λ (w :
 pub unreachable-requires : goal.unreachable-requires
 unreachable-requires c =
     let (m, N, h) = reached c.args.rep.now c.laws.ensures c.requires in
-    subst (λ (found : Option (List (List ℕ))). IsNotAbove found N) c.in-None.is (c.try_bases.ensures.covers m N h (begins_with_none c.new.result.items m c.new.ensures))
+    subst (λ (found : Option (List (List ℕ))). IsNotAbove found N) c.in-None.is
+    (c.try_bases.ensures.covers m N h (begins_with_none c.new.result.items m c.new.ensures))
 
 pub returns-clause-form : goal.returns-clause-form
 returns-clause-form c =
-    (class_form c.args.rep.now c.standard.result c.in-Some.columns c.laws.ensures c.requires c.standard.ensures.shaped c.standard.ensures.shape c.standard.ensures.standard c.standard.ensures.later
+    (class_form c.args.rep.now c.standard.result c.in-Some.columns c.laws.ensures c.requires c.standard.ensures.shaped
+    c.standard.ensures.shape c.standard.ensures.standard c.standard.ensures.later
     (subst (λ (found : Option (List (List ℕ))). IfSome found (AreOfClass c.args.rep.now)) c.in-Some.is c.try_bases.ensures.sound)
-    (λ m L h. subst (λ (found : Option (List (List ℕ))). IsNotAbove found L) c.in-Some.is (c.try_bases.ensures.covers m L h (begins_with_none c.new.result.items m c.new.ensures)))).0
+    (λ m L h. subst (λ (found : Option (List (List ℕ))). IsNotAbove found L) c.in-Some.is
+    (c.try_bases.ensures.covers m L h (begins_with_none c.new.result.items m c.new.ensures)))).0
 
 pub returns-clause-equivalent : goal.returns-clause-equivalent
 returns-clause-equivalent c =
-    (class_form c.args.rep.now c.standard.result c.in-Some.columns c.laws.ensures c.requires c.standard.ensures.shaped c.standard.ensures.shape c.standard.ensures.standard c.standard.ensures.later
+    (class_form c.args.rep.now c.standard.result c.in-Some.columns c.laws.ensures c.requires c.standard.ensures.shaped
+    c.standard.ensures.shape c.standard.ensures.standard c.standard.ensures.later
     (subst (λ (found : Option (List (List ℕ))). IfSome found (AreOfClass c.args.rep.now)) c.in-Some.is c.try_bases.ensures.sound)
-    (λ m L h. subst (λ (found : Option (List (List ℕ))). IsNotAbove found L) c.in-Some.is (c.try_bases.ensures.covers m L h (begins_with_none c.new.result.items m c.new.ensures)))).1
+    (λ m L h. subst (λ (found : Option (List (List ℕ))). IsNotAbove found L) c.in-Some.is
+    (c.try_bases.ensures.covers m L h (begins_with_none c.new.result.items m c.new.ensures)))).1

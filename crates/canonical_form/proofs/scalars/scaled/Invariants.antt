@@ -11,5 +11,7 @@ abbrev pub invariant-loop-place : goal.invariant-loop-place
 invariant-loop-place l =
     record {
       rows : length l.codes.items ≡ l.place;
-      products : (k : ℕ) → k < l.place → slice_index l.codes.items k ≡ times (order l.rep (k % count l.rep)) (slice_index l.scales.items (k % count l.rep)) (slice_index l.products.items k);
+      products : (k : ℕ) → k < l.place →
+          slice_index l.codes.items k ≡ times (order l.rep (k % count l.rep)) (slice_index l.scales.items (k % count l.rep))
+          (slice_index l.products.items k);
     }

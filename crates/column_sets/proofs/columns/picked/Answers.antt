@@ -20,7 +20,8 @@ loop-j-preserved c = elim c.if-in_set.branch [
   | then-in_set w ↦ more_picked (column c.args.columns.now) c.loop-j.j (members c.args.set) c.loop-j.list.items c.if-in_set.list.items w.list_of.result
       (sym c.in_set.ensures ∙ w.if-in_set.true) (ap (λ (v : ArrayVec (ArrayVec ℕ)). v.items) w.list-is ∙ w.push.ensures.items)
       (w.list_of.ensures ∙ w.as_slice.ensures.value
-      ∙ at_read c.args.columns.now (λ y. w.index-columns-j.result.items ≡ y.items) c.loop-j.j w.index-columns-j.result (omega arith) w.index-columns-j.is refl (record { items = [] }))
+      ∙ at_read c.args.columns.now (λ y. w.index-columns-j.result.items ≡ y.items) c.loop-j.j w.index-columns-j.result
+      (omega arith) w.index-columns-j.is refl (record { items = [] }))
       c.loop-j.invariant
   | else-in_set w ↦ same_picked (column c.args.columns.now) c.loop-j.j (members c.args.set) c.loop-j.list.items c.if-in_set.list.items
       (sym c.in_set.ensures ∙ w.if-in_set.false) (ap (λ (v : ArrayVec (ArrayVec ℕ)). v.items) w.list-is) c.loop-j.invariant

@@ -11,11 +11,17 @@ pub returns : goal.returns
 returns c = (
   λ b. let w = c.has_separation_from.ensures.0 b in (w.0, w.1),
   λ w. elim (cases_Bool (w.0 0)) [
-    | inl t ↦ c.has_separation_from.ensures.1 (w.0, w.1, with_next 0 w.0 (members c.empty.result.set) (members c.with-first.result.set) t c.with-first.ensures.set (λ j l. absurd (omega arith)))
+    | inl t ↦ c.has_separation_from.ensures.1 (
+      w.0,
+      w.1,
+      with_next 0 w.0 (members c.empty.result.set) (members c.with-first.result.set) t c.with-first.ensures.set
+          (λ j l. absurd (omega arith)),
+    )
     | inr f ↦ c.has_separation_from.ensures.1 (
       (λ j. not (w.0 j)),
       turned c.args.rep.now c.args.order w.0 w.1,
-      with_next 0 (λ j. not (w.0 j)) (members c.empty.result.set) (members c.with-first.result.set) (ap not f) c.with-first.ensures.set (λ j l. absurd (omega arith)),
+      with_next 0 (λ j. not (w.0 j)) (members c.empty.result.set) (members c.with-first.result.set)
+          (ap not f) c.with-first.ensures.set (λ j l. absurd (omega arith)),
     )
   ],
 )

@@ -30,4 +30,5 @@ returns c =
     ∙ (λ t. negative ((c.field.ensures ∙ ap (λ (fs : List ℕ). slice_index fs c.args.factor) c.factors.ensures) t)
     (column-entry M c.args.factor (c.rank-rank.result + c.args.i) c.args.j c.deref.result.now e l t))
     ∙ ap (λ (r : ℕ). negative (order M c.args.factor) (matrix M c.args.factor c.args.j (r + c.args.i))) c.rank-rank.ensures
-    ∙ sym (ap (λ b. cond b (negative (order M c.args.factor) (matrix M c.args.factor c.args.j (M.rank + c.args.i))) (unit (M.rank + c.args.i) c.args.j)) (lt-ltb c.args.j M.rank l))
+    ∙ sym (ap (λ b. cond b (negative (order M c.args.factor) (matrix M c.args.factor c.args.j (M.rank + c.args.i)))
+    (unit (M.rank + c.args.i) c.args.j)) (lt-ltb c.args.j M.rank l))

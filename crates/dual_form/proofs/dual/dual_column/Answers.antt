@@ -11,4 +11,5 @@ returns-clause-codes c =
     let p : (c.size.result - c.rank.result) * c.count-count.result ≡ (size M - M.rank) * count M = (λ t. (c.size.ensures.value t - c.rank.ensures t) * n t) in
     let w : (size M - M.rank) * count M ≤ c.loop-place.place = omega (arith, p, c.loop-place-test.false) in
     code-at (λ f i. dual_matrix M f i c.args.j) c.loop-place.place (count M) (size M - M.rank) c.loop-place.column.items w
-    (subst (λ (m : ℕ). (k : ℕ) → k < c.loop-place.place → slice_index c.loop-place.column.items k ≡ dual_matrix M (k % m) (k / m) c.args.j) n c.loop-place.invariant.codes)
+    (subst (λ (m : ℕ). (k : ℕ) → k < c.loop-place.place →
+    slice_index c.loop-place.column.items k ≡ dual_matrix M (k % m) (k / m) c.args.j) n c.loop-place.invariant.codes)

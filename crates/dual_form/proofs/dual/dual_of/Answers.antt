@@ -28,7 +28,8 @@ module _ (mode : Mode) (M N R : Rep) (start : ℕ) (s : IsShaped M) (t : IsStand
 pub least_form_fast-requires : goal.least_form_fast-requires
 least_form_fast-requires c =
     agrees c.args.mode c.args.rep.now c.standard_dual-dual.result c.rotated.result c.rank.result c.laws.ensures.shaped c.requires.standard
-    c.standard_dual-dual.ensures c.laws-2.ensures.shaped c.rotated.ensures.shaped c.rotated.ensures.shape c.rank.ensures c.rotated.ensures.entries c.requires.agrees
+    c.standard_dual-dual.ensures c.laws-2.ensures.shaped c.rotated.ensures.shaped c.rotated.ensures.shape c.rank.ensures
+    c.rotated.ensures.entries c.requires.agrees
 
 pub returns : goal.returns
 returns c =

@@ -8,7 +8,8 @@ use Rattle.dual_form.proofs.dual.standard_dual.Goals as goal
 pub push_column-requires-clause-column : goal.push_column-requires-clause-column
 push_column-requires-clause-column c =
     let h = c.loop-j.invariant in
-    dual_column_follows c.args.rep.now c.loop-j.dual c.loop-j.j c.dual_column.result.items c.laws.ensures h.factors h.rank c.dual_column.ensures.rows c.dual_column.ensures.codes
+    dual_column_follows c.args.rep.now c.loop-j.dual c.loop-j.j c.dual_column.result.items c.laws.ensures h.factors h.rank
+    c.dual_column.ensures.rows c.dual_column.ensures.codes
 
 pub loop-j-preserved : goal.loop-j-preserved
 loop-j-preserved c =
@@ -26,6 +27,7 @@ loop-j-preserved c =
           ap (λ Q. matrix Q f i k) e
           ∙ next_codes P v (dual_matrix M) c.loop-j.j h.columns
           (λ f i k l m. h.codes f i k (subst (λ (x : ℕ). f < x) n l) (subst (λ (x : ℕ). i < x) h.rank m))
-          (λ i f m l. ap (λ (x : ℕ). slice_index v (i * x + f)) n ∙ c.dual_column.ensures.codes i f (subst (λ (x : ℕ). i < x) h.rank m) (subst (λ (x : ℕ). f < x) n l))
+          (λ i f m l. ap (λ (x : ℕ). slice_index v (i * x + f)) n
+          ∙ c.dual_column.ensures.codes i f (subst (λ (x : ℕ). i < x) h.rank m) (subst (λ (x : ℕ). f < x) n l))
           f i k (subst (λ (x : ℕ). f < x) (sym n) l) (subst (λ (x : ℕ). i < x) (sym h.rank) m) o;
     }

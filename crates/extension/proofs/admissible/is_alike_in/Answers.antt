@@ -14,7 +14,8 @@ returns c =
     let p : 0 < c.args.rep.now.rank = r.rank_positive in
     let e : c.rank.result ≡ c.args.rep.now.rank = c.rank.ensures in
     each_set c.args.rep.now c.size-size.result (c.rank.result - 1) c.size-size.ensures.value (omega arith)
-    (λ S. IsIndependentSet c.args.first.now.field c.args.first.now.columns.items S ↔ IsIndependentSet c.args.other.now.field c.args.other.now.columns.items S) c.is_none.result
+    (λ S. IsIndependentSet c.args.first.now.field c.args.first.now.columns.items S ↔ IsIndependentSet c.args.other.now.field
+    c.args.other.now.columns.items S) c.is_none.result
     (no_set_found (IsSetOfSize c.size-size.result (c.rank.result - 1)) _
     (λ X. IsIndependentSet c.args.first.now.field c.args.first.now.columns.items (λ j. (j == c.size-size.result) || members X j)
     ↔ IsIndependentSet c.args.other.now.field c.args.other.now.columns.items (λ j. (j == c.size-size.result) || members X j))

@@ -7,4 +7,5 @@ use Rattle.extension.proofs.admissible.is_apart.Given as goal
 
 -- in the factors before this one the column is parallel to none
 abbrev pub invariant-loop-factor : goal.invariant-loop-factor
-invariant-loop-factor l = (f : ℕ) → f < l.factor → (j : ℕ) → j < size l.rep → IsIndependentIn (followed_by l.rep l.column.items) f (λ k. (k == size l.rep) || (k == j))
+invariant-loop-factor l = (f : ℕ) → f < l.factor → (j : ℕ) → j < size l.rep →
+    IsIndependentIn (followed_by l.rep l.column.items) f (λ k. (k == size l.rep) || (k == j))

@@ -11,7 +11,12 @@ room : (f : ℕ → ℕ) (i r : ℕ) (part : List ℕ) → part ≡ map f (range
 room f i r part e l m = let n : length part ≡ i = ap (λ (xs : List ℕ). length xs) e ∙ length-map-range_with_len f 0 i in omega arith
 
 pub push-requires : goal.push-requires
-push-requires c = (lit< tt, room _ c.loop-i.i c.rank-i-end.result c.loop-i.part.items c.loop-i.invariant c.loop-i-test.true (let m : c.args.rep.now.rank ≤ 6 = c.requires.is_rep.rank_most in let e : c.rank-i-end.result ≡ c.args.rep.now.rank = c.rank-i-end.ensures in omega arith))
+push-requires c = (
+  lit< tt,
+  room _ c.loop-i.i c.rank-i-end.result c.loop-i.part.items c.loop-i.invariant c.loop-i-test.true
+      (let m : c.args.rep.now.rank ≤ 6 = c.requires.is_rep.rank_most in
+      let e : c.rank-i-end.result ≡ c.args.rep.now.rank = c.rank-i-end.ensures in omega arith),
+)
 
 -- one more code
 step : (M : Rep) (v : List ℕ) (f i : ℕ) (part : List ℕ) → part ≡ map (λ i. matrix (followed_by M v) f i (size M)) (range_with_len 0 i) →
@@ -22,4 +27,6 @@ step M v f i part e =
 pub loop-i-preserved : goal.loop-i-preserved
 loop-i-preserved c =
     let n : c.count-count.result ≡ count c.args.rep.now = c.count-count.ensures.count ∙ ap (λ (fs : List ℕ). length fs) c.factors.ensures in
-    c.push.ensures.items ∙ (λ t. c.loop-i.part.items ++ slice_index (c.as_slice-codes.ensures.value t) (c.loop-i.i * n t + c.args.factor) ∷ []) ∙ step c.args.rep.now c.args.column.now.items c.args.factor c.loop-i.i c.loop-i.part.items c.loop-i.invariant
+    c.push.ensures.items ∙ (λ t. c.loop-i.part.items ++ slice_index (c.as_slice-codes.ensures.value t)
+    (c.loop-i.i * n t + c.args.factor) ∷ [])
+    ∙ step c.args.rep.now c.args.column.now.items c.args.factor c.loop-i.i c.loop-i.part.items c.loop-i.invariant

@@ -13,16 +13,19 @@ use Rattle.extension.proofs.columns.next_column.Goals.{In-Some}
 
 -- the step by the names of the arguments
 step : (fs gs : List ℕ) (r s : ℕ) (u x v : List ℕ) → fs ≡ gs → r ≡ s → x ≡ u → IsNextNormalised fs r x v → IsNextNormalised gs s u v
-step fs gs r s u x v e d k h = subst (λ (gs : List ℕ). IsNextNormalised gs s u v) e (subst (λ (s : ℕ). IsNextNormalised fs s u v) d (subst (λ (x : List ℕ). IsNextNormalised fs r x v) k h))
+step fs gs r s u x v e d k h = subst (λ (gs : List ℕ). IsNextNormalised gs s u v) e
+    (subst (λ (s : ℕ). IsNextNormalised fs s u v) d (subst (λ (x : List ℕ). IsNextNormalised fs r x v) k h))
 
 next_one : (c : In-Some) → IsNextNormalised c.args.rep.now.factors c.args.rep.now.rank c.loop-column.before.items c.in-Some.column.items
-next_one c = step _ _ _ _ c.loop-column.before.items c.as_slice-in-loop-column.result.now c.in-Some.column.items c.factors-factors.ensures c.rank-rank.ensures c.as_slice-in-loop-column.ensures.value c.in-Some.ensures
+next_one c = step _ _ _ _ c.loop-column.before.items c.as_slice-in-loop-column.result.now c.in-Some.column.items
+    c.factors-factors.ensures c.rank-rank.ensures c.as_slice-in-loop-column.ensures.value c.in-Some.ensures
 
 pub loop-column-smaller : goal.loop-column-smaller
 loop-column-smaller c =
     let n = next_one ((goal.at.loop-column-smaller c).In-Some) in
     let r = c.requires.is_rep in
-    nearer c.args.rep.now.factors r.fields c.args.rep.now.rank r.rank_most c.loop-column.before.items c.in-Some.column.items c.loop-column.invariant.start n.normalised n.after
+    nearer c.args.rep.now.factors r.fields c.args.rep.now.rank r.rank_most c.loop-column.before.items c.in-Some.column.items
+    c.loop-column.invariant.start n.normalised n.after
 
 pub loop-column-preserved : goal.loop-column-preserved
 loop-column-preserved c =

@@ -34,7 +34,8 @@ returns-then-factor-count t c =
 pub loop-power-init : goal.loop-power-init
 loop-power-init t c =
     let n : c.count.result ≡ count c.args.rep.now = c.count.ensures.count ∙ ap (λ (fs : List ℕ). length fs) c.factors-factors.ensures in
-    least_first c.args.factor c.args.rep.now c.least_from-best.result c.laws.ensures.shaped (factor_below _ _ _ c.requires.factor n c.if-factor-count.false) c.least_from-best.ensures
+    least_first c.args.factor c.args.rep.now c.least_from-best.result c.laws.ensures.shaped
+    (factor_below _ _ _ c.requires.factor n c.if-factor-count.false) c.least_from-best.ensures
 
 pub least_from-other-requires : goal.least_from-other-requires
 least_from-other-requires t c =

@@ -13,11 +13,13 @@ use Rattle.level_driver.proofs.growth.add_children.Goals as goal
 
 pub loop-column-init : goal.loop-column-init
 loop-column-init c =
-    let start : c.into_iter-column-iterator.result ≡ record { parent = c.args.parent.now; last = [] } = c.into_iter-column-iterator.ensures.into_iter_gives ∙ c.of-column-items.ensures in
+    let start : c.into_iter-column-iterator.result ≡ record { parent = c.args.parent.now; last = [] } =
+    c.into_iter-column-iterator.ensures.into_iter_gives ∙ c.of-column-items.ensures in
     record {
       same = ap (λ (columns : ColumnsAfter). columns.parent) start;
       children = c.in_ok-children.ensures;
-      so_far = tried_none c.args.mode (matroids_of c.args.forbidden.now) c.args.found.now c.args.parent.now c.laws.ensures.fields.some c.into_iter-column-iterator.result start;
+      so_far = tried_none c.args.mode (matroids_of c.args.forbidden.now) c.args.found.now c.args.parent.now
+          c.laws.ensures.fields.some c.into_iter-column-iterator.result start;
     }
 
 pub child-requires-clause-room : goal.child-requires-clause-room
@@ -43,12 +45,14 @@ loop-column-preserved c =
     let k : ChildrenOf = record { parent = c.args.parent.now; mode = c.args.mode; forbidden = Ns } in
     let answer : IsAnswer k c.in-Some.column.items c.in_ok-child.field-0 =
     subst (λ (k : ChildrenOf). IsAnswer k c.in-Some.column.items c.in_ok-child.field-0) c.loop-column.invariant.children
-    (answer_of c.loop-column.children c.in-Some.column.items c.in_ok-child.field-0 c.in_ok-child.ensures.none c.in_ok-child.ensures.avoids c.in_ok-child.ensures.form c.in_ok-child.ensures.equivalent) in
+    (answer_of c.loop-column.children c.in-Some.column.items c.in_ok-child.field-0 c.in_ok-child.ensures.none
+    c.in_ok-child.ensures.avoids c.in_ok-child.ensures.form c.in_ok-child.ensures.equivalent) in
     let none : IsAnswer k c.in-Some.column.items None = subst (IsAnswer k c.in-Some.column.items) c.in_default.is answer in
     record {
       same = ap (λ (columns : ColumnsAfter). columns.parent) steps.1 ∙ c.loop-column.invariant.same;
       children = c.child.ensures.same ∙ c.loop-column.invariant.children;
-      so_far = tried_same c.loop-column.column-iterator c.in-Some.column.items steps.0 c.args.mode Ns c.args.found.now c.loop-column.found c.loop-column.tried c.next.new.self steps.1 progress.2 c.loop-column.invariant.so_far
+      so_far = tried_same c.loop-column.column-iterator c.in-Some.column.items steps.0 c.args.mode Ns c.args.found.now
+          c.loop-column.found c.loop-column.tried c.next.new.self steps.1 progress.2 c.loop-column.invariant.so_far
           (λ avoids. none (subst (λ (P : Rep). Avoids Ns (followed_by P c.in-Some.column.items)) c.loop-column.invariant.same avoids));
     }
 
@@ -60,12 +64,14 @@ loop-column-preserved-in-Some-2 c =
     let k : ChildrenOf = record { parent = c.args.parent.now; mode = c.args.mode; forbidden = Ns } in
     let answer : IsAnswer k c.in-Some.column.items c.in_ok-child.field-0 =
     subst (λ (k : ChildrenOf). IsAnswer k c.in-Some.column.items c.in_ok-child.field-0) c.loop-column.invariant.children
-    (answer_of c.loop-column.children c.in-Some.column.items c.in_ok-child.field-0 c.in_ok-child.ensures.none c.in_ok-child.ensures.avoids c.in_ok-child.ensures.form c.in_ok-child.ensures.equivalent) in
+    (answer_of c.loop-column.children c.in-Some.column.items c.in_ok-child.field-0 c.in_ok-child.ensures.none
+    c.in_ok-child.ensures.avoids c.in_ok-child.ensures.form c.in_ok-child.ensures.equivalent) in
     let h : IsChildOf k c.in-Some.column.items c.in-Some-2.child = subst (IsAnswer k c.in-Some.column.items) c.in-Some-2.is answer in
     record {
       same = ap (λ (columns : ColumnsAfter). columns.parent) steps.1 ∙ c.loop-column.invariant.same;
       children = c.child.ensures.same ∙ c.loop-column.invariant.children;
-      so_far = tried_more c.loop-column.column-iterator c.in-Some.column.items steps.0 c.args.mode Ns c.args.found.now c.loop-column.found c.loop-column.tried c.next.new.self steps.1 progress.2 c.loop-column.invariant.so_far
+      so_far = tried_more c.loop-column.column-iterator c.in-Some.column.items steps.0 c.args.mode Ns c.args.found.now
+          c.loop-column.found c.loop-column.tried c.next.new.self steps.1 progress.2 c.loop-column.invariant.so_far
           (subst (λ (P : Rep). Avoids Ns (followed_by P c.in-Some.column.items)) (sym c.loop-column.invariant.same) h.avoids)
           c.insert.new.self c.in-Some-2.child.columns
           (subst (λ (P : Rep). IsChild c.args.mode P c.in-Some.column.items c.in-Some-2.child.columns) (sym c.loop-column.invariant.same)
@@ -77,10 +83,12 @@ pub returns-clause-count : goal.returns-clause-count
 returns-clause-count c =
     let Ns : List Matroid = matroids_of c.args.forbidden.now in
     subst (λ (P : Rep). IsCount (IsCandidate Ns P) c.loop-column.tried) c.loop-column.invariant.same
-    (tried_count c.args.mode Ns c.args.found.now c.loop-column.found c.loop-column.column-iterator c.loop-column.tried c.loop-column.invariant.so_far c.in-None.ensures.steps.0)
+    (tried_count c.args.mode Ns c.args.found.now c.loop-column.found c.loop-column.column-iterator c.loop-column.tried
+    c.loop-column.invariant.so_far c.in-None.ensures.steps.0)
 
 pub returns-clause-forms : goal.returns-clause-forms
 returns-clause-forms c =
     let Ns : List Matroid = matroids_of c.args.forbidden.now in
     subst (λ (P : Rep). AddsChildren c.args.mode Ns P c.args.found.now c.loop-column.found) c.loop-column.invariant.same
-    (tried_all c.args.mode Ns c.args.found.now c.loop-column.found c.loop-column.column-iterator c.loop-column.tried c.loop-column.invariant.so_far c.in-None.ensures.steps.0)
+    (tried_all c.args.mode Ns c.args.found.now c.loop-column.found c.loop-column.column-iterator c.loop-column.tried
+    c.loop-column.invariant.so_far c.in-None.ensures.steps.0)

@@ -7,12 +7,14 @@ use Rattle.level_driver.proofs.growth.child.Goals as goal
 
 pub returns-then-not-avoids-clause-none : goal.returns-then-not-avoids-clause-none
 returns-then-not-avoids-clause-none c = λ none avoids.
-    let same : c.push_column.new.self ≡ followed_by c.args.parent.now c.args.column.now.items = c.push_column.ensures ∙ ap (λ (P : Rep). followed_by P c.args.column.now.items) c.copy-candidate.ensures in
+    let same : c.push_column.new.self ≡ followed_by c.args.parent.now c.args.column.now.items = c.push_column.ensures
+    ∙ ap (λ (P : Rep). followed_by P c.args.column.now.items) c.copy-candidate.ensures in
     let yes = c.avoids.ensures.1 (subst (Avoids (matroids_of c.args.forbidden.now)) (sym same) avoids) in
     let no = c.if-not-avoids.true in
     cc (yes, no)
 
 pub returns-clause-avoids : goal.returns-clause-avoids
 returns-clause-avoids c = λ some.
-    let same : c.push_column.new.self ≡ followed_by c.args.parent.now c.args.column.now.items = c.push_column.ensures ∙ ap (λ (P : Rep). followed_by P c.args.column.now.items) c.copy-candidate.ensures in
+    let same : c.push_column.new.self ≡ followed_by c.args.parent.now c.args.column.now.items = c.push_column.ensures
+    ∙ ap (λ (P : Rep). followed_by P c.args.column.now.items) c.copy-candidate.ensures in
     subst (Avoids (matroids_of c.args.forbidden.now)) same (c.avoids.ensures.0 c.if-not-avoids.false)

@@ -19,8 +19,10 @@ add_children-requires c =
     let q : Request = c.args.request.now in
     let Ns : List Matroid = matroids_of c.forbid-forbidden.result.now in
     let parents : List Rep = c.args.parents.now in
-    let l : c.loop-parent.parent-index < length parents = subst (λ (xs : List Rep). c.loop-parent.parent-index < length xs) c.as_slice-parent-items.ensures c.loop-parent-test.true in
-    let is : c.parent-item.result ≡ get_or parents c.loop-parent.parent-index c.parent-item.result = c.parent-item.is ∙ ap (λ (xs : List Rep). get_or xs c.loop-parent.parent-index c.parent-item.result) c.as_slice-parent-items.ensures in
+    let l : c.loop-parent.parent-index < length parents =
+    subst (λ (xs : List Rep). c.loop-parent.parent-index < length xs) c.as_slice-parent-items.ensures c.loop-parent-test.true in
+    let is : c.parent-item.result ≡ get_or parents c.loop-parent.parent-index c.parent-item.result = c.parent-item.is
+    ∙ ap (λ (xs : List Rep). get_or xs c.loop-parent.parent-index c.parent-item.result) c.as_slice-parent-items.ensures in
     each_parent q Ns c.forbid-forbidden.ensures.given c.laws.ensures.factors c.laws.ensures.limits c.requires.0 parents c.requires.1 c.parent-item.result
     (subst (Contains parents) (sym is) (Contains-get_or parents c.loop-parent.parent-index c.parent-item.result l))
 
@@ -29,12 +31,18 @@ loop-parent-preserved c =
     let q : Request = c.args.request.now in
     let Ns : List Matroid = matroids_of c.forbid-forbidden.result.now in
     let parents : List Rep = c.args.parents.now in
-    let l : c.loop-parent.parent-index < length parents = subst (λ (xs : List Rep). c.loop-parent.parent-index < length xs) c.as_slice-parent-items.ensures c.loop-parent-test.true in
-    let is : c.parent-item.result ≡ get_or parents c.loop-parent.parent-index c.parent-item.result = c.parent-item.is ∙ ap (λ (xs : List Rep). get_or xs c.loop-parent.parent-index c.parent-item.result) c.as_slice-parent-items.ensures in
+    let l : c.loop-parent.parent-index < length parents =
+    subst (λ (xs : List Rep). c.loop-parent.parent-index < length xs) c.as_slice-parent-items.ensures c.loop-parent-test.true in
+    let is : c.parent-item.result ≡ get_or parents c.loop-parent.parent-index c.parent-item.result = c.parent-item.is
+    ∙ ap (λ (xs : List Rep). get_or xs c.loop-parent.parent-index c.parent-item.result) c.as_slice-parent-items.ensures in
     record {
-      so_far = subst (λ (k : ℕ). HasGrown c.mode-mode.result Ns (take (c.loop-parent.parent-index + 1) parents) (c.loop-parent.tried + k) c.add_children.new.found) (sym c.from.ensures)
-          (grown_step c.mode-mode.result Ns parents (parents_rise q Ns c.forbid-forbidden.ensures.given c.laws.ensures.factors c.laws.ensures.limits c.requires.0 parents c.requires.1) c.loop-parent.parent-index c.parent-item.result l is
-          c.loop-parent.tried c.in_ok-add_children.field-0 c.loop-parent.found c.add_children.new.found c.loop-parent.invariant.so_far c.in_ok-add_children.ensures.count c.in_ok-add_children.ensures.forms);
+      so_far = subst (λ (k : ℕ). HasGrown c.mode-mode.result Ns (take (c.loop-parent.parent-index + 1) parents)
+          (c.loop-parent.tried + k) c.add_children.new.found) (sym c.from.ensures)
+          (grown_step c.mode-mode.result Ns parents
+          (parents_rise q Ns c.forbid-forbidden.ensures.given c.laws.ensures.factors c.laws.ensures.limits c.requires.0 parents
+          c.requires.1) c.loop-parent.parent-index c.parent-item.result l is
+          c.loop-parent.tried c.in_ok-add_children.field-0 c.loop-parent.found c.add_children.new.found
+          c.loop-parent.invariant.so_far c.in_ok-add_children.ensures.count c.in_ok-add_children.ensures.forms);
       few = (let e = c.from.ensures in omega arith);
     }
 
@@ -43,10 +51,12 @@ to_list-requires c =
     let q : Request = c.args.request.now in
     let Ns : List Matroid = matroids_of c.forbid-forbidden.result.now in
     let parents : List Rep = c.args.parents.now in
-    let done : length parents ≤ c.loop-parent.parent-index = subst (λ (xs : List Rep). length xs ≤ c.loop-parent.parent-index) c.as_slice-parent-items.ensures c.loop-parent-test.false in
+    let done : length parents ≤ c.loop-parent.parent-index =
+    subst (λ (xs : List Rep). length xs ≤ c.loop-parent.parent-index) c.as_slice-parent-items.ensures c.loop-parent-test.false in
     subst (λ (factors : List ℕ). All (λ cs. KeepsLimits (rep_of factors c.rank-rank.result cs)) c.loop-parent.found) (sym c.factors.ensures)
     (subst (λ (rank : ℕ). All (λ cs. KeepsLimits (rep_of q.factors rank cs)) c.loop-parent.found) (sym c.rank-rank.ensures)
-    (each_rep q Ns c.forbid-forbidden.ensures.given c.laws.ensures.factors c.laws.ensures.limits c.requires.0 parents c.requires.1 c.loop-parent.tried c.loop-parent.found
+    (each_rep q Ns c.forbid-forbidden.ensures.given c.laws.ensures.factors c.laws.ensures.limits c.requires.0 parents c.requires.1
+    c.loop-parent.tried c.loop-parent.found
     (subst (λ (mode : Mode). HasGrown mode Ns parents c.loop-parent.tried c.loop-parent.found) c.mode-mode.ensures
     (grown_all c.mode-mode.result Ns parents c.loop-parent.parent-index c.loop-parent.tried c.loop-parent.found done c.loop-parent.invariant.so_far))))
 
@@ -55,9 +65,11 @@ returns-clause-forms c n h =
     let q : Request = c.args.request.now in
     let Ns : List Matroid = matroids_of c.forbid-forbidden.result.now in
     let parents : List Rep = c.args.parents.now in
-    let done : length parents ≤ c.loop-parent.parent-index = subst (λ (xs : List Rep). length xs ≤ c.loop-parent.parent-index) c.as_slice-parent-items.ensures c.loop-parent-test.false in
+    let done : length parents ≤ c.loop-parent.parent-index =
+    subst (λ (xs : List Rep). length xs ≤ c.loop-parent.parent-index) c.as_slice-parent-items.ensures c.loop-parent-test.false in
     let forms : List Rep = map (rep_of q.factors q.rank) c.loop-parent.found in
-    let is : c.in_ok-forms.forms ≡ forms = c.in_ok-forms.ensures.forms ∙ (λ i. map (rep_of (c.factors.ensures i) (c.rank-rank.ensures i)) c.loop-parent.found) in
+    let is : c.in_ok-forms.forms ≡ forms = c.in_ok-forms.ensures.forms
+    ∙ (λ i. map (rep_of (c.factors.ensures i) (c.rank-rank.ensures i)) c.loop-parent.found) in
     subst (λ (forms : List Rep). IsLevelOf q (n + 1) forms) (sym is)
     (level_grown q Ns c.forbid-forbidden.ensures.given c.laws.ensures.factors c.laws.ensures.limits n parents h c.loop-parent.tried c.loop-parent.found
     (subst (λ (mode : Mode). HasGrown mode Ns parents c.loop-parent.tried c.loop-parent.found) c.mode-mode.ensures
@@ -69,7 +81,8 @@ returns-clause-tried c n h =
     let q : Request = c.args.request.now in
     let Ns : List Matroid = matroids_of c.forbid-forbidden.result.now in
     let parents : List Rep = c.args.parents.now in
-    let done : length parents ≤ c.loop-parent.parent-index = subst (λ (xs : List Rep). length xs ≤ c.loop-parent.parent-index) c.as_slice-parent-items.ensures c.loop-parent-test.false in
+    let done : length parents ≤ c.loop-parent.parent-index =
+    subst (λ (xs : List Rep). length xs ≤ c.loop-parent.parent-index) c.as_slice-parent-items.ensures c.loop-parent-test.false in
     tries_grown q Ns c.forbid-forbidden.ensures.given c.laws.ensures.factors c.laws.ensures.limits n parents h c.loop-parent.tried c.loop-parent.found
     (subst (λ (mode : Mode). HasGrown mode Ns parents c.loop-parent.tried c.loop-parent.found) c.mode-mode.ensures
     (grown_all c.mode-mode.result Ns parents c.loop-parent.parent-index c.loop-parent.tried c.loop-parent.found done c.loop-parent.invariant.so_far))

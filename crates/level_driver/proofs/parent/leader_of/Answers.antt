@@ -7,5 +7,6 @@ returns-in-Equal c =
     let t = c.loop-low-test.true in
     let h = c.loop-low.invariant in (
       (c.loop-low.low + (c.loop-low.high - c.loop-low.low) / 2, omega arith, sym c.index-leaders-middle.is),
-      sym c.as_slice.ensures.value ∙ exact_bytes c.as_slice.result.now c.as_slice-in-loop-low.result.now (sym c.in-Equal.ensures) ∙ c.as_slice-in-loop-low.ensures.value,
+      sym c.as_slice.ensures.value ∙ exact_bytes c.as_slice.result.now c.as_slice-in-loop-low.result.now (sym c.in-Equal.ensures)
+          ∙ c.as_slice-in-loop-low.ensures.value,
     )

@@ -11,7 +11,8 @@ use Rattle.level_driver.proofs.shown.listed.Goals.{then-passes_all+in_ok-push, e
 
 pub passes_all-requires-clause-agrees : goal.passes_all-requires-clause-agrees
 passes_all-requires-clause-agrees c =
-    form_agrees c.args.request.now (map (λ item. item.matroid) c.forbid.result.now) c.forbid.ensures.given c.requires.0 c.args.forms.now c.requires.1 c.loop-i.i c.form-item.result
+    form_agrees c.args.request.now (map (λ item. item.matroid) c.forbid.result.now) c.forbid.ensures.given c.requires.0
+    c.args.forms.now c.requires.1 c.loop-i.i c.form-item.result
     (stands_at c.args.forms.now c.as_slice-form-items.result.now c.loop-i.i c.form-item.result c.as_slice-form-items.ensures c.loop-i-test.true c.form-item.is)
 
 pub loop-i-preserved : goal.loop-i-preserved
@@ -22,14 +23,17 @@ loop-i-preserved c = λ n family filters grows keeps level.
     stands_at c.args.forms.now c.as_slice-form-items.result.now c.loop-i.i c.form-item.result c.as_slice-form-items.ensures c.loop-i-test.true c.form-item.is in
     let told =
     tells c.args.request.now c.filters-filters.result.now
-    (record { connected = e.connected; three = e.three; cosimple = e.cosimple; distinct = e.distinct; given = e.given }) c.args.forms.now c.loop-i.i c.form-item.result at c.passes_all.result
+    (record { connected = e.connected; three = e.three; cosimple = e.cosimple; distinct = e.distinct; given = e.given })
+    c.args.forms.now c.loop-i.i c.form-item.result at c.passes_all.result
     (told_by c.filters-filters.result.now c.args.forms.now c.deref.result.now
-    (λ compared. same_lists c.as_slice.result.now c.args.forms.now c.in_ok-lists.lists.items c.deref.result.now c.as_slice.ensures c.deref.ensures.value (c.in_ok-lists.ensures compared)) c.loop-i.i c.form-item.result at c.passes_all.result c.passes_all.ensures)
+    (λ compared. same_lists c.as_slice.result.now c.args.forms.now c.in_ok-lists.lists.items c.deref.result.now c.as_slice.ensures
+    c.deref.ensures.value (c.in_ok-lists.ensures compared)) c.loop-i.i c.form-item.result at c.passes_all.result c.passes_all.ensures)
     n family filters c.form-item.result grows keeps level at in
     let so_far = c.loop-i.invariant n family filters grows keeps level in
     elim c.if-passes_all.branch [
       | then-passes_all+in_ok-push w ↦ subst (λ (ms : List Rep). AreThose P (take (c.loop-i.i + 1) c.args.forms.now) ms)
-          (sym (ap (λ v. map (λ form. form.now) v.items) w.shown-is ∙ ap (map (λ form. form.now)) w.in_ok-push.ensures.items ∙ map_push (λ form. form.now) c.loop-i.shown.items _))
+          (sym (ap (λ v. map (λ form. form.now) v.items) w.shown-is ∙ ap (map (λ form. form.now)) w.in_ok-push.ensures.items
+          ∙ map_push (λ form. form.now) c.loop-i.shown.items _))
           (next_kept P c.args.forms.now _ c.loop-i.i c.form-item.result at so_far (told.0 w.if-passes_all.true))
       | else-passes_all w ↦ subst (λ (ms : List Rep). AreThose P (take (c.loop-i.i + 1) c.args.forms.now) ms)
           (sym (ap (λ v. map (λ form. form.now) v.items) w.shown-is))
@@ -38,4 +42,5 @@ loop-i-preserved c = λ n family filters grows keeps level.
 
 pub returns : goal.returns
 returns c = λ n family filters grows keeps level.
-    all_seen (IsLevelForm family n) (Passes family n filters) c.args.forms.now _ c.loop-i.i (omega (arith, ap length c.as_slice-form-items.ensures)) (c.loop-i.invariant n family filters grows keeps level) level
+    all_seen (IsLevelForm family n) (Passes family n filters) c.args.forms.now _ c.loop-i.i
+    (omega (arith, ap length c.as_slice-form-items.ensures)) (c.loop-i.invariant n family filters grows keeps level) level

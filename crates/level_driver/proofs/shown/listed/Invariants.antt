@@ -6,4 +6,5 @@ use Rattle.level_driver.proofs.shown.listed.Given as goal
 
 -- of the forms so far those that pass are shown
 abbrev pub invariant-loop-i : goal.invariant-loop-i
-invariant-loop-i l = (n : ℕ) (family : Family) (filters : Filters) → Grows l.request family → Keeps l.request filters → IsLevel family n l.forms → AreThose (Passes family n filters) (take l.i l.forms) (map (λ form. form.now) l.shown.items)
+invariant-loop-i l = (n : ℕ) (family : Family) (filters : Filters) → Grows l.request family → Keeps l.request filters →
+    IsLevel family n l.forms → AreThose (Passes family n filters) (take l.i l.forms) (map (λ form. form.now) l.shown.items)

@@ -59,7 +59,15 @@ returns-in-None-clause-ok c =
     let q = c.args.request.now in
     let some : 0 < level_count q = omega (arith, c.laws.ensures.limits.size) in
     let all : length c.loop-size.levels ≡ level_count q =
-    omega (arith, c.loop-size.invariant.next, c.loop-size-test.false, c.loop-size.auto.size-end, c.rank-size.ensures, c.size-size-end.ensures, c.laws.ensures.limits.size) in
+    omega (
+      arith,
+      c.loop-size.invariant.next,
+      c.loop-size-test.false,
+      c.loop-size.auto.size-end,
+      c.rank-size.ensures,
+      c.size-size-end.ensures,
+      c.laws.ensures.limits.size,
+    ) in
     all_read q c.args.text.now c.requires some c.loop-size.levels c.loop-size.rest.now c.loop-size.invariant.read all c.in-None.ensures
 
 pub returns-in-Some-clause-broken : goal.returns-in-Some-clause-broken
@@ -67,5 +75,13 @@ returns-in-Some-clause-broken c =
     let q = c.args.request.now in
     let some : 0 < level_count q = omega (arith, c.laws.ensures.limits.size) in
     let all : length c.loop-size.levels ≡ level_count q =
-    omega (arith, c.loop-size.invariant.next, c.loop-size-test.false, c.loop-size.auto.size-end, c.rank-size.ensures, c.size-size-end.ensures, c.laws.ensures.limits.size) in
+    omega (
+      arith,
+      c.loop-size.invariant.next,
+      c.loop-size-test.false,
+      c.loop-size.auto.size-end,
+      c.rank-size.ensures,
+      c.size-size-end.ensures,
+      c.laws.ensures.limits.size,
+    ) in
     parts_at_all q c.args.text.now c.requires some c.loop-size.levels c.loop-size.rest.now c.loop-size.invariant.read c.in-Some.left all c.in-Some.ensures

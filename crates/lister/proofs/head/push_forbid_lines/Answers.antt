@@ -16,9 +16,13 @@ loop-item-preserved c =
           c.push_forbid_line.ensures.bytes
           ∙ ap (λ (l : List ℕ). l ++ entry_text (Forbids (named_by c.item-item.result.spelling))) c.loop-item.invariant.so_far
           ∙ append_assoc c.args.head.now.items before _
-          ∙ ap (λ (l : List ℕ). c.args.head.now.items ++ l) (ap (λ (x : NamedMatroid). before ++ entry_text (Forbids (named_by x.spelling))) c.item-item.is ∙ sym (forbid_more items c.loop-item.item-index c.item-item.result c.loop-item-test.true));
+          ∙ ap (λ (l : List ℕ). c.args.head.now.items ++ l)
+          (ap (λ (x : NamedMatroid). before ++ entry_text (Forbids (named_by x.spelling))) c.item-item.is
+          ∙ sym (forbid_more items c.loop-item.item-index c.item-item.result c.loop-item-test.true));
       room = omega arith;
     }
 
 pub returns-clause-bytes : goal.returns-clause-bytes
-returns-clause-bytes c = c.loop-item.invariant.so_far ∙ ap (λ (items : List NamedMatroid). c.args.head.now.items ++ text_of_statements (map Forbids (minors_of items))) (take_all c.loop-item.item-index c.args.items.now c.loop-item-test.false)
+returns-clause-bytes c = c.loop-item.invariant.so_far
+    ∙ ap (λ (items : List NamedMatroid). c.args.head.now.items ++ text_of_statements (map Forbids (minors_of items)))
+    (take_all c.loop-item.item-index c.args.items.now c.loop-item-test.false)

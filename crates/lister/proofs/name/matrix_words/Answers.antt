@@ -17,7 +17,8 @@ pub loop-column-preserved : goal.loop-column-preserved
 loop-column-preserved c =
     let columns = c.columns-column-items.result.now in
     let at = slice_index_or columns c.loop-column.column-index c.column-item.result in
-    let word : c.as_slice.result.now ≡ column_word at.items = c.as_slice.ensures.value ∙ c.column_word.ensures ∙ ap (λ column. column_word column.items) c.column-item.is in
+    let word : c.as_slice.result.now ≡ column_word at.items = c.as_slice.ensures.value ∙ c.column_word.ensures
+    ∙ ap (λ column. column_word column.items) c.column-item.is in
     record {
       so_far =
           c.push_bytes-in-loop-column.ensures

@@ -6,36 +6,49 @@ use Rattle.macek_run.proofs.Begun.{none_begun, first_begun, first_stopped, next_
 use Rattle.macek_run.proofs.listing.write_levels.Goals as goal
 
 pub returns-in_default-clause-err : goal.returns-in_default-clause-err
-returns-in_default-clause-err g c = none_begun c.args.request.now (g.K.Sink.held c.args.sink.now) (g.K.Sink.held c.args.sink.now) (omega (arith, c.laws.ensures.limits.size))
+returns-in_default-clause-err g c = none_begun c.args.request.now (g.K.Sink.held c.args.sink.now) (g.K.Sink.held c.args.sink.now)
+    (omega (arith, c.laws.ensures.limits.size))
 
 pub returns-in-Err-clause-err : goal.returns-in-Err-clause-err
 returns-in-Err-clause-err g c =
-    first_stopped c.args.request.now (g.K.Sink.held c.args.sink.now) (g.K.Sink.held c.write_level.new.sink) (omega (arith, c.laws.ensures.limits.size)) c.rank-rank.result c.rank-rank.ensures c.as_slice.result.now (c.as_slice.ensures.value ∙ c.head_text-head.ensures)
+    first_stopped c.args.request.now (g.K.Sink.held c.args.sink.now) (g.K.Sink.held c.write_level.new.sink)
+    (omega (arith, c.laws.ensures.limits.size)) c.rank-rank.result c.rank-rank.ensures c.as_slice.result.now
+    (c.as_slice.ensures.value ∙ c.head_text-head.ensures)
     c.in-Err.why (λ is. c.in-Err.ensures.failed (ap Err is)) (λ is. ap g.K.Sink.held (c.in-Err.ensures.no_memory (ap Err is)))
 
 pub loop-size-init : goal.loop-size-init
 loop-size-init g c = record {
-  begun = first_begun c.args.request.now (g.K.Sink.held c.args.sink.now) (g.K.Sink.held c.write_level.new.sink) (omega (arith, c.laws.ensures.limits.size)) c.rank-rank.result c.rank-rank.ensures c.as_slice.result.now (c.as_slice.ensures.value ∙ c.head_text-head.ensures) c.in_default-write_level.ensures.ok;
+  begun = first_begun c.args.request.now (g.K.Sink.held c.args.sink.now) (g.K.Sink.held c.write_level.new.sink)
+      (omega (arith, c.laws.ensures.limits.size)) c.rank-rank.result c.rank-rank.ensures c.as_slice.result.now
+      (c.as_slice.ensures.value ∙ c.head_text-head.ensures) c.in_default-write_level.ensures.ok;
   level = subst (λ n. IsLevelOf c.args.request.now n c.in-Ok.level.forms) (sym c.rank-rank.ensures) c.in-Ok.ensures.forms;
   kept = c.in_default-write_level.ensures.kept;
 }
 
 pub write_level-requires-in-loop-size-clause-forms :
     goal.write_level-requires-in-loop-size-clause-forms
-write_level-requires-in-loop-size-clause-forms g c = c.in-Ok-grow.ensures.forms c.loop-size.size (record { at_least = omega arith; before = omega arith; level = c.loop-size.invariant.level })
+write_level-requires-in-loop-size-clause-forms g c = c.in-Ok-grow.ensures.forms c.loop-size.size
+    (record { at_least = omega arith; before = omega arith; level = c.loop-size.invariant.level })
 
 pub returns-in-Err-write_level-clause-err : goal.returns-in-Err-write_level-clause-err
 returns-in-Err-write_level-clause-err g c =
     let whole : c.loop-size.size + 1 - c.args.request.now.rank ≡ c.from-whole.result + 1 = omega arith in
-    subst (λ n. Gains (g.K.Sink.held c.args.sink.now) (g.K.Sink.held c.write_level-in-loop-size.new.sink) (IsLess c.in-Err-write_level.why c.args.request.now n)) whole
-    (next_stopped c.args.request.now c.loop-size.size (g.K.Sink.held c.args.sink.now) (g.K.Sink.held c.loop-size.sink) c.loop-size.invariant.begun (omega arith) (omega arith) (g.K.Sink.held c.write_level-in-loop-size.new.sink) c.in-Err-write_level.why (λ is. c.in-Err-write_level.ensures.failed (ap Err is)) (λ is. ap g.K.Sink.held (c.in-Err-write_level.ensures.no_memory (ap Err is))))
+    subst (λ n. Gains (g.K.Sink.held c.args.sink.now) (g.K.Sink.held c.write_level-in-loop-size.new.sink)
+    (IsLess c.in-Err-write_level.why c.args.request.now n)) whole
+    (next_stopped c.args.request.now c.loop-size.size (g.K.Sink.held c.args.sink.now)
+    (g.K.Sink.held c.loop-size.sink) c.loop-size.invariant.begun (omega arith) (omega arith)
+    (g.K.Sink.held c.write_level-in-loop-size.new.sink) c.in-Err-write_level.why
+    (λ is. c.in-Err-write_level.ensures.failed (ap Err is)) (λ is. ap g.K.Sink.held (c.in-Err-write_level.ensures.no_memory (ap Err is))))
 
 pub loop-size-preserved : goal.loop-size-preserved
 loop-size-preserved g c = record {
-  begun = next_begun c.args.request.now c.loop-size.size (g.K.Sink.held c.args.sink.now) (g.K.Sink.held c.loop-size.sink) c.loop-size.invariant.begun (omega arith) (omega arith) (g.K.Sink.held c.write_level-in-loop-size.new.sink) c.in_default-write_level-2.ensures.ok;
+  begun = next_begun c.args.request.now c.loop-size.size (g.K.Sink.held c.args.sink.now)
+      (g.K.Sink.held c.loop-size.sink) c.loop-size.invariant.begun (omega arith) (omega arith)
+      (g.K.Sink.held c.write_level-in-loop-size.new.sink) c.in_default-write_level-2.ensures.ok;
   level = c.in-Ok-grow.ensures.forms c.loop-size.size (record { at_least = omega arith; before = omega arith; level = c.loop-size.invariant.level });
   kept = c.in_default-write_level-2.ensures.kept ∙ c.loop-size.invariant.kept;
 }
 
 pub returns-clause-ok : goal.returns-clause-ok
-returns-clause-ok g c = all_begun c.args.request.now c.loop-size.size (g.K.Sink.held c.args.sink.now) (g.K.Sink.held c.loop-size.sink) c.loop-size.invariant.begun (omega arith) (omega arith)
+returns-clause-ok g c = all_begun c.args.request.now c.loop-size.size (g.K.Sink.held c.args.sink.now)
+    (g.K.Sink.held c.loop-size.sink) c.loop-size.invariant.begun (omega arith) (omega arith)

@@ -37,14 +37,16 @@ write_level-requires-in-loop-size-clause-forms g c =
 pub returns-in-Err-write_level-clause-err : goal.returns-in-Err-write_level-clause-err
 returns-in-Err-write_level-clause-err g c =
     let whole : c.loop-size.size + 1 - c.args.request.now.rank ≡ c.from-whole.result + 1 = omega arith in
-    subst (λ n. Gains (g.K.Sink.held c.args.sink.now) (g.K.Sink.held c.write_level-in-loop-size.new.sink) (IsLess c.in-Err-write_level.why c.args.request.now n)) whole
+    subst (λ n. Gains (g.K.Sink.held c.args.sink.now) (g.K.Sink.held c.write_level-in-loop-size.new.sink)
+    (IsLess c.in-Err-write_level.why c.args.request.now n)) whole
     (next_stopped c.args.request.now c.loop-size.size (g.K.Sink.held c.args.sink.now) (g.K.Sink.held c.loop-size.sink) c.loop-size.invariant.begun (omega arith)
     (omega arith) (g.K.Sink.held c.write_level-in-loop-size.new.sink) c.in-Err-write_level.why (λ is. c.in-Err-write_level.ensures.failed (ap Err is))
     (λ is. ap g.K.Sink.held (c.in-Err-write_level.ensures.no_memory (ap Err is))))
 
 pub returns-in-Err-write_level-clause-leaves : goal.returns-in-Err-write_level-clause-leaves
 returns-in-Err-write_level-clause-leaves g c =
-    left_grown c.in-Err-write_level.why c.args.request.now (c.from-whole.result + 1) (c.loop-size.size + 1) c.args.store.now c.grow.new.store (omega arith) (omega arith)
+    left_grown c.in-Err-write_level.why c.args.request.now (c.from-whole.result + 1)
+    (c.loop-size.size + 1) c.args.store.now c.grow.new.store (omega arith) (omega arith)
     (more_closed c.args.request.now c.loop-size.size c.args.store.now c.grow.new.store (omega arith)
     (c.in-Ok-grow.ensures.holds c.loop-size.size (record { at_least = omega arith; before = omega arith; level = c.loop-size.invariant.level })))
 
@@ -53,7 +55,8 @@ loop-size-preserved g c =
     let h : IsParentLevel c.args.request.now c.loop-size.size c.loop-size.level.forms =
     record { at_least = omega arith; before = omega arith; level = c.loop-size.invariant.level } in
     record {
-      begun = next_begun c.args.request.now c.loop-size.size (g.K.Sink.held c.args.sink.now) (g.K.Sink.held c.loop-size.sink) c.loop-size.invariant.begun (omega arith)
+      begun = next_begun c.args.request.now c.loop-size.size (g.K.Sink.held c.args.sink.now)
+          (g.K.Sink.held c.loop-size.sink) c.loop-size.invariant.begun (omega arith)
           (omega arith) (g.K.Sink.held c.write_level-in-loop-size.new.sink) c.in_default-write_level-2.ensures.ok;
       level = c.in-Ok-grow.ensures.forms c.loop-size.size h;
       kept = c.in_default-write_level-2.ensures.kept ∙ c.loop-size.invariant.kept;

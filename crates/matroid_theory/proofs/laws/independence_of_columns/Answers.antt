@@ -7,7 +7,8 @@ use Rattle.matroid_theory.proofs.Bases.{smaller_independent, augmentation, excha
 use Rattle.matroid_theory.proofs.laws.independence_of_columns.Goals as goal
 
 pub returns-clause-parts : goal.returns-clause-parts
-returns-clause-parts c = λ q r n A I J h within. smaller_independent q r n A I J (λ j l f. elim (cases_Bool (I j)) [ inl t ↦ absurd (true≢false (sym (within j l t) ∙ f)) | inr g ↦ g ]) h
+returns-clause-parts c = λ q r n A I J h within. smaller_independent q r n A I J
+    (λ j l f. elim (cases_Bool (I j)) [ inl t ↦ absurd (true≢false (sym (within j l t) ∙ f)) | inr g ↦ g ]) h
 
 pub returns-clause-augmentation : goal.returns-clause-augmentation
 returns-clause-augmentation c = λ q r n A I J F codes. augmentation q F r n A codes I J

@@ -15,8 +15,10 @@ use Rattle.minor_test.proofs.search.+complete.Goals.{then-is_next+else-is_some, 
 pub returns-then-len-size-clause-found : goal.returns-then-len-size-clause-found
 returns-then-len-size-clause-found t c =
     let e : length c.args.images.now.list.items ≡ c.args.minor.now.size = sym c.len.ensures.value ∙ c.if-len-size.true ∙ c.size.ensures.value in
-    subst (λ (xs : List ℕ). IsMinorBy c.args.minor.now c.args.rep.now (slice_index xs) (members c.args.contracted)) (sym (c.list_of.ensures ∙ c.as_slice.ensures.value))
-    (subst (λ (n : ℕ). IsMinorBy (first c.args.minor.now n) c.args.rep.now (slice_index c.args.images.now.list.items) (members c.args.contracted)) e c.requires.images.embedding)
+    subst (λ (xs : List ℕ). IsMinorBy c.args.minor.now c.args.rep.now (slice_index xs) (members c.args.contracted))
+    (sym (c.list_of.ensures ∙ c.as_slice.ensures.value))
+    (subst (λ (n : ℕ). IsMinorBy (first c.args.minor.now n) c.args.rep.now (slice_index c.args.images.now.list.items)
+    (members c.args.contracted)) e c.requires.images.embedding)
 
 -- there are elements without an image
 room : (n s len size : ℕ) → n ≤ s → len ≡ n → size ≡ s → ¬ (len ≡ size) → n < s
@@ -34,17 +36,22 @@ longer_below X longer list j e l =
 
 pub loop-image-preserved : goal.loop-image-preserved
 loop-image-preserved t c = record {
-  done = below_more (λ j. c.first_image-first.result ≤ j → IsDone c.args.minor.now c.args.rep.now c.args.tables.now.twins.items c.args.contracted c.args.images.now.list.items j) c.loop-image.image c.loop-image.invariant.done
+  done = below_more (λ j. c.first_image-first.result ≤ j →
+      IsDone c.args.minor.now c.args.rep.now c.args.tables.now.twins.items c.args.contracted c.args.images.now.list.items j)
+      c.loop-image.image c.loop-image.invariant.done
       (λ _ f b k h. elim c.if-is_next.branch [
         | then-is_next+else-is_some w ↦ w.complete-found.ensures.none (nothing w.complete-found.result (sym w.is_some.ensures ∙ w.if-is_some.false)) f
             (subst (λ (xs : List ℕ). BeginsWith xs f) (sym w.with_next-longer.ensures.list) b) k h
         | else-is_next w ↦ false≢true (sym w.if-is_next.false ∙ c.is_next.ensures.1
             (next_of c.args.minor.now c.args.rep.now c.args.contracted c.args.images.now.list.items c.loop-image.image f
-            (room (length c.args.images.now.list.items) c.args.minor.now.size c.len.result c.size.result c.requires.images.few c.len.ensures.value c.size.ensures.value c.if-len-size.false) b h))
+            (room (length c.args.images.now.list.items) c.args.minor.now.size c.len.result c.size.result c.requires.images.few
+            c.len.ensures.value c.size.ensures.value c.if-len-size.false) b h))
       ]);
   kept = λ X l. elim c.if-is_next.branch [
     | then-is_next+else-is_some w ↦ ap (λ (xs : List ℕ). slice_index xs X) w.sets-is
-        ∙ w.complete-found.ensures.kept X (longer_below X w.with_next-longer.result.list.items c.args.images.now.list.items c.loop-image.image w.with_next-longer.ensures.list l)
+        ∙ w.complete-found.ensures.kept X
+        (longer_below X w.with_next-longer.result.list.items c.args.images.now.list.items c.loop-image.image
+        w.with_next-longer.ensures.list l)
         ∙ w.with_next-longer.ensures.kept X l ∙ c.loop-image.invariant.kept X l
     | else-is_next w ↦ ap (λ (xs : List ℕ). slice_index xs X) w.sets-is ∙ c.loop-image.invariant.kept X l
   ];
@@ -59,10 +66,13 @@ least first images list twins items f e d h =
 
 pub returns-clause-none : goal.returns-clause-none
 returns-clause-none t c _ f b k h =
-    let l : length c.args.images.now.list.items < c.args.minor.now.size = room (length c.args.images.now.list.items) c.args.minor.now.size c.len.result c.size.result c.requires.images.few c.len.ensures.value c.size.ensures.value c.if-len-size.false in
+    let l : length c.args.images.now.list.items < c.args.minor.now.size =
+    room (length c.args.images.now.list.items) c.args.minor.now.size c.len.result c.size.result c.requires.images.few
+    c.len.ensures.value c.size.ensures.value c.if-len-size.false in
     let m : f (length c.args.images.now.list.items) < size c.args.rep.now = h.injection.below (length c.args.images.now.list.items) l in
     let e : c.size-image-end.result ≡ size c.args.rep.now = c.size-image-end.ensures.value in
     let g : c.size-image-end.result ≤ c.loop-image.image = c.loop-image-test.false in
     c.loop-image.invariant.done (f (length c.args.images.now.list.items)) (omega arith)
-    (least c.first_image-first.result c.as_slice-3.result.now c.args.images.now.list.items c.as_slice-2.result.now c.args.tables.now.twins.items f c.as_slice-3.ensures.value c.as_slice-2.ensures.value (c.first_image-first.ensures f) b k)
+    (least c.first_image-first.result c.as_slice-3.result.now c.args.images.now.list.items c.as_slice-2.result.now
+    c.args.tables.now.twins.items f c.as_slice-3.ensures.value c.as_slice-2.ensures.value (c.first_image-first.ensures f) b k)
     f (begins_next c.args.images.now.list.items f b) k h

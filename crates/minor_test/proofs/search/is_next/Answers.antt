@@ -9,7 +9,8 @@ use Rattle.minor_test.proofs.NextImage.{room_below, next_from, next_free, next_c
 use Rattle.minor_test.proofs.search.is_next.Goals as goal
 
 -- the first sets are those that are tested
-tested : (tables : Tables) (sets : List ℕ) (j n count : ℕ) → count ≡ n → n ≤ length sets → CarriesNext tables (length (take count sets)) (take count sets) j ↔ CarriesNext tables n sets j
+tested : (tables : Tables) (sets : List ℕ) (j n count : ℕ) → count ≡ n → n ≤ length sets →
+    CarriesNext tables (length (take count sets)) (take count sets) j ↔ CarriesNext tables n sets j
 tested tables sets j n count e l = (
   (λ c X m. sym (at_count X) ∙ c X (subst (λ (y : ℕ). X < y) (sym count_is) m) ∙ at_set X m),
   (λ c X m. let o : X < n = subst (λ (y : ℕ). X < y) count_is m in at_count X ∙ c X o ∙ sym (at_set X o)),
@@ -21,24 +22,39 @@ tested tables sets j n count e l = (
     at_count : (X : ℕ) → has tables.minor.words (length (take count sets) + X) ≡ has tables.minor.words (n + X)
     at_count X = ap (λ y. has tables.minor.words (y + X)) count_is
 
-    at_set : (X : ℕ) → X < n → has tables.whole.words (bit_or (slice_index (take count sets) X) (2 ^ j)) ≡ has tables.whole.words (bit_or (slice_index sets X) (2 ^ j))
+    at_set : (X : ℕ) → X < n → has tables.whole.words (bit_or (slice_index (take count sets) X) (2 ^ j)) ≡ has tables.whole.words
+        (bit_or (slice_index sets X) (2 ^ j))
     at_set X m = ap (λ x. has tables.whole.words (bit_or x (2 ^ j))) (get_or-take count sets X 0 (omega arith))
 
 pub returns-then-not-in_set : goal.returns-then-not-in_set
 returns-then-not-in_set c =
     let s : IsSmallMatroid c.args.minor.now = c.laws-2.ensures in
-    let room : 2 ^ suc (length c.args.images.now.list.items) ≤ 2 ^ 16 = room_below c.args.minor.now.size (length c.args.images.now.list.items) s.size_most c.requires.room in
-    let w = tested c.args.tables.now c.args.sets.now c.args.image (2 ^ length c.args.images.now.list.items) c.reached-count.result c.reached-count.ensures.value (let l : c.reached-count.result ≤ 512 = c.reached-count.ensures.few in let e : c.reached-count.result ≡ 2 ^ length c.args.images.now.list.items = c.reached-count.ensures.value in let f : length c.args.sets.now ≡ 1024 = c.requires.sets in omega arith) in (
-      (λ t. next_from c.args.minor.now c.args.rep.now c.args.contracted (length c.args.images.now.list.items) c.args.images.now c.args.sets.now c.args.image refl c.requires.images c.requires.image c.args.tables.now c.requires.tables room
+    let room : 2 ^ suc (length c.args.images.now.list.items) ≤ 2 ^ 16 = room_below c.args.minor.now.size
+    (length c.args.images.now.list.items) s.size_most c.requires.room in
+    let w = tested c.args.tables.now c.args.sets.now c.args.image (2 ^ length c.args.images.now.list.items) c.reached-count.result
+    c.reached-count.ensures.value
+    (let l : c.reached-count.result ≤ 512 = c.reached-count.ensures.few in
+    let e : c.reached-count.result ≡ 2 ^ length c.args.images.now.list.items = c.reached-count.ensures.value in
+    let f : length c.args.sets.now ≡ 1024 = c.requires.sets in omega arith) in (
+      (λ t. next_from c.args.minor.now c.args.rep.now c.args.contracted
+          (length c.args.images.now.list.items) c.args.images.now c.args.sets.now c.args.image refl c.requires.images c.requires.image
+          c.args.tables.now c.requires.tables room
           (sym c.in_set.ensures ∙ c.if-not-in_set.true) (w.0 (c.carries_next.ensures.0 t))),
-      (λ h. c.carries_next.ensures.1 (w.1 (next_carries c.args.minor.now c.args.rep.now c.args.contracted (length c.args.images.now.list.items) c.args.images.now c.args.sets.now c.args.image refl c.requires.images c.requires.image c.args.tables.now c.requires.tables room h))),
+      (λ h. c.carries_next.ensures.1
+          (w.1 (next_carries c.args.minor.now c.args.rep.now c.args.contracted
+          (length c.args.images.now.list.items) c.args.images.now c.args.sets.now c.args.image refl c.requires.images c.requires.image
+          c.args.tables.now c.requires.tables room h))),
     )
 
 pub returns-else-not-in_set : goal.returns-else-not-in_set
 returns-else-not-in_set c =
     let s : IsSmallMatroid c.args.minor.now = c.laws-2.ensures in
-    let room : 2 ^ suc (length c.args.images.now.list.items) ≤ 2 ^ 16 = room_below c.args.minor.now.size (length c.args.images.now.list.items) s.size_most c.requires.room in (
+    let room : 2 ^ suc (length c.args.images.now.list.items) ≤ 2 ^ 16 = room_below c.args.minor.now.size
+    (length c.args.images.now.list.items) s.size_most c.requires.room in (
       (λ t. absurd (false≢true (sym (ap not c.if-not-in_set.false) ∙ t))),
-      (λ h. absurd (false≢true (sym (next_free c.args.minor.now c.args.rep.now c.args.contracted (length c.args.images.now.list.items) c.args.images.now c.args.sets.now c.args.image refl c.requires.images c.requires.image c.args.tables.now c.requires.tables room h)
+      (λ h. absurd (false≢true
+          (sym (next_free c.args.minor.now c.args.rep.now c.args.contracted
+          (length c.args.images.now.list.items) c.args.images.now c.args.sets.now c.args.image refl c.requires.images c.requires.image
+          c.args.tables.now c.requires.tables room h)
           ∙ sym c.in_set.ensures ∙ c.if-not-in_set.false))),
     )

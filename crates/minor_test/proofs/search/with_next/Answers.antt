@@ -14,13 +14,18 @@ returns-clause-images c =
     let m : size c.args.rep.now ≤ 16 = r.size_most in
     let l : c.args.image < size c.args.rep.now = c.requires.image in
     let b : c.args.image < 16 = omega arith in
-    let e : c.followed_by.result.items ≡ c.args.images.now.list.items ++ c.args.image ∷ [] = c.followed_by.ensures ∙ ap (λ (xs : List ℕ). xs ++ c.args.image ∷ []) c.as_slice.ensures.value in
-    subst (λ (n : ℕ). AreImagesOf c.args.minor.now c.args.rep.now c.args.contracted n (record { list = c.followed_by.result; used = bit_or c.args.images.now.used (1 * 2 ^ c.args.image % 65536) }) c.add_next.new.sets)
+    let e : c.followed_by.result.items ≡ c.args.images.now.list.items ++ c.args.image ∷ [] = c.followed_by.ensures
+    ∙ ap (λ (xs : List ℕ). xs ++ c.args.image ∷ []) c.as_slice.ensures.value in
+    subst (λ (n : ℕ). AreImagesOf c.args.minor.now c.args.rep.now c.args.contracted n
+    (record { list = c.followed_by.result; used = bit_or c.args.images.now.used (1 * 2 ^ c.args.image % 65536) }) c.add_next.new.sets)
     (sym (ap (λ (xs : List ℕ). length xs) e ∙ length-append c.args.images.now.list.items (c.args.image ∷ []) ∙ add-one (length c.args.images.now.list.items)))
-    (images_next c.args.minor.now c.args.rep.now c.args.contracted (length c.args.images.now.list.items) c.args.images.now c.args.sets.now c.args.image refl c.requires.images l
+    (images_next c.args.minor.now c.args.rep.now c.args.contracted
+    (length c.args.images.now.list.items) c.args.images.now c.args.sets.now c.args.image refl c.requires.images l
     (record { list = c.followed_by.result; used = bit_or c.args.images.now.used (1 * 2 ^ c.args.image % 65536) }) c.add_next.new.sets
     e (ap (bit_or c.args.images.now.used) (one_shl c.args.image 16 b))
     (returns-clause-kept c)
-    (subst (λ (n : ℕ). (X : ℕ) → X < n → slice_index c.add_next.new.sets (n + X) ≡ bit_or (slice_index c.args.sets.now X) (2 ^ c.args.image)) c.reached.ensures.value c.add_next.ensures.added)
+    (subst (λ (n : ℕ). (X : ℕ) → X < n →
+    slice_index c.add_next.new.sets (n + X) ≡ bit_or (slice_index c.args.sets.now X) (2 ^ c.args.image)) c.reached.ensures.value
+    c.add_next.ensures.added)
     c.requires.room
     c.requires.next)

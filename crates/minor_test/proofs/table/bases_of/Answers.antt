@@ -14,7 +14,8 @@ abbrev IsBasisBelow : Rep → ℕ → ℕ → Type 0
 IsBasisBelow M n X = (X < n) × IsBasis M 0 (members X)
 
 -- one more mask, a basis or not
-with_basis : (M : Rep) (set X : ℕ) (a b : Bool) → b ≡ (a || (set == X)) → IsBasis M 0 (members set) → IsTrue a ↔ IsBasisBelow M set X → IsTrue b ↔ IsBasisBelow M (set + 1) X
+with_basis : (M : Rep) (set X : ℕ) (a b : Bool) → b ≡ (a || (set == X)) → IsBasis M 0 (members set) →
+    IsTrue a ↔ IsBasisBelow M set X → IsTrue b ↔ IsBasisBelow M (set + 1) X
 with_basis M set X a b e s h = (
   (λ t. elim (or_cases a (set == X) (sym e ∙ t)) [
     | inl o ↦ (let w : IsBasisBelow M set X = h.0 o in let l : X < set = w.0 in (omega arith, w.1))
@@ -41,9 +42,12 @@ loop-set-init c X = ((λ t. absurd (false≢true (sym (c.new-table.ensures X) �
 pub loop-set-preserved : goal.loop-set-preserved
 loop-set-preserved c X =
     elim c.if-is_basis.branch [
-      | then-is_basis w ↦ with_basis c.args.rep.now c.loop-set.set X (has c.loop-set.table.words X) (has c.if-is_basis.table.words X) (ap (λ (t : Table). has t.words X) w.table-is ∙ w.add.ensures X) (c.is_basis.ensures.0 w.if-is_basis.true) (c.loop-set.invariant X)
+      | then-is_basis w ↦ with_basis c.args.rep.now c.loop-set.set X (has c.loop-set.table.words X)
+          (has c.if-is_basis.table.words X) (ap (λ (t : Table). has t.words X) w.table-is ∙ w.add.ensures X)
+          (c.is_basis.ensures.0 w.if-is_basis.true) (c.loop-set.invariant X)
       | else-is_basis w ↦ subst (λ (t : Table). IsTrue (has t.words X) ↔ IsBasisBelow c.args.rep.now (c.loop-set.set + 1) X) (sym w.table-is)
-          (without_basis c.args.rep.now c.loop-set.set X (has c.loop-set.table.words X) (λ b. false≢true (sym w.if-is_basis.false ∙ c.is_basis.ensures.1 b)) (c.loop-set.invariant X))
+          (without_basis c.args.rep.now c.loop-set.set X (has c.loop-set.table.words X)
+          (λ b. false≢true (sym w.if-is_basis.false ∙ c.is_basis.ensures.1 b)) (c.loop-set.invariant X))
     ]
 
 pub returns : goal.returns

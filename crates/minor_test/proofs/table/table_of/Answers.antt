@@ -26,8 +26,13 @@ loop-mask-init c X = ((λ t. absurd (false≢true (sym (c.new-table.ensures X) �
 
 pub loop-mask-preserved : goal.loop-mask-preserved
 loop-mask-preserved c X =
-    subst (λ (xs : List ℕ). IsTrue (has c.add.new.self.words X) ↔ Contains xs X) (sym (take_more c.args.masks.now c.loop-mask.mask-index 0 c.loop-mask-test.true))
-    (with_mask (take c.loop-mask.mask-index c.args.masks.now) (slice_index c.args.masks.now c.loop-mask.mask-index) X (has c.loop-mask.table.words X) (has c.add.new.self.words X) (c.add.ensures X) (c.loop-mask.invariant X))
+    subst (λ (xs : List ℕ). IsTrue (has c.add.new.self.words X) ↔ Contains xs X)
+    (sym (take_more c.args.masks.now c.loop-mask.mask-index 0 c.loop-mask-test.true))
+    (with_mask (take c.loop-mask.mask-index c.args.masks.now) (slice_index c.args.masks.now c.loop-mask.mask-index) X
+    (has c.loop-mask.table.words X) (has c.add.new.self.words X) (c.add.ensures X) (c.loop-mask.invariant X))
 
 pub returns : goal.returns
-returns c = record { exact = λ X _. subst (λ (xs : List ℕ). IsTrue (has c.loop-mask.table.words X) ↔ Contains xs X) (take_all c.loop-mask.mask-index c.args.masks.now c.loop-mask-test.false) (c.loop-mask.invariant X) }
+returns c = record {
+  exact = λ X _. subst (λ (xs : List ℕ). IsTrue (has c.loop-mask.table.words X) ↔ Contains xs X)
+      (take_all c.loop-mask.mask-index c.args.masks.now c.loop-mask-test.false) (c.loop-mask.invariant X);
+}

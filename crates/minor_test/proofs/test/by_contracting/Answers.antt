@@ -15,5 +15,6 @@ pub complete-requires-clause-images : goal.complete-requires-clause-images
 complete-requires-clause-images c =
     let w = c.may_be_contracted.ensures.0 c.if-not-may_be_contracted.false in
     let s : length c.args.sets.now ≡ 1024 = c.requires.sets in
-    begins c.args.minor.now c.args.rep.now c.args.contracted c.requires.set c.args.tables.now c.requires.tables (record { list = c.new.result; used = c.args.contracted }) _ c.new.ensures refl
+    begins c.args.minor.now c.args.rep.now c.args.contracted c.requires.set c.args.tables.now c.requires.tables
+    (record { list = c.new.result; used = c.args.contracted }) _ c.new.ensures refl
     (get_or-set_same c.args.sets.now 0 c.args.contracted 0 (omega arith)) w.0 w.2

@@ -19,7 +19,9 @@ pub returns-clause-none : goal.returns-clause-none
 returns-clause-none c _ m =
     let (f, C, h) = m in
     let r : KeepsLimits c.args.rep.now = c.laws.ensures in
-    let (g, k, e) = reordered c.args.minor.now c.args.rep.now (members (mask (size c.args.rep.now) C)) r.size_most c.twins_of.result.items c.twins_of.ensures.twins f (contracted_mask c.args.minor.now c.args.rep.now f C h) in
+    let (g, k, e) = reordered c.args.minor.now c.args.rep.now
+    (members (mask (size c.args.rep.now) C)) r.size_most c.twins_of.result.items c.twins_of.ensures.twins f
+    (contracted_mask c.args.minor.now c.args.rep.now f C h) in
     c.loop-set.invariant (mask (size c.args.rep.now) C)
     (let b : mask (size c.args.rep.now) C < 2 ^ size c.args.rep.now = mask-below (size c.args.rep.now) C in
     let d : 2 ^ c.size.result ≡ 2 ^ size c.args.rep.now = ap (λ n. 2 ^ n) c.size.ensures.value in

@@ -11,7 +11,8 @@ use Rattle.minor_test.proofs.test.may_be_contracted.Goals.{then-rank-contracted,
 
 pub returns-then-is_in_basis : goal.returns-then-is_in_basis
 returns-then-is_in_basis c =
-    let e : size_below (size c.args.rep.now) (members c.args.contracted) ≡ count_ones c.args.contracted = size-members (size c.args.rep.now) c.args.contracted c.requires.set in
+    let e : size_below (size c.args.rep.now) (members c.args.contracted) ≡ count_ones c.args.contracted =
+    size-members (size c.args.rep.now) c.args.contracted c.requires.set in
     elim c.if-rank-contracted.branch [
       | then-rank-contracted w ↦ (
         (λ t. (
@@ -21,12 +22,15 @@ returns-then-is_in_basis c =
         )),
         (λ h. answers_same c.contains.result c.contains-then-is_in_basis.result (c.contains.ensures ∙ h.2 ∙ sym c.contains-then-is_in_basis.ensures)),
       )
-      | else-rank-contracted w ↦ absurd (w.if-rank-contracted.false (eqb-true (c.rank.result + count_ones c.args.contracted) c.rank-2.result (sym w.value-is ∙ c.if-is_in_basis.true)))
+      | else-rank-contracted w ↦
+          absurd (w.if-rank-contracted.false
+          (eqb-true (c.rank.result + count_ones c.args.contracted) c.rank-2.result (sym w.value-is ∙ c.if-is_in_basis.true)))
     ]
 
 pub returns-else-is_in_basis : goal.returns-else-is_in_basis
 returns-else-is_in_basis c =
-    let e : size_below (size c.args.rep.now) (members c.args.contracted) ≡ count_ones c.args.contracted = size-members (size c.args.rep.now) c.args.contracted c.requires.set in (
+    let e : size_below (size c.args.rep.now) (members c.args.contracted) ≡ count_ones c.args.contracted =
+    size-members (size c.args.rep.now) c.args.contracted c.requires.set in (
       (λ t. absurd (false≢true (sym c.if-is_in_basis.false ∙ t))),
       (λ h. elim c.if-rank-contracted.branch [
         | then-rank-contracted w ↦ w.value-is ∙ w.is_in_basis.ensures.1 h.1

@@ -18,9 +18,11 @@ all_below P n j (Some i) l h = h
 
 pub loop-i-preserved : goal.loop-i-preserved
 loop-i-preserved c = elim c.if-are_twins.branch [
-  | then-are_twins w ↦ subst (λ (o : Option ℕ). IsFoundBelow (λ i. AreTwins c.args.minor.now i c.args.j) (c.loop-i.i + 1) o) (sym w.twin-is) (c.are_twins.ensures.0 w.if-are_twins.true)
+  | then-are_twins w ↦ subst (λ (o : Option ℕ). IsFoundBelow (λ i. AreTwins c.args.minor.now i c.args.j) (c.loop-i.i + 1) o)
+      (sym w.twin-is) (c.are_twins.ensures.0 w.if-are_twins.true)
   | else-are_twins w ↦ subst (λ (o : Option ℕ). IsFoundBelow (λ i. AreTwins c.args.minor.now i c.args.j) (c.loop-i.i + 1) o) (sym w.twin-is)
-      (not_next (λ i. AreTwins c.args.minor.now i c.args.j) c.loop-i.i c.loop-i.twin (λ a. false≢true (sym w.if-are_twins.false ∙ c.are_twins.ensures.1 a)) c.loop-i.invariant)
+      (not_next (λ i. AreTwins c.args.minor.now i c.args.j) c.loop-i.i c.loop-i.twin
+      (λ a. false≢true (sym w.if-are_twins.false ∙ c.are_twins.ensures.1 a)) c.loop-i.invariant)
 ]
 
 pub returns : goal.returns

@@ -6,4 +6,6 @@ use Rattle.named_matroids.proofs.tables.matroid_of_table.Goals as goal
 
 pub matroid_over-requires-clause-columns : goal.matroid_over-requires-clause-columns
 matroid_over-requires-clause-columns g c =
-    tested_columns c.args.order g.row.N c.as_slice.result.now (subst (λ (x : List (List ℕ)). are_codes c.args.order g.row.N x ≡ true) (sym (ap lists c.as_slice.ensures.value ∙ c.columns_of-columns.ensures)) c.requires.codes)
+    tested_columns c.args.order g.row.N c.as_slice.result.now
+    (subst (λ (x : List (List ℕ)). are_codes c.args.order g.row.N x ≡ true)
+    (sym (ap lists c.as_slice.ensures.value ∙ c.columns_of-columns.ensures)) c.requires.codes)

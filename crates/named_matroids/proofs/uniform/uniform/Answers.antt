@@ -8,7 +8,8 @@ use Rattle.named_matroids.proofs.GivenBases.{given_small, uniform_given}
 use Rattle.named_matroids.proofs.uniform.uniform.Goals as goal
 
 -- all sets of so many elements are the bases of the uniform matroid
-is_uniform : (rank size n k : ℕ) → n ≡ size → k ≡ rank → rank ≤ size → (answers : ℕ → Bool → Type 0) (masks : List ℕ) → ((X : ℕ) → IsSetOfSize n k X → (b : Bool) → answers X b → IsTrue b ↔ Unit {0})
+is_uniform : (rank size n k : ℕ) → n ≡ size → k ≡ rank → rank ≤ size → (answers : ℕ → Bool → Type 0) (masks : List ℕ) →
+    ((X : ℕ) → IsSetOfSize n k X → (b : Bool) → answers X b → IsTrue b ↔ Unit {0})
     → AreTaken n k answers masks → IsGivenBy (AllSets rank size) (record { rank = rank; size = size; bases = masks })
 is_uniform rank size n k e d l answers masks says taken =
     uniform_given rank size masks l
@@ -20,9 +21,11 @@ is_uniform rank size n k e d l answers masks says taken =
 pub of-requires : goal.of-requires
 of-requires c =
     given_small (AllSets c.args.rank c.args.size) (record { rank = c.args.rank; size = c.args.size; bases = c.few_sets_of_size-bases.result.items })
-    (is_uniform c.args.rank c.args.size c.from.result c.from-2.result c.from.ensures c.from-2.ensures c.requires.rank _ c.few_sets_of_size-bases.result.items (λ X s b a. search rules) c.few_sets_of_size-bases.ensures) c.requires.some c.requires.few
+    (is_uniform c.args.rank c.args.size c.from.result c.from-2.result c.from.ensures c.from-2.ensures c.requires.rank
+    _ c.few_sets_of_size-bases.result.items (λ X s b a. search rules) c.few_sets_of_size-bases.ensures) c.requires.some c.requires.few
 
 pub returns : goal.returns
 returns c =
     subst (IsGivenBy (AllSets c.args.rank c.args.size)) (sym c.of.ensures)
-    (is_uniform c.args.rank c.args.size c.from.result c.from-2.result c.from.ensures c.from-2.ensures c.requires.rank _ c.few_sets_of_size-bases.result.items (λ X s b a. search rules) c.few_sets_of_size-bases.ensures)
+    (is_uniform c.args.rank c.args.size c.from.result c.from-2.result c.from.ensures c.from-2.ensures c.requires.rank
+    _ c.few_sets_of_size-bases.result.items (λ X s b a. search rules) c.few_sets_of_size-bases.ensures)

@@ -5,4 +5,5 @@ use Rattle.product_rep.proofs.matrices.has_unit_row.Given as goal
 
 -- the entries before this one are those of the identity matrix
 abbrev pub invariant-loop-j : goal.invariant-loop-j
-invariant-loop-j l = (j : ℕ) → j < l.j → matrix_product l.field l.left.rank (block l.left.rank l.left.factor l.left.codes.now) (block l.right.rank l.right.factor l.right.codes.now) l.i j ≡ unit l.i j
+invariant-loop-j l = (j : ℕ) → j < l.j → matrix_product l.field l.left.rank (block l.left.rank l.left.factor l.left.codes.now)
+    (block l.right.rank l.right.factor l.right.codes.now) l.i j ≡ unit l.i j

@@ -12,7 +12,8 @@ byte false x e = e
 pub loop-place-preserved : goal.loop-place-preserved
 loop-place-preserved c = record {
   length = c.push.ensures.len ∙ ap (λ (n : ℕ). n + 1) c.loop-place.invariant.length;
-  codes = one_more (λ p. unit (p / c.args.rank % c.args.rank) (p % c.args.rank)) c.loop-place.rows.items _ _ c.loop-place.place c.loop-place.invariant.length c.push.ensures.items c.loop-place.invariant.codes (byte _ _ c.from.ensures);
+  codes = one_more (λ p. unit (p / c.args.rank % c.args.rank) (p % c.args.rank)) c.loop-place.rows.items _ _ c.loop-place.place
+      c.loop-place.invariant.length c.push.ensures.items c.loop-place.invariant.codes (byte _ _ c.from.ensures);
 }
 
 pub returns-clause-codes : goal.returns-clause-codes

@@ -8,7 +8,8 @@ use Rattle.product_rep.proofs.moves.raised.Goals as goal
 pub act-requires-clause-valid : goal.act-requires-clause-valid
 act-requires-clause-valid c =
     subst (λ (t : MoveTable). IsMove Semilinear (shape c.args.rep.now) (move_of t)) (sym c.set_power.ensures)
-    (power_valid c.args.rep.now c.identity-step.result c.args.factor c.args.power c.laws.ensures c.laws-2.ensures c.identity-step.ensures.shape c.requires.factor
+    (power_valid c.args.rep.now c.identity-step.result c.args.factor c.args.power c.laws.ensures c.laws-2.ensures
+    c.identity-step.ensures.shape c.requires.factor
     c.requires.power (c.identity-step.ensures.valid Semilinear))
 
 pub returns : goal.returns

@@ -28,7 +28,8 @@ keeps_bases-requires-clause-codes t c =
     let room : length codes < cells N = room_left N.rank N.size c.len.result c.from.result c.from-2.result codes
     c.len.ensures.value c.from.ensures c.from-2.ensures c.if-len-from.false c.requires.codes.few in
     let code : v < q = below v c.codes_end-end.result q c.loop-code-test.true c.codes_end-end.ensures.within in
-    let longer : c.followed_by-longer.result.items ≡ codes ++ v ∷ [] = c.followed_by-longer.ensures ∙ ap (λ (xs : List ℕ). xs ++ v ∷ []) c.as_slice.ensures.value in
+    let longer : c.followed_by-longer.result.items ≡ codes ++ v ∷ [] = c.followed_by-longer.ensures
+    ∙ ap (λ (xs : List ℕ). xs ++ v ∷ []) c.as_slice.ensures.value in
     subst (AreCodes q N) (sym longer) (longer_codes q N c.requires.sought codes v c.requires.codes room code)
 
 pub fill-requires : goal.fill-requires
@@ -40,7 +41,8 @@ fill-requires t c =
     let room : length codes < cells N = room_left N.rank N.size c.len.result c.from.result c.from-2.result codes
     c.len.ensures.value c.from.ensures c.from-2.ensures c.if-len-from.false c.requires.codes.few in
     let code : v < q = below v c.codes_end-end.result q c.loop-code-test.true c.codes_end-end.ensures.within in
-    let longer : c.followed_by-longer.result.items ≡ codes ++ v ∷ [] = c.followed_by-longer.ensures ∙ ap (λ (xs : List ℕ). xs ++ v ∷ []) c.as_slice.ensures.value in
+    let longer : c.followed_by-longer.result.items ≡ codes ++ v ∷ [] = c.followed_by-longer.ensures
+    ∙ ap (λ (xs : List ℕ). xs ++ v ∷ []) c.as_slice.ensures.value in
     let more : length c.followed_by-longer.result.items ≡ length codes + 1 = ap (λ (xs : List ℕ). length xs) longer ∙ length-append codes (v ∷ []) in
     let k = c.keeps_bases.ensures in (
       omega arith,
@@ -63,7 +65,8 @@ returns-in-Some-clause-found t c =
     let room : length codes < cells N = room_left N.rank N.size c.len.result c.from.result c.from-2.result codes
     c.len.ensures.value c.from.ensures c.from-2.ensures c.if-len-from.false c.requires.codes.few in
     let code : v < q = below v c.codes_end-end.result q c.loop-code-test.true c.codes_end-end.ensures.within in
-    let longer : c.followed_by-longer.result.items ≡ codes ++ v ∷ [] = c.followed_by-longer.ensures ∙ ap (λ (xs : List ℕ). xs ++ v ∷ []) c.as_slice.ensures.value in
+    let longer : c.followed_by-longer.result.items ≡ codes ++ v ∷ [] = c.followed_by-longer.ensures
+    ∙ ap (λ (xs : List ℕ). xs ++ v ∷ []) c.as_slice.ensures.value in
     found_longer q N c.requires.sought codes v c.requires.codes room code c.loop-code.invariant c.in-Some.whole.items
     (subst (λ (xs : List ℕ). IsLeastWith q N xs c.in-Some.whole.items) longer c.in-Some.ensures.found)
 
@@ -76,7 +79,8 @@ loop-code-preserved t c =
     let room : length codes < cells N = room_left N.rank N.size c.len.result c.from.result c.from-2.result codes
     c.len.ensures.value c.from.ensures c.from-2.ensures c.if-len-from.false c.requires.codes.few in
     let code : v < q = below v c.codes_end-end.result q c.loop-code-test.true c.codes_end-end.ensures.within in
-    let longer : c.followed_by-longer.result.items ≡ codes ++ v ∷ [] = c.followed_by-longer.ensures ∙ ap (λ (xs : List ℕ). xs ++ v ∷ []) c.as_slice.ensures.value in
+    let longer : c.followed_by-longer.result.items ≡ codes ++ v ∷ [] = c.followed_by-longer.ensures
+    ∙ ap (λ (xs : List ℕ). xs ++ v ∷ []) c.as_slice.ensures.value in
     let e = c.keeps_bases.ensures in
     elim c.if-keeps_bases.branch [
       | then-keeps_bases+in_default w ↦ none_longer q N c.requires.sought codes v c.requires.codes room code c.loop-code.invariant

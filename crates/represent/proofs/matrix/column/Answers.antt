@@ -11,5 +11,6 @@ one_more f i v old new e d h = e ∙ (λ t. h t ++ d t ∷ []) ∙ sym (map-rang
 
 pub loop-i-preserved : goal.loop-i-preserved
 loop-i-preserved c =
-    let e = one_more (λ i. entry c.args.rank c.args.codes.now.items i c.args.j) c.loop-i.i c.entry.result c.loop-i.column.items c.push.new.self.items c.push.ensures.items c.entry.ensures c.loop-i.invariant.codes in
+    let e = one_more (λ i. entry c.args.rank c.args.codes.now.items i c.args.j) c.loop-i.i c.entry.result c.loop-i.column.items
+    c.push.new.self.items c.push.ensures.items c.entry.ensures c.loop-i.invariant.codes in
     record { rows = ap (λ (xs : List ℕ). length xs) e ∙ length-map-range_with_len _ 0 (c.loop-i.i + 1); codes = e }

@@ -20,7 +20,8 @@ pub push_column-requires-clause-column : goal.push_column-requires-clause-column
 push_column-requires-clause-column c =
     subst (λ (P : Rep). IsProductColumn P.factors P.rank c.column.result.items) (sym c.loop-j.invariant)
     (column_fits c.args.target.now.order
-    (matroid_of c.args.target.now) c.requires.sought c.args.codes.now.items c.requires.codes c.loop-j.j c.loop-j-test.true c.column.result.items c.column.ensures)
+    (matroid_of c.args.target.now) c.requires.sought c.args.codes.now.items c.requires.codes c.loop-j.j c.loop-j-test.true
+    c.column.result.items c.column.ensures)
 
 -- one more column
 one_more : (q : ℕ) (N : Matroid) (codes : List ℕ) (j : ℕ) (v : List ℕ) (old new : Rep) → new ≡ followed_by old v
@@ -34,4 +35,5 @@ one_more q N codes j v old new e d h =
 pub loop-j-preserved : goal.loop-j-preserved
 loop-j-preserved c =
     one_more c.args.target.now.order
-    (matroid_of c.args.target.now) c.args.codes.now.items c.loop-j.j c.column.result.items c.loop-j.rep c.push_column.new.self c.push_column.ensures c.column.ensures c.loop-j.invariant
+    (matroid_of c.args.target.now) c.args.codes.now.items c.loop-j.j c.column.result.items c.loop-j.rep c.push_column.new.self
+    c.push_column.ensures c.column.ensures c.loop-j.invariant

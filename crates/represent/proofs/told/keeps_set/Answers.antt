@@ -29,5 +29,6 @@ returns-else-set-from c =
           subst (λ (x : ℕ). Contains c.args.target.now.bases x ↔ IsIndependentSet c.args.matrix.now.field c.args.matrix.now.columns.items (members x))
           (told_once c.args.target.now.rank c.args.place w.row w.past c.args.units c.args.later c.told_set-set.result X c.told_set-set.ensures t) (k.0 e)),
       (λ h. k.1 (h c.told_set-set.result c.told_set-set.ensures
-          (told_size (matroid_of c.args.target.now) c.args.place c.args.units c.args.later c.told_set-set.result w.column c.told_set-set.ensures ∙ c.if-set-from.false ∙ c.from.ensures))),
+          (told_size (matroid_of c.args.target.now) c.args.place c.args.units c.args.later c.told_set-set.result w.column
+          c.told_set-set.ensures ∙ c.if-set-from.false ∙ c.from.ensures))),
     )

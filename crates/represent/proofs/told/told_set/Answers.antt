@@ -12,4 +12,5 @@ overflow_sub-after c =
     omega arith
 
 pub returns : goal.returns
-returns c = told_value c.args.rank c.args.place c.requires.row c.requires.past c.args.units c.args.later c.requires.units c.requires.later c.requires.rank c.requires.column
+returns c = told_value c.args.rank c.args.place c.requires.row c.requires.past c.args.units c.args.later c.requires.units
+    c.requires.later c.requires.rank c.requires.column

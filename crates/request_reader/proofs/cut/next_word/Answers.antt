@@ -10,7 +10,8 @@ pub returns-then-is_empty : goal.returns-then-is_empty
 returns-then-is_empty c =
     let line = c.args.line.now in
     let none : length c.split_at.result.1.now ≡ 0 = grind (arith, nat_tests) in
-    let left : drop (position_or_len (λ b. not (is_blank b)) line) line ≡ [] = ap (λ (k : ℕ). drop k line) (sym c.blank_len.ensures.at) ∙ sym c.split_at.ensures.back ∙ nil_from_length _ none in
+    let left : drop (position_or_len (λ b. not (is_blank b)) line) line ≡ [] =
+    ap (λ (k : ℕ). drop k line) (sym c.blank_len.ensures.at) ∙ sym c.split_at.ensures.back ∙ nil_from_length _ none in
     record { words = skip_blanks line ∙ ap words_of left }
 
 pub returns : goal.returns
@@ -18,8 +19,15 @@ returns c =
     let line = c.args.line.now in
     let rest = c.split_at.result.1.now in
     let some : 0 < length rest = grind (arith, nat_tests) in
-    let left : drop (position_or_len (λ b. not (is_blank b)) line) line ≡ rest = ap (λ (k : ℕ). drop k line) (sym c.blank_len.ensures.at) ∙ sym c.split_at.ensures.back in
+    let left : drop (position_or_len (λ b. not (is_blank b)) line) line ≡ rest =
+    ap (λ (k : ℕ). drop k line) (sym c.blank_len.ensures.at) ∙ sym c.split_at.ensures.back in
     let shown : position_or_len (λ b. not (is_blank b)) rest ≡ 0 = ap (position_or_len (λ b. not (is_blank b))) (sym left) ∙ front_shown line in
-    let word : take (position_or_len is_blank rest) rest ≡ c.split_at-2.result.0.now = ap (λ (k : ℕ). take k rest) (sym c.word_len.ensures.at) ∙ sym c.split_at-2.ensures.front in
-    let after : drop (position_or_len is_blank rest) rest ≡ c.split_at-2.result.1.now = ap (λ (k : ℕ). drop k rest) (sym c.word_len.ensures.at) ∙ sym c.split_at-2.ensures.back in
-    record { words = skip_blanks line ∙ ap words_of left ∙ first_word rest some shown ∙ ap (λ (l : List ℕ). l ∷ words_of (drop (position_or_len is_blank rest) rest)) word ∙ ap (λ (l : List ℕ). c.split_at-2.result.0.now ∷ words_of l) after }
+    let word : take (position_or_len is_blank rest) rest ≡ c.split_at-2.result.0.now =
+    ap (λ (k : ℕ). take k rest) (sym c.word_len.ensures.at) ∙ sym c.split_at-2.ensures.front in
+    let after : drop (position_or_len is_blank rest) rest ≡ c.split_at-2.result.1.now =
+    ap (λ (k : ℕ). drop k rest) (sym c.word_len.ensures.at) ∙ sym c.split_at-2.ensures.back in
+    record {
+      words = skip_blanks line ∙ ap words_of left ∙ first_word rest some shown
+          ∙ ap (λ (l : List ℕ). l ∷ words_of (drop (position_or_len is_blank rest) rest)) word
+          ∙ ap (λ (l : List ℕ). c.split_at-2.result.0.now ∷ words_of l) after;
+    }

@@ -17,13 +17,15 @@ loop-word-init c =
     record {
       fields = λ f lt. absurd (omega (arith, none));
       spelled = no_orders c.new-orders.result.items (words_of c.args.rest.now) e;
-      others = λ factors are is. subst (λ (n : ℕ). AreLeft (version_number c.args.version) n factors (words_of c.args.rest.now)) (sym none) (all_left (version_number c.args.version) factors _ are is);
+      others = λ factors are is. subst (λ (n : ℕ). AreLeft (version_number c.args.version) n factors (words_of c.args.rest.now))
+          (sym none) (all_left (version_number c.args.version) factors _ are is);
     }
 
 pub returns-in_err-order_of : goal.returns-in_err-order_of
 returns-in_err-order_of c = rw c.from_residual-in_err-order_of.ensures (λ factors are is.
     let left = c.loop-word.invariant.others factors are is in
-    let order = order_left (version_number c.args.version) _ factors c.in_ok-word.word.now _ (subst (AreLeft (version_number c.args.version) _ factors) c.in_ok-word.ensures.words left) in
+    let order = order_left (version_number c.args.version) _ factors c.in_ok-word.word.now
+    _ (subst (AreLeft (version_number c.args.version) _ factors) c.in_ok-word.ensures.words left) in
     c.in_err-order_of.ensures order.0 order.1 order.2)
 
 -- a word of one byte that is `x`
@@ -35,11 +37,15 @@ returns-in-None c =
     let inv = c.loop-word.invariant in
     let items : c.try_push.new.self.items ≡ c.loop-word.orders.items ++ c.in_ok-order_of.field-0 ∷ [] = c.in-Ok.ensures.ok in
     let orders : c.as_slice.result.now ≡ c.loop-word.orders.items ++ c.in_ok-order_of.field-0 ∷ [] = c.as_slice.ensures.value ∙ items in
-    let fields = orders_more (version_number c.args.version) c.loop-word.orders.items c.as_slice.result.now c.in_ok-order_of.field-0 inv.fields c.in_ok-order_of.ensures.0 orders in
-    let words = words_all c.loop-word.orders.items c.as_slice.result.now c.in_ok-order_of.field-0 c.in_ok-word.word.now _ _ _ inv.spelled c.in_ok-word.ensures.words c.in-None.ensures.words c.in_ok-order_of.ensures.1 orders in
+    let fields = orders_more (version_number c.args.version) c.loop-word.orders.items c.as_slice.result.now c.in_ok-order_of.field-0
+    inv.fields c.in_ok-order_of.ensures.0 orders in
+    let words = words_all c.loop-word.orders.items c.as_slice.result.now c.in_ok-order_of.field-0 c.in_ok-word.word.now
+    _ _ _ inv.spelled c.in_ok-word.ensures.words c.in-None.ensures.words c.in_ok-order_of.ensures.1 orders in
     let some : 0 < length c.as_slice.result.now = omega (arith, ap length orders, length-append c.loop-word.orders.items (c.in_ok-order_of.field-0 ∷ [])) in
     let few : length c.as_slice.result.now ≤ 3 = omega arith in
-    found_factors (version_number c.args.version) _ c.of.result c.as_slice.result.now (words_of c.args.rest.now) _ c.of.ensures.found.1 c.of.ensures.orders (are_factors (version_number c.args.version) c.as_slice.result.now some few fields) words
+    found_factors (version_number c.args.version) _ c.of.result c.as_slice.result.now
+    (words_of c.args.rest.now) _ c.of.ensures.found.1 c.of.ensures.orders
+    (are_factors (version_number c.args.version) c.as_slice.result.now some few fields) words
 
 pub loop-word-preserved : goal.loop-word-preserved
 loop-word-preserved c =
@@ -49,7 +55,12 @@ loop-word-preserved c =
     let x : c.in-Some-x-default.field-0-0.now ≡ codes "x" = one_x _ (omega arith) (omega arith) in
     let after = c.in-Some-x-default.ensures.words in
     record {
-      fields = orders_more (version_number c.args.version) orders c.try_push.new.self.items c.in_ok-order_of.field-0 inv.fields c.in_ok-order_of.ensures.0 items;
-      spelled = words_more orders c.try_push.new.self.items c.in_ok-order_of.field-0 c.in_ok-word.word.now _ _ _ (words_of c.in-Some-x-default.next.now) inv.spelled c.in_ok-word.ensures.words (after ∙ ap (λ (w : List ℕ). w ∷ words_of c.in-Some-x-default.next.now) x) c.in_ok-order_of.ensures.1 items;
-      others = λ factors are is. left_more (version_number c.args.version) orders c.try_push.new.self.items factors c.in_ok-order_of.field-0 c.in_ok-word.word.now c.in-Some-x-default.field-0-0.now _ _ (words_of c.in-Some-x-default.next.now) (inv.others factors are is) c.in_ok-word.ensures.words after items;
+      fields = orders_more (version_number c.args.version) orders c.try_push.new.self.items c.in_ok-order_of.field-0 inv.fields
+          c.in_ok-order_of.ensures.0 items;
+      spelled = words_more orders c.try_push.new.self.items c.in_ok-order_of.field-0 c.in_ok-word.word.now
+          _ _ _ (words_of c.in-Some-x-default.next.now) inv.spelled c.in_ok-word.ensures.words
+          (after ∙ ap (λ (w : List ℕ). w ∷ words_of c.in-Some-x-default.next.now) x) c.in_ok-order_of.ensures.1 items;
+      others = λ factors are is. left_more (version_number c.args.version) orders c.try_push.new.self.items factors
+          c.in_ok-order_of.field-0 c.in_ok-word.word.now c.in-Some-x-default.field-0-0.now _ _ (words_of c.in-Some-x-default.next.now)
+          (inv.others factors are is) c.in_ok-word.ensures.words after items;
     }

@@ -10,7 +10,8 @@ invariant-loop-word l =
     record {
       fields : (f : ℕ) → f < length l.orders.items → IsOrderIn (version_number l.version) (slice_index l.orders.items f);
       spelled : words_of l.fn.rest ≡ begun l.orders.items ++ words_of l.left;
-      others : (factors : List ℕ) → AreFactorsIn (version_number l.version) factors → words_of l.fn.rest ≡ factor_words factors → AreLeft (version_number l.version) (length l.orders.items) factors (words_of l.left);
+      others : (factors : List ℕ) → AreFactorsIn (version_number l.version) factors → words_of l.fn.rest ≡ factor_words factors →
+          AreLeft (version_number l.version) (length l.orders.items) factors (words_of l.left);
     }
 
 abbrev pub decreases-loop-word : goal.decreases-loop-word

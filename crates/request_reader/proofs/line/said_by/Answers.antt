@@ -11,7 +11,8 @@ use Rattle.request_reader.proofs.line.said_by.Goals as goal
 
 pub returns-in_err-keyword_of : goal.returns-in_err-keyword_of
 returns-in_err-keyword_of c = rw c.from_residual-in_err-keyword_of.ensures (λ entry said.
-    let is = keyword_said (version_number c.args.version) c.in_ok-word.word.now (words_of c.in_ok-word.rest.now) entry (subst (λ (l : List (List ℕ)). Says (version_number c.args.version) l entry) c.in_ok-word.ensures.words said) in
+    let is = keyword_said (version_number c.args.version) c.in_ok-word.word.now (words_of c.in_ok-word.rest.now) entry
+    (subst (λ (l : List (List ℕ)). Says (version_number c.args.version) l entry) c.in_ok-word.ensures.words said) in
     c.in_err-keyword_of.ensures is.0 is.1)
 
 -- the number of a version is short

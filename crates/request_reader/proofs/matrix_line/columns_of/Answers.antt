@@ -21,7 +21,8 @@ pub returns-then-len-rows : goal.returns-then-len-rows
 returns-then-len-rows c = λ columns are e.
     let next = next_column c.args.order c.len-rows.result c.loop-word.is_many (lists c.loop-word.columns.items) _ (words_of c.loop-word.left.now) columns
     (words_of c.in-Some.after.now) c.in-Some.word.now c.loop-word.invariant c.in-Some.ensures.words are e in
-    let long : length c.in_ok-column.column.items ≡ length next.0 = sym (word_long c.in-Some.word.now c.in_ok-column.column.items c.in_ok-column.ensures.1) ∙ word_long c.in-Some.word.now next.0 next.3 in
+    let long : length c.in_ok-column.column.items ≡ length next.0 =
+    sym (word_long c.in-Some.word.now c.in_ok-column.column.items c.in_ok-column.ensures.1) ∙ word_long c.in-Some.word.now next.0 next.3 in
     c.if-len-rows.true (c.len.ensures.value ∙ long ∙ next.2)
 
 pub loop-word-preserved-then-is_err : goal.loop-word-preserved-then-is_err
@@ -29,7 +30,8 @@ loop-word-preserved-then-is_err c =
     let long : length c.in_ok-column.column.items ≡ c.len-rows.result = omega (arith, c.len.ensures.value, c.if-len-rows.false) in
     let full : length c.loop-word.columns.items ≡ 10 = first_of (search rules, grind (arith, nat_tests), omega arith) in
     read_past c.args.order c.len-rows.result c.loop-word.is_many (lists c.loop-word.columns.items) _ _ (words_of c.loop-word.left.now)
-    (words_of c.in-Some.after.now) c.in-Some.word.now c.in_ok-column.column.items c.loop-word.invariant c.in-Some.ensures.words c.in_ok-column.ensures.0 c.in_ok-column.ensures.1
+    (words_of c.in-Some.after.now) c.in-Some.word.now c.in_ok-column.column.items c.loop-word.invariant c.in-Some.ensures.words
+    c.in_ok-column.ensures.0 c.in_ok-column.ensures.1
     long (length-map c.loop-word.columns.items (λ v. v.items) ∙ full)
 
 pub loop-word-preserved : goal.loop-word-preserved
@@ -37,11 +39,16 @@ loop-word-preserved c =
     let long : length c.in_ok-column.column.items ≡ c.len-rows.result = omega (arith, c.len.ensures.value, c.if-len-rows.false) in
     let push : c.try_push.new.self.items ≡ c.loop-word.columns.items ++ c.in_ok-column.column ∷ [] = first_of (search rules, grind (arith, nat_tests), cc) in
     read_more c.args.order c.len-rows.result c.loop-word.is_many (lists c.loop-word.columns.items) _ _ (words_of c.loop-word.left.now)
-    (words_of c.in-Some.after.now) c.in-Some.word.now c.in_ok-column.column.items c.loop-word.invariant c.in-Some.ensures.words c.in_ok-column.ensures.0 c.in_ok-column.ensures.1
+    (words_of c.in-Some.after.now) c.in-Some.word.now c.in_ok-column.column.items c.loop-word.invariant c.in-Some.ensures.words
+    c.in_ok-column.ensures.0 c.in_ok-column.ensures.1
     long (ap lists push ∙ map-append (λ v. v.items) c.loop-word.columns.items (c.in_ok-column.column ∷ []))
 
 pub returns-else-is_many : goal.returns-else-is_many
 returns-else-is_many c =
     let read = c.loop-word.invariant in
-    let kept : lists c.loop-word.columns.items ≡ read.columns = rw c.if-is_many.false at read.kept_are in
-    (read.columns, are_columns c.args.order c.len-rows.result read.columns read.are, words_all read.columns (words_of c.args.rest.now) (words_of c.loop-word.left.now) read.spelled c.in_default.ensures.words, kept)
+    let kept : lists c.loop-word.columns.items ≡ read.columns = rw c.if-is_many.false at read.kept_are in (
+      read.columns,
+      are_columns c.args.order c.len-rows.result read.columns read.are,
+      words_all read.columns (words_of c.args.rest.now) (words_of c.loop-word.left.now) read.spelled c.in_default.ensures.words,
+      kept,
+    )

@@ -53,7 +53,8 @@ loop-d-2-preserved c =
     (lower_none c.args.number c.loop-d-2.d (omega arith))
     (c.requires.parts c.loop-d-2.d (omega arith) (λ (e : c.loop-d-2.d ≡ c.args.number). omega arith)) in
     moved _ _ _ _ _ _ _ _
-    (lower_step _ _ c.loop-d-2.d _ _ _ c.index-owners-d-in-loop-d-2.result c.seat_at-in-loop-d-2.new.own c.in_ok-seat_at-2.field-0 c.loop-d-2.invariant (omega arith) (omega arith) o many c.seat_at-in-loop-d-2.ensures.same c.in_ok-seat_at-2.ensures.seat)
+    (lower_step _ _ c.loop-d-2.d _ _ _ c.index-owners-d-in-loop-d-2.result c.seat_at-in-loop-d-2.new.own c.in_ok-seat_at-2.field-0
+    c.loop-d-2.invariant (omega arith) (omega arith) o many c.seat_at-in-loop-d-2.ensures.same c.in_ok-seat_at-2.ensures.seat)
     (omega arith) c.in_ok-push-2.ensures.items
 
 pub seat_at-requires-in-loop-d-2 : goal.seat_at-requires-in-loop-d-2

@@ -33,8 +33,10 @@ returns-in_default-clause-part g c =
     part_done c.args.request.now Ns c.forbid-forbidden.ensures.given c.args.parents.now (shift_taken c.args.shift.now) (shift_taken c.next-in-loop.new.self)
     c.args.pass.now c.loop.pass c.loop.tried
     (subst (λ (mode : Mode).
-    HasTaken mode Ns c.args.parents.now (shift_taken c.args.shift.now) (shift_taken c.next-in-loop.new.self) c.args.pass.now c.loop.pass c.loop.tried) c.mode-mode.ensures
-    (subst (λ (now : List ℕ). HasTaken c.mode-mode.result Ns c.args.parents.now (shift_taken c.args.shift.now) now c.args.pass.now c.loop.pass c.loop.tried) (sym same)
+    HasTaken mode Ns c.args.parents.now (shift_taken c.args.shift.now)
+    (shift_taken c.next-in-loop.new.self) c.args.pass.now c.loop.pass c.loop.tried) c.mode-mode.ensures
+    (subst (λ (now : List ℕ). HasTaken c.mode-mode.result Ns c.args.parents.now
+    (shift_taken c.args.shift.now) now c.args.pass.now c.loop.pass c.loop.tried) (sym same)
     c.loop.invariant.so_far))
 
 pub unreachable-requires : goal.unreachable-requires
@@ -63,7 +65,8 @@ overflow_add-tried g c =
     c.in-Some-get.parent.now (sym c.in-Some-get.ensures) c.in-Some-next.ensures.taken.1 (search rules) (shift_taken c.next-in-loop.new.self)
     c.offer_children.new.pass c.in_ok-more.more (c.loop.tried + c.from-tried.result) c.in-Some-next.ensures.taken.2 c.in_ok-more.ensures.offered
     (ap (λ (k : ℕ). c.loop.tried + k) c.from-tried.ensures) in
-    let fits : c.loop.tried + c.from-tried.result < 2 ^ 128 = tries_fit c.mode-mode.result Ns parents (shift_taken c.args.shift.now) (shift_taken c.next-in-loop.new.self)
+    let fits : c.loop.tried + c.from-tried.result < 2 ^ 128 = tries_fit c.mode-mode.result Ns parents (shift_taken c.args.shift.now)
+    (shift_taken c.next-in-loop.new.self)
     c.args.pass.now c.offer_children.new.pass (c.loop.tried + c.from-tried.result) h in
     omega arith
 

@@ -15,7 +15,8 @@ invariant_of-result c =
       rank_most = subst (λ (n : ℕ). n ≤ 6) (sym c.rank.ensures) r.rank_most;
       size_most = subst (λ (n : ℕ). n ≤ 16) (sym c.size-size.ensures.value) r.size_most;
       rising = b.rising;
-      below = λ k d l. subst (λ (n : ℕ). slice_index_or c.in_ok-bases_of.field-0.items k d < 2 ^ n) (sym c.size-size.ensures.value) ((b.exact _).0 (Contains-get_or c.in_ok-bases_of.field-0.items k d l)).0;
+      below = λ k d l. subst (λ (n : ℕ). slice_index_or c.in_ok-bases_of.field-0.items k d < 2 ^ n) (sym c.size-size.ensures.value)
+          ((b.exact _).0 (Contains-get_or c.in_ok-bases_of.field-0.items k d l)).0;
       of_rank = λ k d l.
           (let w = (b.exact _).0 (Contains-get_or c.in_ok-bases_of.field-0.items k d l) in
           (λ u. size_below (c.size-size.ensures.value u) (members (slice_index_or c.in_ok-bases_of.field-0.items k d))) ∙ w.1.full ∙ sym c.rank.ensures);

@@ -15,7 +15,8 @@ returns-clause-permutation c =
     let v : c.as_mut_slice.result.now ≡ c.self.inside.columns.items = c.as_mut_slice.ensures.value in
     let e : refill (length c.self.inside.columns.items) c.self.inside.columns.items c.sort_unstable.new.self ≡ c.sort_unstable.new.self =
     refill_whole _ _ _ refl (c.sort_unstable.ensures.len ∙ ap (λ (w : List (ArrayVec ℕ)). length w) v) in
-    subst (λ (w : List (List ℕ)). IsPermutation w (lists (refill (length c.self.inside.columns.items) c.self.inside.columns.items c.sort_unstable.new.self))) c.self.view_is
+    subst (λ (w : List (List ℕ)). IsPermutation w
+    (lists (refill (length c.self.inside.columns.items) c.self.inside.columns.items c.sort_unstable.new.self))) c.self.view_is
     (subst (λ w. IsPermutation (lists c.self.inside.columns.items) (lists w)) (sym e)
     (IsPermutation-map (λ (w : ArrayVec ℕ). w.items) _ _ (subst (λ w. IsPermutation w c.sort_unstable.new.self) v c.sort_unstable.ensures.permutation)))
 

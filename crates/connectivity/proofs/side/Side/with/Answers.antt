@@ -17,7 +17,9 @@ returns-clause-side c =
     let m : size c.args.rep.now ≤ 16 = c.laws.ensures.size_most in
     elim c.if-is_independent.branch [
       | then-is_independent w ↦ subst (λ (b : ℕ). IsSide c.args.rep.now (bit_or c.args.self.set (one c.args.j)) b) (sym w.basis-is)
-          (side_longer c.args.rep.now c.args.self.set c.args.self.basis c.args.j c.requires.column m c.requires.side (c.is_independent.ensures.0 w.if-is_independent.true))
+          (side_longer c.args.rep.now c.args.self.set c.args.self.basis c.args.j c.requires.column m c.requires.side
+          (c.is_independent.ensures.0 w.if-is_independent.true))
       | else-is_independent w ↦ subst (λ (b : ℕ). IsSide c.args.rep.now (bit_or c.args.self.set (one c.args.j)) b) (sym w.basis-is)
-          (side_same c.args.rep.now c.args.self.set c.args.self.basis c.args.j c.requires.column m c.requires.side (λ d. false≢true (sym w.if-is_independent.false ∙ c.is_independent.ensures.1 d)))
+          (side_same c.args.rep.now c.args.self.set c.args.self.basis c.args.j c.requires.column m c.requires.side
+          (λ d. false≢true (sym w.if-is_independent.false ∙ c.is_independent.ensures.1 d)))
     ]

@@ -5,7 +5,8 @@ use Rattle.extension.proofs.Values.{nearer}
 use Rattle.extension.proofs.columns.ColumnsIterator.next.Goals as goal
 
 -- a step goes nearer to the end, by the names of the states
-progress : (columns now : ColumnsAfter) (v last : List ℕ) → columns ≡ now → last ≡ v → KeepsColumns columns → IsNextColumn columns v → above_values - value last < above_values - value now.last
+progress : (columns now : ColumnsAfter) (v last : List ℕ) → columns ≡ now → last ≡ v → KeepsColumns columns →
+    IsNextColumn columns v → above_values - value last < above_values - value now.last
 progress columns now v last e d k n =
     let r = k.is_rep in
     let a : IsAdmissible columns.parent v = n.admissible in

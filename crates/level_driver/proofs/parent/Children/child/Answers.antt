@@ -17,7 +17,8 @@ invariant_of-self-2 c =
     answer_of k v c.child-child.result c.child-child.ensures.none c.child-child.ensures.avoids c.child-child.ensures.form c.child-child.ensures.equivalent in
     let l : Leader = record { column = c.list_of.result; child = c.copy_of.result } in
     more_answers k s.symmetries s.leaders.items c.push.new.self.items l c.self.invariant
-    (subst (λ (w : List ℕ). IsAnswer k w c.copy_of.result) (sym (c.list_of.ensures ∙ c.as_slice.ensures.value)) (subst (IsAnswer k v) (sym c.copy_of.ensures) answer)) c.in_ok-push.ensures.items
+    (subst (λ (w : List ℕ). IsAnswer k w c.copy_of.result) (sym (c.list_of.ensures ∙ c.as_slice.ensures.value))
+    (subst (IsAnswer k v) (sym c.copy_of.ensures) answer)) c.in_ok-push.ensures.items
 
 pub returns-clause-none : goal.returns-clause-none
 returns-clause-none c =

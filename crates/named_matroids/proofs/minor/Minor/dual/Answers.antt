@@ -37,10 +37,13 @@ overflow_sub-rank c = let m : c.args.self.now.rank ≤ c.args.self.now.size = ra
 
 pub of-requires : goal.of-requires
 of-requires c =
-    dual_small c.args.self.now c.laws.ensures (record { rank = c.size-size.result - c.rank.result; size = c.size-size.result; bases = c.few_sets_of_size-bases.result.items })
-    (is_dual c.args.self.now c.laws.ensures c.size-size.result c.rank.result c.size-size.ensures.value c.rank.ensures _ c.few_sets_of_size-bases.result.items (λ X s b a. search rules) c.few_sets_of_size-bases.ensures)
+    dual_small c.args.self.now c.laws.ensures
+    (record { rank = c.size-size.result - c.rank.result; size = c.size-size.result; bases = c.few_sets_of_size-bases.result.items })
+    (is_dual c.args.self.now c.laws.ensures c.size-size.result c.rank.result c.size-size.ensures.value c.rank.ensures
+    _ c.few_sets_of_size-bases.result.items (λ X s b a. search rules) c.few_sets_of_size-bases.ensures)
 
 pub returns : goal.returns
 returns c =
     subst (IsDual c.args.self.now) (sym c.of.ensures)
-    (is_dual c.args.self.now c.laws.ensures c.size-size.result c.rank.result c.size-size.ensures.value c.rank.ensures _ c.few_sets_of_size-bases.result.items (λ X s b a. search rules) c.few_sets_of_size-bases.ensures)
+    (is_dual c.args.self.now c.laws.ensures c.size-size.result c.rank.result c.size-size.ensures.value c.rank.ensures
+    _ c.few_sets_of_size-bases.result.items (λ X s b a. search rules) c.few_sets_of_size-bases.ensures)

@@ -25,5 +25,6 @@ returns-then-place-j c =
 pub returns-else-place-j : goal.returns-else-place-j
 returns-else-place-j c = (
   λ t. absurd (c.if-place-j.false (eqb-true _ _ t)),
-  λ d. absurd (c.if-place-j.false (c.place.ensures.place ∙ ap (λ (x : ℕ). unwrap_or (position (λ l. l == x) c.args.self.now.labels) 0) c.label.ensures ∙ d.there)),
+  λ d. absurd (c.if-place-j.false
+      (c.place.ensures.place ∙ ap (λ (x : ℕ). unwrap_or (position (λ l. l == x) c.args.self.now.labels) 0) c.label.ensures ∙ d.there)),
 )

@@ -19,7 +19,8 @@ unit_below q i j o = bit (i == j)
     bit false = let h : 1 < q = (field_laws q o).two in omega arith
 
 -- a unit column of all factors may follow
-is_column : (factors : List ℕ) (r c j : ℕ) (v : List ℕ) → IsFactors factors → c ≡ length factors → length v ≡ r * c → ((i f : ℕ) → i < r → f < c → slice_index v (i * c + f) ≡ unit i j) → IsProductColumn factors r v
+is_column : (factors : List ℕ) (r c j : ℕ) (v : List ℕ) → IsFactors factors → c ≡ length factors → length v ≡ r * c →
+    ((i f : ℕ) → i < r → f < c → slice_index v (i * c + f) ≡ unit i j) → IsProductColumn factors r v
 is_column factors r c j v h e l u = record {
   rows = l ∙ ap (λ (n : ℕ). r * n) e;
   codes = λ i f m o. subst (λ (x : ℕ). x < slice_index factors f) (sym (at i f m o)) (unit_below (slice_index factors f) i j (h.fields f o));
@@ -36,7 +37,9 @@ push_column-requires-clause-column c =
     (c.count-count.ensures.count ∙ ap (λ (fs : List ℕ). length fs) (sym h.factors)) c.unit_column.ensures.rows c.unit_column.ensures.codes)
 
 -- one more unit column
-step : (P : Rep) (v : List ℕ) (j : ℕ) → size P ≡ j → ((f i k : ℕ) → f < count P → i < P.rank → k < j → matrix P f i k ≡ unit i k) → ((i f : ℕ) → i < P.rank → f < count P → slice_index v (i * count P + f) ≡ unit i j) → (f i k : ℕ) → f < count P → i < P.rank → k < j + 1 → matrix (followed_by P v) f i k ≡ unit i k
+step : (P : Rep) (v : List ℕ) (j : ℕ) → size P ≡ j → ((f i k : ℕ) → f < count P → i < P.rank → k < j → matrix P f i k ≡ unit i k) →
+    ((i f : ℕ) → i < P.rank → f < count P → slice_index v (i * count P + f) ≡ unit i j) → (f i k : ℕ) → f < count P → i < P.rank →
+    k < j + 1 → matrix (followed_by P v) f i k ≡ unit i k
 step P v j s u h f i k l m o =
     elim (cases_lt k j) [
       | inl b ↦ matrix_before P v f i k (omega arith) ∙ u f i k l m b
@@ -56,5 +59,7 @@ loop-j-preserved c =
       units = subst (λ P. (f i k : ℕ) → f < count P → i < P.rank → k < c.loop-j.j + 1 → matrix P f i k ≡ unit i k) (sym e)
           (step c.loop-j.rep c.unit_column.result.items c.loop-j.j h.size h.units
           (subst (λ (m : ℕ). (i f : ℕ) → i < c.loop-j.rep.rank → f < m → slice_index c.unit_column.result.items (i * m + f) ≡ unit i c.loop-j.j) n
-          (subst (λ (r : ℕ). (i f : ℕ) → i < r → f < c.count-count.result → slice_index c.unit_column.result.items (i * c.count-count.result + f) ≡ unit i c.loop-j.j) (sym h.rank) c.unit_column.ensures.codes)));
+          (subst (λ (r : ℕ). (i f : ℕ) → i < r → f < c.count-count.result →
+          slice_index c.unit_column.result.items (i * c.count-count.result + f) ≡ unit i c.loop-j.j)
+          (sym h.rank) c.unit_column.ensures.codes)));
     }

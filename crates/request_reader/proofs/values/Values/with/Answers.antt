@@ -29,7 +29,8 @@ pub returns-in-Forbid-Small : goal.returns-in-Forbid-Small
 returns-in-Forbid-Small c = λ es e h s.
     let room : length c.args.self.forbid.items < 8 = grind (arith, nat_tests) in
     let is = c.in-Forbid.is ∙ ap Forbid (c.in-Forbid-Small.field-0-is ∙ ap Small (sym c.in-Forbid-Small.item-is)) in
-    subst (λ values. Holds (es ++ e ∷ []) values) (sym c.with_forbidden.ensures.values) (forbid_new es c.args.self c.args.said e _ h s is room c.with_forbidden.ensures.given)
+    subst (λ values. Holds (es ++ e ∷ []) values) (sym c.with_forbidden.ensures.values)
+    (forbid_new es c.args.self c.args.said e _ h s is room c.with_forbidden.ensures.given)
 
 pub returns-in-Forbid-TooBig : goal.returns-in-Forbid-TooBig
 returns-in-Forbid-TooBig c = λ es e h s.
@@ -51,9 +52,11 @@ returns-in-Print c = λ es e h s. print_new es c.args.self c.args.said e c.in-Pr
 pub returns-in_default : goal.returns-in_default
 returns-in_default c = λ es e h s. elim c.in_default.branch [
   | in_default-via-in-Version+else-not-self w ↦ version_again es c.args.self c.args.said e h s w.in-Version.is w.if-not-self.false
-  | in_default-via-in-Rank+else-is_none w ↦ rank_again es c.args.self c.args.said e w.in-Rank.rank h s w.in-Rank.is (is_there _ _ w.is_none.ensures w.if-is_none.false)
+  | in_default-via-in-Rank+else-is_none w ↦
+      rank_again es c.args.self c.args.said e w.in-Rank.rank h s w.in-Rank.is (is_there _ _ w.is_none.ensures w.if-is_none.false)
   | in_default-via-in-Field+else-is_none-2 w ↦ field_again es c.args.self c.args.said e w.in-Field.factors h s w.in-Field.is w.if-is_none-2.ensures
   | in_default-via-in-Size+else-is_none-3 w ↦ size_again es c.args.self c.args.said e w.in-Size.size h s w.in-Size.is w.if-is_none-3.ensures
-  | in_default-via-in-Equivalence+else-is_none-4 w ↦ mode_again es c.args.self c.args.said e w.in-Equivalence.mode h s w.in-Equivalence.is w.if-is_none-4.ensures
+  | in_default-via-in-Equivalence+else-is_none-4 w ↦
+      mode_again es c.args.self c.args.said e w.in-Equivalence.mode h s w.in-Equivalence.is w.if-is_none-4.ensures
   | in_default-via-in-Print+else-is_none-5 w ↦ print_again es c.args.self c.args.said e w.in-Print.print h s w.in-Print.is w.if-is_none-5.ensures
 ]

@@ -7,11 +7,13 @@ pub returns : goal.returns
 returns c =
     let s = c.self.inside in
     let here : c.args.i < length s.moves.items = subst (λ (m : MovesOf). c.args.i < length m.moves) (sym c.self.view_is) c.requires.index in
-    let symmetry : IsSymmetry s.mode s.parent c.index.result.now = subst (IsSymmetry s.mode s.parent) (sym c.index.ensures) (c.self.invariant c.args.i c.index.result.now here) in
+    let symmetry : IsSymmetry s.mode s.parent c.index.result.now = subst (IsSymmetry s.mode s.parent) (sym c.index.ensures)
+    (c.self.invariant c.args.i c.index.result.now here) in
     let equivalent = c.image.ensures.equivalent s.mode symmetry in
     subst (λ (m : MovesOf). IsImage m c.args.column.now.items c.image.result.items) c.self.view_is record {
       equivalent = equivalent;
       column = c.image.ensures.column;
       scaled = c.image.ensures.scaled;
-      admissible = λ st a. admissible_image s.mode s.parent c.args.column.now.items c.image.result.items c.laws.ensures.fields.some st equivalent c.image.ensures.scaled a;
+      admissible = λ st a. admissible_image s.mode s.parent c.args.column.now.items c.image.result.items c.laws.ensures.fields.some
+          st equivalent c.image.ensures.scaled a;
     }

@@ -24,7 +24,8 @@ loop-preserved c =
     let s : MovesOf = c.args.self.now in
     let h : IsImage s c.loop.least.items c.in-Some.lower.items = c.in-Some.ensures in
     record {
-      equivalent = equivalent-transitive s.mode (followed_by s.parent c.args.column.now.items) (followed_by s.parent c.loop.least.items) (followed_by s.parent c.in-Some.lower.items)
+      equivalent = equivalent-transitive s.mode (followed_by s.parent c.args.column.now.items)
+          (followed_by s.parent c.loop.least.items) (followed_by s.parent c.in-Some.lower.items)
           c.loop.invariant.equivalent h.equivalent;
       column = h.column;
     }

@@ -10,7 +10,8 @@ use Rattle.symmetry.proofs.single.OpenMove.image.Goals as goal
 column_here : (P : Rep) (fs : List ℕ) (r : ℕ) (u : List ℕ) → fs ≡ P.factors → r ≡ P.rank → IsProductColumn fs r u → IsProductColumn P.factors P.rank u
 column_here P fs r u fe re h = subst (λ (r : ℕ). IsProductColumn P.factors r u) re (subst (λ (fs : List ℕ). IsProductColumn fs r u) fe h)
 
-leads_here : (P : Rep) (fs : List ℕ) (r : ℕ) (w scalars : List ℕ) → fs ≡ P.factors → r ≡ P.rank → AreLeadScalars fs r w scalars → AreLeadScalars P.factors P.rank w scalars
+leads_here : (P : Rep) (fs : List ℕ) (r : ℕ) (w scalars : List ℕ) → fs ≡ P.factors → r ≡ P.rank → AreLeadScalars fs r w scalars →
+    AreLeadScalars P.factors P.rank w scalars
 leads_here P fs r w scalars fe re h = subst (λ (r : ℕ). AreLeadScalars P.factors r w scalars) re (subst (λ (fs : List ℕ). AreLeadScalars fs r w scalars) fe h)
 
 codes_here : (P : Rep) (fs : List ℕ) (r : ℕ) (w u ss scalars : List ℕ) → fs ≡ P.factors → r ≡ P.rank → ss ≡ scalars
@@ -26,19 +27,25 @@ returns-clause-equivalent c =
     let P : Rep = c.args.rep.now in
     let fe = c.factors-factors.ensures in
     let re = c.rank-rank.ensures in
-    image_equivalent P c.args.self.now c.requires.shape c.laws.ensures.shaped c.args.column.now.items c.mapped-image.result.items c.multiplied.result.items c.lead_scalars-scalars.result.items c.requires.column
+    image_equivalent P c.args.self.now c.requires.shape c.laws.ensures.shaped c.args.column.now.items c.mapped-image.result.items
+    c.multiplied.result.items c.lead_scalars-scalars.result.items c.requires.column
     (column_here P c.factors-factors.result c.rank-rank.result c.multiplied.result.items fe re c.multiplied.ensures.column) c.mapped-image.ensures.codes
-    (leads_here P c.factors-factors.result c.rank-rank.result c.mapped-image.result.items c.lead_scalars-scalars.result.items fe re c.lead_scalars-scalars.ensures)
-    (codes_here P c.factors-factors.result c.rank-rank.result c.mapped-image.result.items c.multiplied.result.items c.as_slice.result.now c.lead_scalars-scalars.result.items fe re c.as_slice.ensures.value c.multiplied.ensures.codes)
+    (leads_here P c.factors-factors.result c.rank-rank.result c.mapped-image.result.items c.lead_scalars-scalars.result.items fe re
+    c.lead_scalars-scalars.ensures)
+    (codes_here P c.factors-factors.result c.rank-rank.result c.mapped-image.result.items c.multiplied.result.items
+    c.as_slice.result.now c.lead_scalars-scalars.result.items fe re c.as_slice.ensures.value c.multiplied.ensures.codes)
 
 pub returns-clause-scaled : goal.returns-clause-scaled
 returns-clause-scaled c =
     let P : Rep = c.args.rep.now in
     let fe = c.factors-factors.ensures in
     let re = c.rank-rank.ensures in
-    image_ones P c.args.self.now c.requires.shape c.laws.ensures.shaped c.args.column.now.items c.mapped-image.result.items c.multiplied.result.items c.lead_scalars-scalars.result.items c.requires.column
+    image_ones P c.args.self.now c.requires.shape c.laws.ensures.shaped c.args.column.now.items c.mapped-image.result.items
+    c.multiplied.result.items c.lead_scalars-scalars.result.items c.requires.column
     (column_here P c.factors-factors.result c.rank-rank.result c.multiplied.result.items fe re c.multiplied.ensures.column) c.mapped-image.ensures.codes
-    (leads_here P c.factors-factors.result c.rank-rank.result c.mapped-image.result.items c.lead_scalars-scalars.result.items fe re c.lead_scalars-scalars.ensures)
-    (codes_here P c.factors-factors.result c.rank-rank.result c.mapped-image.result.items c.multiplied.result.items c.as_slice.result.now c.lead_scalars-scalars.result.items fe re c.as_slice.ensures.value c.multiplied.ensures.codes)
+    (leads_here P c.factors-factors.result c.rank-rank.result c.mapped-image.result.items c.lead_scalars-scalars.result.items fe re
+    c.lead_scalars-scalars.ensures)
+    (codes_here P c.factors-factors.result c.rank-rank.result c.mapped-image.result.items c.multiplied.result.items
+    c.as_slice.result.now c.lead_scalars-scalars.result.items fe re c.as_slice.ensures.value c.multiplied.ensures.codes)
     (λ f l. field_laws (order P f) (c.laws.ensures.shaped.orders f l))
     (column_of_shape P c.args.self.now c.mapped-image.result.items c.requires.shape c.mapped-image.ensures.column)
