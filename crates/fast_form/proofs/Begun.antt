@@ -6,8 +6,8 @@ use Rattle.matroid_theory.specs.Rep.{Rep, count, size, order, matrix, IsShaped}
 use Rattle.matroid_theory.proofs.Sums.{times_zero}
 use Rattle.form_search.specs.Search.{IsThere, IsLed, IsFrame}
 use Rattle.form_search.specs.Start.{zero_layer, others_of, IsZeroTest, zero_test, IsStarted}
-use Rattle.form_search.proofs.Entries.{field}
-use Rattle.form_search.proofs.Supports.{same_support}
+use Rattle.form_trails.proofs.Entries.{field}
+use Rattle.form_trails.proofs.Supports.{same_support}
 use Rattle.form_search.proofs.Placing.{and_true}
 use Rattle.form_search.proofs.Rows.{next_frame}
 use Rattle.form_search.proofs.Starts.{start_trail, start_ordered, start_coordinates}

@@ -6,8 +6,8 @@ use Rattle.std.proofs.lemmas.Bool.{cases_lt}
 use mathlib.Core.Bool.{true≢false}
 use Rattle.matroid_theory.specs.Rep.{Rep, count, size, matrix, IsShaped, KeepsLimits}
 use Rattle.matroid_theory.specs.Move.{Move}
-use Rattle.form_search.specs.Trail.{ReachesForm, Trail, Follows}
-use Rattle.form_search.specs.Least.{number, scaled, MakesOnes}
+use Rattle.form_trails.specs.Trail.{ReachesForm, Trail, Follows}
+use Rattle.form_trails.specs.Least.{number, scaled, MakesOnes}
 use Rattle.form_search.specs.Search.{Entries, IsThere, IsFrame, IsPlacing, IsAtMost, Covers, AreOfClass, Stands, Improves, numbers_of}
 use Rattle.form_search.proofs.Found.{improves_nothing, improves_more, improves_before, stands_after, given_up, class_length}
 use Rattle.form_search.proofs.Full.{settled_numbers, settled_room}

@@ -7,10 +7,10 @@ use Rattle.std.proofs.Math.ListN.{get_or-append}
 use Rattle.matroid_theory.specs.Rep.{Rep, Shape, shape, count, size, IsShaped, IsStandard, IsProductColumn}
 use Rattle.matroid_theory.specs.Level.{followed_by}
 use Rattle.matroid_theory.proofs.First.{row_below, whole}
-use Rattle.form_search.specs.Numbers.{weighed}
+use Rattle.form_trails.specs.Numbers.{weighed}
 use Rattle.form_search.specs.Search.{AreOfClass}
-use Rattle.form_search.proofs.Numbers.{value-weighed, digit_of}
-use Rattle.form_search.proofs.Columns.{column, column_length, column_digits, column_number}
+use Rattle.form_trails.proofs.Numbers.{value-weighed, digit_of}
+use Rattle.form_trails.proofs.Columns.{column, column_length, column_digits, column_number}
 use Rattle.form_search.proofs.Found.{numbers_at, class_length}
 
 module _ (M : Rep) (numbers : List ℕ) (class : AreOfClass M numbers) where

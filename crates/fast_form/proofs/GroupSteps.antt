@@ -6,7 +6,7 @@ use Rattle.std.proofs.lemmas.List.{get_or-set_same, get_or-set_other}
 use Rattle.matroid_theory.specs.Field.{times}
 use Rattle.std.proofs.Math.Nat.{mod-lt}
 use Rattle.matroid_theory.proofs.First.{row_below}
-use Rattle.form_search.proofs.Numbers.{weighed_same}
+use Rattle.form_trails.proofs.Numbers.{weighed_same}
 use Rattle.fast_form.specs.Codes.{code}
 use Rattle.fast_form.specs.Groups.{AreGroupFactors, MarksGroups}
 use Rattle.fast_form.specs.States.{IsScaledNumber}

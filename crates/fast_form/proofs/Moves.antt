@@ -8,15 +8,15 @@ use Rattle.std.proofs.lemmas.List.{get_or-set_same, get_or-set_other}
 use Rattle.matroid_theory.specs.Field.{plus, times}
 use Rattle.matroid_theory.specs.Rep.{Rep, count, size, order, IsShaped, KeepsLimits}
 use Rattle.matroid_theory.proofs.Sums.{same_number, other_number, times_zero}
-use Rattle.form_search.specs.Trail.{Trail, Follows, TiesGroups}
-use Rattle.form_search.specs.Pivot.{exchange, cleared, pivoted}
-use Rattle.form_search.specs.Least.{number, scaled, MakesOnes}
+use Rattle.form_trails.specs.Trail.{Trail, Follows, TiesGroups}
+use Rattle.form_trails.specs.Pivot.{exchange, cleared, pivoted}
+use Rattle.form_trails.specs.Least.{number, scaled, MakesOnes}
 use Rattle.form_search.specs.Search.{Entries, IsThere, IsLed, IsPlacing}
-use Rattle.form_search.proofs.Entries.{field}
+use Rattle.form_trails.proofs.Entries.{field}
 use Rattle.form_search.proofs.Placing.{and_true, both_true, not_same, after, layer_after, rest_after, placed_state, follows_after}
 use Rattle.form_search.proofs.Rows.{IsDivided, chosen_state, with_row, follows_chosen, next_frame}
 use Rattle.form_search.proofs.Starts.{placing_same}
-use Rattle.form_search.proofs.Ties.{IsSupported, ties_by, ones_same}
+use Rattle.form_trails.proofs.Ties.{IsSupported, ties_by, ones_same}
 use Rattle.fast_form.specs.Codes.{code, cleared_code}
 use Rattle.fast_form.specs.Groups.{AreGroupFactors, MarksGroups}
 use Rattle.fast_form.specs.States.{IsShapeOf, AreColumns, AreGroups, entries_of, scaled_entries, layer_of, rest_of}

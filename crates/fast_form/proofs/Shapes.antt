@@ -8,14 +8,14 @@ use Rattle.matroid_theory.specs.Rep.{Rep, count, size, order, IsShaped, KeepsLim
 use Rattle.matroid_theory.specs.Matroid.{IsRepresentation}
 use Rattle.matroid_theory.proofs.First.{row_below}
 use Rattle.matroid_theory.proofs.FieldLaws.{field_laws}
-use Rattle.form_search.specs.Trail.{Trail, IsOrdered}
-use Rattle.form_search.specs.Pivot.{cleared}
-use Rattle.form_search.specs.Numbers.{weighed}
-use Rattle.form_search.specs.Least.{scaled, MakesOnes}
+use Rattle.form_trails.specs.Trail.{Trail, IsOrdered}
+use Rattle.form_trails.specs.Pivot.{cleared}
+use Rattle.form_trails.specs.Numbers.{weighed}
+use Rattle.form_trails.specs.Least.{scaled, MakesOnes}
 use Rattle.form_search.specs.Search.{Entries, IsThere, IsEntry, IsPlacing}
-use Rattle.form_search.proofs.Numbers.{weighed_same}
-use Rattle.form_search.proofs.Supports.{same_support}
-use Rattle.form_search.proofs.Ties.{IsSupported}
+use Rattle.form_trails.proofs.Numbers.{weighed_same}
+use Rattle.form_trails.proofs.Supports.{same_support}
+use Rattle.form_trails.proofs.Ties.{IsSupported}
 use Rattle.fast_form.proofs.GroupSteps.{scaled_same}
 use Rattle.fast_form.specs.Codes.{code, AreColumnCodes, cleared_code}
 use Rattle.fast_form.specs.Groups.{AreGroupFactors}

@@ -3,11 +3,11 @@ use Rattle.std.specs.Prelude.{ℕ, suc, [], ◌∷◌, ◌*◌, ◌/◌, ◌%◌
 use Rattle.std.specs.Option.{MatchOption}
 use Rattle.matroid_theory.specs.Rep.{Rep, count, size, order, KeepsLimits, IsStandard}
 use Rattle.matroid_theory.specs.Matroid.{Agrees}
-use Rattle.form_search.specs.Least.{number, scaled, MakesOnes}
-use Rattle.form_search.specs.Pivot.{pivoted}
+use Rattle.form_trails.specs.Least.{number, scaled, MakesOnes}
+use Rattle.form_trails.specs.Pivot.{pivoted}
 use Rattle.form_search.specs.Search.{Entries, IsThere}
 use Rattle.matroid_theory.specs.Field.{times}
-use Rattle.form_search.specs.Numbers.{weighed}
+use Rattle.form_trails.specs.Numbers.{weighed}
 use Rattle.fast_form.specs.Codes.{AreColumnCodes, code}
 use Rattle.fast_form.specs.Groups.{AreGroupFactors}
 

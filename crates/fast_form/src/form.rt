@@ -8,7 +8,7 @@ ghost use Rattle.std.specs.Ordering.{nat_cmp};
 ghost use Rattle.std.specs.declared.cmp.Ordering.TheVariants.{Greater};
 ghost use Rattle.matroid_theory.specs.Rep.{Rep as Matrices};
 ghost use Rattle.matroid_theory.specs.Move.{Move, AreEquivalent};
-ghost use Rattle.form_search.specs.Trail.{ReachesForm};
+ghost use Rattle.form_trails.specs.Trail.{ReachesForm};
 ghost use Rattle.matroid_theory.specs.Order.{IsForm};
 ghost use Rattle.form_search.specs.Search.{AreOfClass, Stands, numbers_of};
 ghost use Rattle.form_search.specs.Start.{CoversAll, IsStarted, IsZeroTest, zero_test};

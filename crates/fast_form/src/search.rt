@@ -4,7 +4,7 @@ ghost use Rattle.std.specs.Option.{MatchOption};
 ghost use Rattle.matroid_theory.specs.Rep.{size};
 ghost use Rattle.matroid_theory.specs.Rep.{Rep as Matrices};
 ghost use Rattle.matroid_theory.specs.Move.{Move};
-ghost use Rattle.form_search.specs.Trail.{Trail, ReachesForm, Follows};
+ghost use Rattle.form_trails.specs.Trail.{Trail, ReachesForm, Follows};
 ghost use Rattle.form_search.specs.Search.{IsFrame, IsPlacing, IsThere, IsAtMost, Stands, AreOfClass, Improves, Covers, numbers_of};
 ghost use Rattle.fast_form.specs.States.{IsShapeOf, AreColumns, AreGroups, entries_of, layer_of, rest_of, AreLeastNumbers, IsLeastNumber, IsLeastOf};
 ghost use Rattle.fast_form.specs.Steps.{AreStateCodes};

@@ -2,7 +2,7 @@
 ghost use Rattle.std.specs.Prelude.{◌≡◌, ◌≢◌, ◌<◌, ◌≤◌, ◌+◌, ◌-◌, ◌*◌, ◌^◌, ◌∷◌, [], ◌++◌, ℕ, List, IfSome, IfNone, length, slice_index, slice_index_or, true, false};
 ghost use Rattle.std.specs.Option.{MatchOption};
 ghost use Rattle.matroid_theory.specs.Field.{times};
-ghost use Rattle.form_search.specs.Trail.{Trail};
+ghost use Rattle.form_trails.specs.Trail.{Trail};
 ghost use Rattle.form_search.specs.Search.{IsPlacing, IsThere, Stands};
 ghost use Rattle.fast_form.specs.Codes.{AreColumnCodes, code};
 ghost use Rattle.fast_form.specs.States.{IsShapeOf, AreLimits, AreColumns, AreGroups, entries_of, layer_of, rest_of, AreLeastNumbers, IsLeastOf, marked};

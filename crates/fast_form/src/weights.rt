@@ -1,6 +1,6 @@
 // Numbers of columns.
 ghost use Rattle.std.specs.Prelude.{◌≡◌, ◌<◌, ◌≤◌, ◌+◌, ◌*◌, ◌/◌, ◌%◌, ◌^◌, [], ℕ, slice_index, slice_index_or};
-ghost use Rattle.form_search.specs.Numbers.{weighed, weighed_on};
+ghost use Rattle.form_trails.specs.Numbers.{weighed, weighed_on};
 ghost use Rattle.fast_form.specs.Codes.{code};
 
 use crate::codes::Codes;

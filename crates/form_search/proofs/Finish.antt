@@ -15,12 +15,12 @@ use Rattle.matroid_theory.specs.Move.{Move, AreEquivalent}
 use Rattle.matroid_theory.specs.Order.{rep_cmp, IsForm}
 use Rattle.matroid_theory.proofs.First.{same_codes}
 use Rattle.matroid_theory.proofs.Equivalence.{equivalent-transitive}
-use Rattle.form_search.specs.Trail.{ReachesForm}
-use Rattle.form_search.specs.Numbers.{value}
-use Rattle.form_search.specs.Least.{number}
+use Rattle.form_trails.specs.Trail.{ReachesForm}
+use Rattle.form_trails.specs.Numbers.{value}
+use Rattle.form_trails.specs.Least.{number}
 use Rattle.form_search.specs.Search.{numbers_of, AreOfClass}
-use Rattle.form_search.proofs.Numbers.{value_below, value_ranked, value_same}
-use Rattle.form_search.proofs.Columns.{column, column_length, column_digits, column_number, same_column, number_same}
+use Rattle.form_trails.proofs.Numbers.{value_below, value_ranked, value_same}
+use Rattle.form_trails.proofs.Columns.{column, column_length, column_digits, column_number, same_column, number_same}
 use Rattle.form_search.proofs.Found.{below_less, numbers_length, numbers_at, class_length}
 use Rattle.form_search.proofs.FormsSuffice.{forms_suffice}
 

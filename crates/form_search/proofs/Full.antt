@@ -6,11 +6,11 @@ use Rattle.std.specs.declared.cmp.Ordering.TheVariants.{Greater}
 use Rattle.std.proofs.lemmas.Bool.{cases_lt}
 use Rattle.matroid_theory.specs.Rep.{Rep, count, size, matrix, IsShaped}
 use Rattle.matroid_theory.specs.Move.{Move}
-use Rattle.form_search.specs.Trail.{ReachesForm, Trail, Follows}
-use Rattle.form_search.specs.Least.{number}
+use Rattle.form_trails.specs.Trail.{ReachesForm, Trail, Follows}
+use Rattle.form_trails.specs.Least.{number}
 use Rattle.form_search.specs.Search.{Entries, IsThere, IsPlacing, Covers, AreOfClass, Stands, Improves, numbers_of}
-use Rattle.form_search.proofs.Columns.{number_entries}
-use Rattle.form_search.proofs.Ends.{member_begins}
+use Rattle.form_trails.proofs.Columns.{number_entries}
+use Rattle.form_trails.proofs.Ends.{member_begins}
 use Rattle.form_search.proofs.Found.{not_above_itself, full_at_most, full_begins, class_length, replaced}
 
 module _ (M : Rep) (shaped : IsShaped M) (some : 0 < count M) (k : ℕ) (groups : ℕ → ℕ) (settled : List ℕ) (layer rest : Entries)

@@ -6,15 +6,15 @@ use Rattle.matroid_theory.specs.Rep.{Rep, count, size, order, matrix, IsShaped}
 use Rattle.matroid_theory.specs.Move.{Move}
 use Rattle.matroid_theory.proofs.Bases.{search_below}
 use Rattle.matroid_theory.proofs.Sums.{combination-scaled, sum_same}
-use Rattle.form_search.specs.Trail.{ReachesForm, Trail, AreCoordinates, Follows, IsOrdered, IsTrail}
-use Rattle.form_search.specs.Pivot.{exchange, pivoted}
+use Rattle.form_trails.specs.Trail.{ReachesForm, Trail, AreCoordinates, Follows, IsOrdered, IsTrail}
+use Rattle.form_trails.specs.Pivot.{exchange, pivoted}
 use Rattle.form_search.specs.Search.{Entries, IsThere, IsEntry, HasElement, IsLed, IsFrame, IsPlacing}
-use Rattle.form_search.proofs.Scalars.{IsScalar, times_scalar, times_turn}
-use Rattle.form_search.proofs.Exchanges.{exchange_one, exchange_two, exchange_other}
-use Rattle.form_search.proofs.Entries.{field}
-use Rattle.form_search.proofs.Ordered.{coordinates_same}
-use Rattle.form_search.proofs.Chosen.{own_place, chosen, chosen_here, chosen_after, chosen_coordinates, chosen_trail}
-use Rattle.form_search.proofs.Heads.{layer_before, head_same}
+use Rattle.form_trails.proofs.Scalars.{IsScalar, times_scalar, times_turn}
+use Rattle.form_trails.proofs.Exchanges.{exchange_one, exchange_two, exchange_other}
+use Rattle.form_trails.proofs.Entries.{field}
+use Rattle.form_trails.proofs.Ordered.{coordinates_same}
+use Rattle.form_trails.proofs.Chosen.{own_place, chosen, chosen_here, chosen_after, chosen_coordinates, chosen_trail}
+use Rattle.form_trails.proofs.Heads.{layer_before, head_same}
 
 -- ---- an element is chosen for row k
 

@@ -15,19 +15,19 @@ use Rattle.matroid_theory.proofs.Standard.{ordered_independent}
 use Rattle.matroid_theory.proofs.Units.{units_independent}
 use Rattle.matroid_theory.proofs.First.{row_below}
 use Rattle.matroid_theory.proofs.FieldLaws.{order_most}
-use Rattle.form_search.specs.Trail.{ReachesForm, Trail, AreCoordinates, Follows, IsOrdered, TiesGroups}
-use Rattle.form_search.specs.Pivot.{exchange}
-use Rattle.form_search.specs.Numbers.{weighed}
-use Rattle.form_search.specs.Least.{number, scaled, MakesOnes}
+use Rattle.form_trails.specs.Trail.{ReachesForm, Trail, AreCoordinates, Follows, IsOrdered, TiesGroups}
+use Rattle.form_trails.specs.Pivot.{exchange}
+use Rattle.form_trails.specs.Numbers.{weighed}
+use Rattle.form_trails.specs.Least.{number, scaled, MakesOnes}
 use Rattle.form_search.specs.Search.{Entries, IsThere, IsEntry, AreEntries, HasElement, IsPlacing, Covers}
 use Rattle.form_search.specs.Start.{zero_layer, others_of, IsZeroTest, IsStarted}
-use Rattle.form_search.proofs.Numbers.{weighed_injective}
-use Rattle.form_search.proofs.Scalars.{zero_factor}
-use Rattle.form_search.proofs.Exchanges.{exchange_one, exchange_two, exchange_other, exchanged_permutation}
-use Rattle.form_search.proofs.Entries.{field}
-use Rattle.form_search.proofs.Columns.{number_entries}
-use Rattle.form_search.proofs.Ordered.{coordinates_same}
-use Rattle.form_search.proofs.LeastNext.{next_at_most_open}
+use Rattle.form_trails.proofs.Numbers.{weighed_injective}
+use Rattle.form_trails.proofs.Scalars.{zero_factor}
+use Rattle.form_trails.proofs.Exchanges.{exchange_one, exchange_two, exchange_other, exchanged_permutation}
+use Rattle.form_trails.proofs.Entries.{field}
+use Rattle.form_trails.proofs.Columns.{number_entries}
+use Rattle.form_trails.proofs.Ordered.{coordinates_same}
+use Rattle.form_trails.proofs.LeastNext.{next_at_most_open}
 use Rattle.form_search.proofs.Placing.{open_place, and_true, both_true, not_same, open_in_form, after, layer_after, rest_after, placed_state, follows_after}
 
 -- ---- entries with the same codes

@@ -8,8 +8,8 @@ use Rattle.std.specs.declared.cmp.Ordering.TheVariants.{Greater}
 use Rattle.matroid_theory.specs.declared.Mode.TheVariants.{Linear}
 use Rattle.matroid_theory.specs.Rep.{Rep, count, size, matrix, IsStandard}
 use Rattle.matroid_theory.specs.Move.{Move, AreEquivalent}
-use Rattle.form_search.specs.Trail.{ReachesForm, Trail, AreCoordinates, AreZeroBefore, Follows, IsTrail}
-use Rattle.form_search.specs.Least.{number}
+use Rattle.form_trails.specs.Trail.{ReachesForm, Trail, AreCoordinates, AreZeroBefore, Follows, IsTrail}
+use Rattle.form_trails.specs.Least.{number}
 
 -- elements with their codes by factor and row: those of the numbers below a number that pass a test
 pub record Entries : Type 0 where

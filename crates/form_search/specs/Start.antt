@@ -3,7 +3,7 @@ use Rattle.std.specs.Prelude.{ℕ, ◌<◌, ◌≡◌, ◌≢◌, Bool, true, fa
 use Rattle.std.specs.Bool.{nat_le}
 use Rattle.matroid_theory.specs.Rep.{Rep, count, size, matrix}
 use Rattle.matroid_theory.specs.Move.{Move}
-use Rattle.form_search.specs.Trail.{ReachesForm, Trail}
+use Rattle.form_trails.specs.Trail.{ReachesForm, Trail}
 use Rattle.form_search.specs.Search.{Entries, IsPlacing, IsAtMost, Covers, numbers_of}
 
 -- the zero columns from element i on, and the others

@@ -8,7 +8,7 @@ ghost use Rattle.matroid_theory.specs.Matroid.{IsRepresentation};
 ghost use Rattle.matroid_theory.specs.declared.Mode.TheVariants.{Linear as linear};
 ghost use Rattle.matroid_theory.specs.Move.{Move, AreEquivalent};
 ghost use Rattle.matroid_theory.specs.Order.{IsForm};
-ghost use Rattle.form_search.specs.Trail.{ReachesForm};
+ghost use Rattle.form_trails.specs.Trail.{ReachesForm};
 ghost use Rattle.form_search.specs.Search.{AreOfClass, numbers_of};
 
 /// A search for the form of a class may look at forms alone. Where what was found are the numbers of the later columns of a

@@ -5,10 +5,10 @@ use Rattle.std.proofs.Math.Seq.{ext_get_or, get_or-append_seam}
 use Rattle.std.proofs.Math.ListN.{get_or-append}
 use Rattle.matroid_theory.specs.Rep.{Rep, count, size, matrix}
 use Rattle.matroid_theory.proofs.First.{row_below}
-use Rattle.form_search.specs.Least.{number}
-use Rattle.form_search.specs.Numbers.{weighed}
+use Rattle.form_trails.specs.Least.{number}
+use Rattle.form_trails.specs.Numbers.{weighed}
 use Rattle.form_search.specs.Search.{numbers_of}
-use Rattle.form_search.proofs.Numbers.{weighed_same}
+use Rattle.form_trails.proofs.Numbers.{weighed_same}
 use Rattle.form_search.proofs.Found.{numbers_length, numbers_at}
 use Rattle.fast_form.specs.Codes.{code}
 use Rattle.fast_form.specs.States.{IsShapeOf}

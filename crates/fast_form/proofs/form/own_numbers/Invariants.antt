@@ -1,6 +1,6 @@
 use Rattle.std.proofs.Common.{◌≡◌, ◌<◌, ◌≤◌, ◌+◌, ℕ, length, slice_index}
 use Rattle.matroid_theory.specs.Rep.{matrix}
-use Rattle.form_search.specs.Least.{number}
+use Rattle.form_trails.specs.Least.{number}
 use Rattle.fast_form.proofs.form.own_numbers.Given as goal
 
 abbrev pub invariant-loop-e : goal.invariant-loop-e

@@ -2,7 +2,7 @@ use Rattle.std.proofs.Common.{◌<◌, ◌*◌, ◌/◌, ◌%◌, ◌∙◌, ℕ
 use Rattle.std.proofs.Math.Nat.{mod-lt}
 use Rattle.matroid_theory.specs.Field.{times}
 use Rattle.matroid_theory.proofs.First.{row_below}
-use Rattle.form_search.proofs.Numbers.{weighed_same}
+use Rattle.form_trails.proofs.Numbers.{weighed_same}
 use Rattle.fast_form.specs.Codes.{code}
 use Rattle.fast_form.proofs.GroupSteps.{scaled_same}
 use Rattle.fast_form.proofs.lists.marked_number.Goals as goal

@@ -1,5 +1,5 @@
 use Rattle.std.proofs.Common.{List, Bool, [], slice_index_or, subst, sym, arith}
-use Rattle.form_search.specs.Pivot.{pivoted}
+use Rattle.form_trails.specs.Pivot.{pivoted}
 use Rattle.fast_form.specs.Codes.{code}
 use Rattle.fast_form.specs.States.{layer_of, rest_of}
 use Rattle.fast_form.specs.Steps.{Places}

@@ -1,7 +1,7 @@
 use Rattle.std.proofs.Common.{◌≡◌, ◌<◌, ◌≤◌, ◌+◌, ◌*◌, ◌^◌, ℕ, suc, sym, ◌∙◌, ap, arith, lit<, lit≤}
 use Rattle.std.proofs.Math.Nat.{pow-succ', pow-le-pow_right, mul-le-mul, le_refl}
-use Rattle.form_search.specs.Numbers.{weighed_on}
-use Rattle.form_search.proofs.Numbers.{weighed_row}
+use Rattle.form_trails.specs.Numbers.{weighed_on}
+use Rattle.form_trails.proofs.Numbers.{weighed_row}
 use Rattle.fast_form.specs.Codes.{code}
 use Rattle.fast_form.proofs.weights.number.Goals as goal
 

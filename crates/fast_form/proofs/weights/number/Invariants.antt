@@ -1,5 +1,5 @@
 use Rattle.std.proofs.Common.{◌≡◌, ◌<◌, ◌*◌, ◌/◌, ◌%◌, ◌^◌}
-use Rattle.form_search.specs.Numbers.{weighed}
+use Rattle.form_trails.specs.Numbers.{weighed}
 use Rattle.fast_form.specs.Codes.{code}
 use Rattle.fast_form.proofs.weights.number.Given as goal
 

@@ -3,11 +3,11 @@ use Rattle.std.proofs.Common.{◌≡◌, ◌≢◌, ◌⊎◌, inl, inr, refl, �
 use Rattle.std.proofs.lemmas.Bool.{cases_lt, cases_eq}
 use Rattle.matroid_theory.specs.Field.{times}
 use Rattle.matroid_theory.specs.Rep.{Rep, count, order, IsShaped}
-use Rattle.form_search.specs.Trail.{AreZeroBefore, IsMet, TiesGroups}
-use Rattle.form_search.specs.Least.{number, scaled, MakesOnes}
-use Rattle.form_search.proofs.Scalars.{inverse_only}
-use Rattle.form_search.proofs.Entries.{field}
-use Rattle.form_search.proofs.Columns.{number_entries}
+use Rattle.form_trails.specs.Trail.{AreZeroBefore, IsMet, TiesGroups}
+use Rattle.form_trails.specs.Least.{number, scaled, MakesOnes}
+use Rattle.form_trails.proofs.Scalars.{inverse_only}
+use Rattle.form_trails.proofs.Entries.{field}
+use Rattle.form_trails.proofs.Columns.{number_entries}
 use Rattle.matroid_theory.proofs.Sums.{times_zero}
 
 -- a code is 0 in all factors or in none

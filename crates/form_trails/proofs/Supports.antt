@@ -12,15 +12,15 @@ use Rattle.matroid_theory.proofs.Steps.{Independent}
 use Rattle.matroid_theory.proofs.Ranks.{IsIndependent-codes}
 use Rattle.matroid_theory.proofs.Dimension.{times_unit_column}
 use Rattle.matroid_theory.proofs.Standard.{ordered_independent}
-use Rattle.form_search.specs.Trail.{Trail, AreCoordinates, IsOrdered}
-use Rattle.form_search.specs.Pivot.{exchange}
-use Rattle.form_search.proofs.Scalars.{IsScalar, inverse_scalar, times_scalar, times_one_right}
-use Rattle.form_search.proofs.Exchanges.{exchange_one, exchange_other, exchanged_permutation}
-use Rattle.form_search.proofs.Entries.{field}
-use Rattle.form_search.proofs.Coordinates.{row_scalars, same_coefficients, own_nonzero, others_zero}
-use Rattle.form_search.proofs.Ordered.{first_basis}
-use Rattle.form_search.proofs.Chosen.{combination_factors, scaled_independent, unscaled_independent}
-use Rattle.form_search.proofs.PivotColumn.{base, pivoted, pivoted_independent}
+use Rattle.form_trails.specs.Trail.{Trail, AreCoordinates, IsOrdered}
+use Rattle.form_trails.specs.Pivot.{exchange}
+use Rattle.form_trails.proofs.Scalars.{IsScalar, inverse_scalar, times_scalar, times_one_right}
+use Rattle.form_trails.proofs.Exchanges.{exchange_one, exchange_other, exchanged_permutation}
+use Rattle.form_trails.proofs.Entries.{field}
+use Rattle.form_trails.proofs.Coordinates.{row_scalars, same_coefficients, own_nonzero, others_zero}
+use Rattle.form_trails.proofs.Ordered.{first_basis}
+use Rattle.form_trails.proofs.Chosen.{combination_factors, scaled_independent, unscaled_independent}
+use Rattle.form_trails.proofs.PivotColumn.{base, pivoted, pivoted_independent}
 
 module _ (M : Rep) (shaped : IsShaped M) (d : Trail) (h : IsOrdered M d) (x : ℕ) (below : x < size M) (c : ℕ → ℕ → ℕ) (a : AreCoordinates M d x c)
     (p : ℕ) (p_below : p < M.rank) (outside : M.rank ≤ d.place x) where

@@ -11,13 +11,13 @@ use Rattle.matroid_theory.proofs.Sums.{times_zero}
 use Rattle.matroid_theory.proofs.Steps.{pivot_row}
 use Rattle.matroid_theory.proofs.Standard.{standard_basis}
 use Rattle.matroid_theory.proofs.Masks.{IsBasis-same}
-use Rattle.form_search.specs.Trail.{ReachesForm, Trail, AreCoordinates, AreZeroBefore, Follows, IsTrail}
-use Rattle.form_search.specs.Least.{scaled}
-use Rattle.form_search.specs.Pivot.{exchange}
-use Rattle.form_search.proofs.Scalars.{IsScalar, one_scalar, inverse_scalar, undone}
-use Rattle.form_search.proofs.Exchanges.{exchange_one, exchange_other, exchange_cases, exchanged_permutation}
-use Rattle.form_search.proofs.Coordinates.{row_scalars}
-use Rattle.form_search.proofs.Entries.{field, AreRowScalars, made}
+use Rattle.form_trails.specs.Trail.{ReachesForm, Trail, AreCoordinates, AreZeroBefore, Follows, IsTrail}
+use Rattle.form_trails.specs.Least.{scaled}
+use Rattle.form_trails.specs.Pivot.{exchange}
+use Rattle.form_trails.proofs.Scalars.{IsScalar, one_scalar, inverse_scalar, undone}
+use Rattle.form_trails.proofs.Exchanges.{exchange_one, exchange_other, exchange_cases, exchanged_permutation}
+use Rattle.form_trails.proofs.Coordinates.{row_scalars}
+use Rattle.form_trails.proofs.Entries.{field, AreRowScalars, made}
 
 -- a factor of each group
 abbrev pub AreGroupScalars : Rep → (ℕ → ℕ → ℕ) → Type 0

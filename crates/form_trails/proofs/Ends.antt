@@ -3,11 +3,11 @@ use Rattle.std.proofs.Common.{◌≡◌, refl, ℕ, ◌+◌, ◌<◌, ◌∙◌}
 use Rattle.matroid_theory.specs.declared.Mode.TheVariants.{Linear}
 use Rattle.matroid_theory.specs.Rep.{Rep, count, order, matrix, IsShaped, IsStandard}
 use Rattle.matroid_theory.specs.Move.{AreEquivalent}
-use Rattle.form_search.specs.Trail.{Trail, IsOrdered, ArePlaced, IsTrail}
-use Rattle.form_search.proofs.Scalars.{one_scalar}
-use Rattle.form_search.proofs.Entries.{field, made}
-use Rattle.form_search.proofs.Coordinates.{row_scalars}
-use Rattle.form_search.proofs.Ordered.{first_basis}
+use Rattle.form_trails.specs.Trail.{Trail, IsOrdered, ArePlaced, IsTrail}
+use Rattle.form_trails.proofs.Scalars.{one_scalar}
+use Rattle.form_trails.proofs.Entries.{field, made}
+use Rattle.form_trails.proofs.Coordinates.{row_scalars}
+use Rattle.form_trails.proofs.Ordered.{first_basis}
 
 module _ (M : Rep) (shaped : IsShaped M) (some : 0 < count M) (k s : ℕ) (groups : ℕ → ℕ) (d : Trail) (h : IsTrail M k s groups d) where
   o : IsOrdered M d

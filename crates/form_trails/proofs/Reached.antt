@@ -8,10 +8,10 @@ use Rattle.matroid_theory.specs.Move.{Move, IsMove, TakesTo}
 use Rattle.matroid_theory.proofs.Sums.{same_number, sum_same, times_zero}
 use Rattle.matroid_theory.proofs.Standard.{standard_coordinates, standard_by}
 use Rattle.matroid_theory.proofs.Bases.{search_below}
-use Rattle.form_search.specs.Trail.{Trail, AreCoordinates, AreZeroBefore, IsOrdered, row_factor}
-use Rattle.form_search.proofs.Scalars.{IsScalar, one_scalar, inverse_scalar, zero_factor, undone_back}
-use Rattle.form_search.proofs.Entries.{field, column_factor, reached_entry}
-use Rattle.form_search.proofs.Coordinates.{row_scalars, zero_in_both_in, AreCoordinatesIn, in_factor}
+use Rattle.form_trails.specs.Trail.{Trail, AreCoordinates, AreZeroBefore, IsOrdered, row_factor}
+use Rattle.form_trails.proofs.Scalars.{IsScalar, one_scalar, inverse_scalar, zero_factor, undone_back}
+use Rattle.form_trails.proofs.Entries.{field, column_factor, reached_entry}
+use Rattle.form_trails.proofs.Coordinates.{row_scalars, zero_in_both_in, AreCoordinatesIn, in_factor}
 
 module _ (M : Rep) (shaped : IsShaped M) (some : 0 < count M) (d : Trail) (h : IsOrdered M d) (k : ℕ) (low : k ≤ M.rank)
     (m : Move) (N : Rep) (standard : IsStandard N) (valid : IsMove Linear (shape M) m) (takes : TakesTo M m N)

@@ -9,14 +9,14 @@ use Rattle.matroid_theory.specs.Move.{Move}
 use Rattle.matroid_theory.proofs.Sums.{same_number, other_number, sum_same, sum_relabelled}
 use Rattle.matroid_theory.proofs.Steps.{Independent, all_coefficients}
 use Rattle.matroid_theory.proofs.Ranks.{IsIndependent-codes}
-use Rattle.form_search.specs.Trail.{ReachesForm, Trail, AreCoordinates, Follows, IsOrdered, ArePlaced, IsTrail, row_factor}
-use Rattle.form_search.specs.Pivot.{exchange, cleared, pivoted as pivoted_codes}
-use Rattle.form_search.proofs.Scalars.{IsScalar, inverse_scalar, times_scalar, zero_factor, undone_back}
-use Rattle.form_search.proofs.Exchanges.{exchange_one, exchange_two, exchange_other, exchange_below, exchange_permutation, exchanged_permutation}
-use Rattle.form_search.proofs.Entries.{field, AreRowScalars}
-use Rattle.form_search.proofs.Coordinates.{row_scalars, others_zero}
-use Rattle.form_search.proofs.Ordered.{independent_relabelled, coordinates_kept}
-use Rattle.form_search.proofs.PivotColumn.{base, pivoted, pivoted_independent, cleared_combined}
+use Rattle.form_trails.specs.Trail.{ReachesForm, Trail, AreCoordinates, Follows, IsOrdered, ArePlaced, IsTrail, row_factor}
+use Rattle.form_trails.specs.Pivot.{exchange, cleared, pivoted as pivoted_codes}
+use Rattle.form_trails.proofs.Scalars.{IsScalar, inverse_scalar, times_scalar, zero_factor, undone_back}
+use Rattle.form_trails.proofs.Exchanges.{exchange_one, exchange_two, exchange_other, exchange_below, exchange_permutation, exchanged_permutation}
+use Rattle.form_trails.proofs.Entries.{field, AreRowScalars}
+use Rattle.form_trails.proofs.Coordinates.{row_scalars, others_zero}
+use Rattle.form_trails.proofs.Ordered.{independent_relabelled, coordinates_kept}
+use Rattle.form_trails.proofs.PivotColumn.{base, pivoted, pivoted_independent, cleared_combined}
 
 module _ (q : ℕ) (F : IsField q) (r : ℕ) (A : Matrix) (t : ℕ → ℕ) (scalars : (l : ℕ) → l < r → IsScalar q (t l)) where
   -- columns with their scalars, and coefficients with them

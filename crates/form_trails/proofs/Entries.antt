@@ -13,8 +13,8 @@ use Rattle.matroid_theory.proofs.Sums.{sum_same, times_zero, combination-scaled}
 use Rattle.matroid_theory.proofs.Frobenius.{times_undone}
 use Rattle.matroid_theory.proofs.Standard.{standard_by}
 use Rattle.matroid_theory.proofs.Built.{standard_each}
-use Rattle.form_search.specs.Trail.{Trail, AreCoordinates, AreZeroBefore, row_factor}
-use Rattle.form_search.proofs.Scalars.{IsScalar, one_scalar, inverse_scalar, times_scalar, factored, through, times_turn}
+use Rattle.form_trails.specs.Trail.{Trail, AreCoordinates, AreZeroBefore, row_factor}
+use Rattle.form_trails.proofs.Scalars.{IsScalar, one_scalar, inverse_scalar, times_scalar, factored, through, times_turn}
 
 -- a scalar of each row
 abbrev pub AreRowScalars : Rep → (ℕ → ℕ → ℕ) → Type 0

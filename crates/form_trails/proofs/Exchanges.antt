@@ -3,7 +3,7 @@ use Rattle.std.proofs.Common.{◌≡◌, ◌≢◌, inl, inr, ℕ, ◌<◌, sym,
 use Rattle.std.specs.Bool.{◌==◌}
 use Rattle.std.proofs.lemmas.Bool.{cases_eq}
 use Rattle.matroid_theory.specs.Move.{ArePermutation}
-use Rattle.form_search.specs.Pivot.{exchange}
+use Rattle.form_trails.specs.Pivot.{exchange}
 use Rattle.matroid_theory.proofs.Sums.{same_number, other_number}
 
 module _ (a b : ℕ) where

@@ -12,9 +12,9 @@ use Rattle.std.proofs.Math.Nat.{mod-lt, mul-le-mul, le_refl, pow-le-pow_right, a
 use Rattle.matroid_theory.specs.Rep.{Rep, Shape, shape, count, size, order, matrix, IsShaped}
 use Rattle.matroid_theory.proofs.First.{row_below, whole}
 use Rattle.matroid_theory.proofs.FieldLaws.{order_most}
-use Rattle.form_search.specs.Numbers.{value, weighed}
-use Rattle.form_search.specs.Least.{number}
-use Rattle.form_search.proofs.Numbers.{AreDigits, value-weighed, weighed_same, value_at_most, value_same, value_from, value_within}
+use Rattle.form_trails.specs.Numbers.{value, weighed}
+use Rattle.form_trails.specs.Least.{number}
+use Rattle.form_trails.proofs.Numbers.{AreDigits, value-weighed, weighed_same, value_at_most, value_same, value_from, value_within}
 
 positive : (k r c : ℕ) → k < r * c → 0 < c
 positive k r c l = elim (cases_lt 0 c)

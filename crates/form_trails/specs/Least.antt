@@ -2,7 +2,7 @@
 use Rattle.std.specs.Prelude.{ℕ, ◌*◌, ◌/◌, ◌%◌, ◌<◌, ◌≡◌, ◌≢◌}
 use Rattle.matroid_theory.specs.Field.{times}
 use Rattle.matroid_theory.specs.Rep.{Rep, count, order}
-use Rattle.form_search.specs.Numbers.{weighed}
+use Rattle.form_trails.specs.Numbers.{weighed}
 
 -- the number of a column with these codes by factor and row: its codes row by row, and factor by factor within a row, are the digits in base 16
 abbrev pub number : Rep → (ℕ → ℕ → ℕ) → ℕ

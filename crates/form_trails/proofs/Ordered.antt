@@ -11,8 +11,8 @@ use Rattle.matroid_theory.proofs.Sums.{plus_zero_right, sum_same, sum_below-code
 use Rattle.matroid_theory.proofs.Steps.{Independent, all_coefficients}
 use Rattle.matroid_theory.proofs.Counts.{size_relabelled}
 use Rattle.matroid_theory.proofs.Rest.{size_front}
-use Rattle.form_search.specs.Trail.{Trail, AreCoordinates, AreZeroBefore}
-use Rattle.form_search.proofs.Entries.{field}
+use Rattle.form_trails.specs.Trail.{Trail, AreCoordinates, AreZeroBefore}
+use Rattle.form_trails.proofs.Entries.{field}
 
 module _ (q : ℕ) (F : IsField q) (r : ℕ) where
   -- a sum whose terms from k on are 0
