@@ -11,10 +11,10 @@ use Rattle.form_trails.proofs.Supports.{same_support}
 use Rattle.form_search.proofs.Placing.{and_true}
 use Rattle.form_search.proofs.Rows.{next_frame}
 use Rattle.form_search.proofs.Starts.{start_trail, start_ordered, start_coordinates}
-use Rattle.fast_form.specs.Codes.{code, IsNormalisedFrom}
-use Rattle.fast_form.specs.States.{IsShapeOf, entries_of}
-use Rattle.fast_form.proofs.Shapes.{shaped, some, few}
-use Rattle.fast_form.proofs.Moves.{first_nonzero}
+use Rattle.form_states.specs.Codes.{code, IsNormalisedFrom}
+use Rattle.form_states.specs.States.{IsShapeOf, entries_of}
+use Rattle.form_states.proofs.Shapes.{shaped, some, few}
+use Rattle.form_states.proofs.Moves.{first_nonzero}
 
 module _ (M : Rep) (fields : List ℕ) (factors rank total : ℕ) (h : IsShapeOf M fields factors rank total) (columns : List (List (List ℕ))) (marks : List Bool)
     (codes_are : (e f i : ℕ) → e < size M → f < count M → i < M.rank → code (slice_index_or columns e []) f i ≡ matrix M f i e)

@@ -13,8 +13,8 @@ use Rattle.form_search.proofs.Found.{improves_nothing, improves_more, improves_b
 use Rattle.form_search.proofs.Full.{settled_numbers, settled_room}
 use Rattle.form_search.proofs.Placing.{next_branch, next_beyond, open_place}
 use Rattle.form_search.proofs.Rows.{next_row_element}
-use Rattle.fast_form.specs.States.{entries_of, scaled_entries, AreLeastNumbers, IsLeastNumber, IsLeastOf}
-use Rattle.fast_form.specs.Steps.{Chooses, Places}
+use Rattle.form_states.specs.States.{entries_of, scaled_entries, AreLeastNumbers, IsLeastNumber, IsLeastOf}
+use Rattle.form_states.specs.Steps.{Chooses, Places}
 
 or_false : (a b : Bool) → (a || b) ≡ false → (a ≡ false) × (b ≡ false)
 or_false true b e = cc

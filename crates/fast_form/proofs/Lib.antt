@@ -1,11 +1,7 @@
 pub mod Begun
 pub mod Covering
 pub mod Decoded
-pub mod GroupSteps
-pub mod Marks
-pub mod Moves
 pub mod OwnForms
 pub mod Owned
 pub mod Powers
-pub mod Shapes
 pub mod Standards

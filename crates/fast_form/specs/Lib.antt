@@ -1,5 +1,1 @@
-pub mod Codes
-pub mod Groups
 pub mod NotAbove
-pub mod States
-pub mod Steps

@@ -12,16 +12,16 @@ ghost use Rattle.form_trails.specs.Trail.{ReachesForm};
 ghost use Rattle.matroid_theory.specs.Order.{IsForm};
 ghost use Rattle.form_search.specs.Search.{AreOfClass, Stands, numbers_of};
 ghost use Rattle.form_search.specs.Start.{CoversAll, IsStarted, IsZeroTest, zero_test};
-ghost use Rattle.fast_form.specs.Codes.{code};
-ghost use Rattle.fast_form.specs.States.{IsShapeOf, AreColumns, own_groups};
+ghost use Rattle.form_states.specs.Codes.{code};
+ghost use Rattle.form_states.specs.States.{IsShapeOf, AreColumns, own_groups};
 
-use crate::lists::{Columns, Marks, normalised_columns};
-use crate::numbers::Numbers;
 use crate::search::rows;
 use crate::start::{columns_of, nonzero_marks, shape_of};
-use crate::states::{Frame, Shape};
-use crate::weights::number;
 use arrayvec::ArrayVec;
+use form_states::lists::{Columns, Marks, normalised_columns};
+use form_states::numbers::Numbers;
+use form_states::states::{Frame, Shape};
+use form_states::weights::number;
 use product_rep::{ProductColumn, Rep};
 
 /// What a search found, and whether that took the place of what it began with.

@@ -4,20 +4,12 @@
 //! the least that an open element can have, where rows that no column tied together yet are scaled freely.
 #![tactic(auto)]
 
-mod codes;
-mod columns;
 mod form;
-mod groups;
 mod linear;
-mod lists;
 mod modes;
-mod numbers;
 mod own;
 mod search;
 mod start;
-mod states;
-mod steps;
-mod weights;
 
 pub use modes::least_form_fast;
 pub use own::is_form_fast;

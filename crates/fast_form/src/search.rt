@@ -6,13 +6,13 @@ ghost use Rattle.matroid_theory.specs.Rep.{Rep as Matrices};
 ghost use Rattle.matroid_theory.specs.Move.{Move};
 ghost use Rattle.form_trails.specs.Trail.{Trail, ReachesForm, Follows};
 ghost use Rattle.form_search.specs.Search.{IsFrame, IsPlacing, IsThere, IsAtMost, Stands, AreOfClass, Improves, Covers, numbers_of};
-ghost use Rattle.fast_form.specs.States.{IsShapeOf, AreColumns, AreGroups, entries_of, layer_of, rest_of, AreLeastNumbers, IsLeastNumber, IsLeastOf};
-ghost use Rattle.fast_form.specs.Steps.{AreStateCodes};
+ghost use Rattle.form_states.specs.States.{IsShapeOf, AreColumns, AreGroups, entries_of, layer_of, rest_of, AreLeastNumbers, IsLeastNumber, IsLeastOf};
+ghost use Rattle.form_states.specs.Steps.{AreStateCodes};
 
-use crate::lists::{Columns, next_columns, pivoted_columns};
-use crate::numbers::Numbers;
-use crate::states::{Frame, Row, Shape, State};
-use crate::steps::{
+use form_states::lists::{Columns, next_columns, pivoted_columns};
+use form_states::numbers::Numbers;
+use form_states::states::{Frame, Row, Shape, State};
+use form_states::steps::{
     chosen, gives_up, least_numbers, least_of, next_frame, placed, placed_column, placed_scalars,
     row_of, standing,
 };

@@ -4,15 +4,15 @@ ghost use Rattle.matroid_theory.specs.Field.{IsOrder};
 ghost use Rattle.matroid_theory.specs.Rep.{count, matrix, order, size, IsStandard, KeepsLimits, IsProductColumn};
 ghost use Rattle.matroid_theory.specs.Matroid.{Agrees};
 ghost use Rattle.form_search.specs.Search.{AreOfClass};
-ghost use Rattle.fast_form.specs.Codes.{AreCodes, AreColumnCodes, code};
-ghost use Rattle.fast_form.specs.States.{IsShapeOf, AreColumns};
+ghost use Rattle.form_states.specs.Codes.{AreCodes, AreColumnCodes, code};
+ghost use Rattle.form_states.specs.States.{IsShapeOf, AreColumns};
 
-use crate::codes::Codes;
-use crate::columns::{Column, lead};
-use crate::lists::{Columns, Marks};
-use crate::numbers::Numbers;
-use crate::states::Shape;
 use field_tables::Field;
+use form_states::codes::Codes;
+use form_states::columns::{Column, lead};
+use form_states::lists::{Columns, Marks};
+use form_states::numbers::Numbers;
+use form_states::states::Shape;
 use product_rep::{Factors, ProductColumn, Rep};
 
 /// What the search knows of the representation; `first` says whether it ends where it first finds something better.

@@ -1,9 +1,9 @@
 use Rattle.std.proofs.Common.{◌≡◌, ◌<◌, ◌-◌, ℕ, suc, List, Option, IfSome, length, slice_index, sym, subst, arith}
 use Rattle.matroid_theory.specs.Rep.{Rep}
 use Rattle.form_search.specs.Search.{IsFrame, Covers, numbers_of}
-use Rattle.fast_form.specs.States.{IsShapeOf, entries_of, own_groups}
+use Rattle.form_states.specs.States.{IsShapeOf, entries_of, own_groups}
 use Rattle.fast_form.proofs.Owned.{own_classes}
-use Rattle.fast_form.proofs.Shapes.{shaped}
+use Rattle.form_states.proofs.Shapes.{shaped}
 use Rattle.fast_form.proofs.Begun.{zero_test_is, first_frame}
 use Rattle.fast_form.proofs.form.found.Goals as goal
 

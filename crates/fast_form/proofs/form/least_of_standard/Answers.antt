@@ -5,7 +5,7 @@ use Rattle.matroid_theory.specs.Matroid.{Agrees, IsRepresentation}
 use Rattle.matroid_theory.specs.Order.{IsForm}
 use Rattle.matroid_theory.proofs.Equivalence.{equivalent-reflexive}
 use Rattle.form_search.proofs.Finish.{found_form, some_form}
-use Rattle.fast_form.proofs.Shapes.{shaped}
+use Rattle.form_states.proofs.Shapes.{shaped}
 use Rattle.fast_form.proofs.form.least_of_standard.Goals as goal
 
 whole : (M : Rep) → KeepsLimits M → Agrees M → IsRepresentation M

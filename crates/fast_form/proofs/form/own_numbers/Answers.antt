@@ -10,9 +10,9 @@ use Rattle.form_trails.specs.Numbers.{weighed}
 use Rattle.form_search.specs.Search.{numbers_of}
 use Rattle.form_trails.proofs.Numbers.{weighed_same}
 use Rattle.form_search.proofs.Found.{numbers_length, numbers_at}
-use Rattle.fast_form.specs.Codes.{code}
-use Rattle.fast_form.specs.States.{IsShapeOf}
-use Rattle.fast_form.proofs.Shapes.{some}
+use Rattle.form_states.specs.Codes.{code}
+use Rattle.form_states.specs.States.{IsShapeOf}
+use Rattle.form_states.proofs.Shapes.{some}
 use Rattle.fast_form.proofs.form.own_numbers.Goals as goal
 
 module _ (M : Rep) (fields : List ℕ) (factors rank total : ℕ) (h : IsShapeOf M fields factors rank total) where

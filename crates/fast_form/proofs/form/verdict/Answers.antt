@@ -3,7 +3,7 @@ use mathlib.Core.Bool.{true≢false}
 use Rattle.std.specs.Cmp.Lexicographic.{slice_cmp}
 use Rattle.std.specs.Ordering.{nat_cmp}
 use Rattle.form_search.proofs.Finish.{found_form}
-use Rattle.fast_form.proofs.Shapes.{shaped, is_whole}
+use Rattle.form_states.proofs.Shapes.{shaped, is_whole}
 use Rattle.fast_form.proofs.Owned.{not_form}
 use Rattle.fast_form.proofs.form.verdict.Goals as goal
 

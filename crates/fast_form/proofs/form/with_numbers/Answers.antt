@@ -1,7 +1,7 @@
 use Rattle.std.proofs.Common.{◌≡◌, ◌<◌, ◌+◌, ◌-◌, ◌*◌, ◌/◌, ◌%◌, ◌^◌, ℕ, List, slice_index, sym, ◌∙◌, ap, subst, arith}
 use Rattle.matroid_theory.specs.Rep.{Rep, count, size}
-use Rattle.fast_form.specs.States.{IsShapeOf}
-use Rattle.fast_form.proofs.Shapes.{some}
+use Rattle.form_states.specs.States.{IsShapeOf}
+use Rattle.form_states.proofs.Shapes.{some}
 use Rattle.fast_form.proofs.Decoded.{IsPart, unit_part, part_room, part_column, pushed_part, whole_part}
 use Rattle.fast_form.proofs.form.with_numbers.Goals as goal
 

@@ -2,8 +2,8 @@ use Rattle.std.proofs.Common.{◌≡◌, inl, ◌<◌, ◌≤◌, ◌+◌, ℕ, 
 use Rattle.form_search.specs.Start.{IsStarted, zero_test}
 use Rattle.form_search.proofs.Starts.{AreFresh, started, started_zero, started_other}
 use Rattle.matroid_theory.specs.Rep.{Rep}
-use Rattle.fast_form.specs.States.{IsShapeOf, own_groups}
-use Rattle.fast_form.proofs.Shapes.{shaped, some, low}
+use Rattle.form_states.specs.States.{IsShapeOf, own_groups}
+use Rattle.form_states.proofs.Shapes.{shaped, some, low}
 use Rattle.fast_form.proofs.form.zero_numbers.Goals as goal
 use Rattle.fast_form.proofs.form.zero_numbers.Goals.{then-not-marks-e, else-not-marks-e}
 

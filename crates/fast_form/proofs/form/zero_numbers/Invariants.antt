@@ -1,6 +1,6 @@
 use Rattle.std.proofs.Common.{slice_index}
 use Rattle.form_search.specs.Start.{IsStarted, zero_test}
-use Rattle.fast_form.specs.States.{own_groups}
+use Rattle.form_states.specs.States.{own_groups}
 use Rattle.fast_form.proofs.form.zero_numbers.Given as goal
 
 abbrev pub invariant-loop-e : goal.invariant-loop-e

@@ -5,8 +5,8 @@ use mathlib.Core.Bool.{true≢false}
 use Rattle.matroid_theory.specs.Field.{times}
 use Rattle.matroid_theory.specs.Rep.{count, order}
 use Rattle.form_search.specs.Search.{Stands, IsPlacing, IsThere}
-use Rattle.fast_form.specs.States.{layer_of, rest_of, IsLeastNumber}
-use Rattle.fast_form.specs.Codes.{code}
+use Rattle.form_states.specs.States.{layer_of, rest_of, IsLeastNumber}
+use Rattle.form_states.specs.Codes.{code}
 use Rattle.fast_form.proofs.Covering.{all_tried, all_branched, branched_improves, above_covers, beyond_covers, one_covers, standing_room, tried_same, branched_same, unstopped, more_tried, not_there, more_branched, other_branched}
 use Rattle.fast_form.proofs.search.+search.Goals as goal
 use Rattle.fast_form.proofs.search.+search.Goals.{rows-then-frame-b+else-stops, rows-else-frame-b, place_each-then-state-e+then-numbers-e+else-stops, place_each-else-state-e, place_each-else-state-e-via-then-state-e+else-numbers-e, place_each-else-state-e-via-else-state-e}

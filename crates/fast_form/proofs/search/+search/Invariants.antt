@@ -1,5 +1,5 @@
 use Rattle.std.proofs.Common.{◌+◌, ◌*◌}
-use Rattle.fast_form.specs.States.{marked, layer_of, rest_of}
+use Rattle.form_states.specs.States.{marked, layer_of, rest_of}
 use Rattle.fast_form.proofs.Covering.{AreTried, AreBranched}
 use Rattle.fast_form.proofs.search.+search.Given as goal
 

@@ -1,7 +1,7 @@
 use Rattle.std.proofs.Common.{ℕ, List, Bool, Some, length, sym, subst, true, slice_index}
 use Rattle.form_search.specs.Search.{Stands, Improves, Covers}
 use Rattle.form_search.proofs.Full.{level_covers, settled_covers, settled_improves}
-use Rattle.fast_form.specs.States.{layer_of, rest_of}
+use Rattle.form_states.specs.States.{layer_of, rest_of}
 use Rattle.fast_form.proofs.search.keep.Goals as goal
 
 pub returns-then-level-clause-covers : goal.returns-then-level-clause-covers

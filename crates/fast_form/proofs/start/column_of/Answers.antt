@@ -5,9 +5,9 @@ use Rattle.std.proofs.lemmas.Bool.{cases_lt}
 use Rattle.std.proofs.lemmas.Option.{get_or_from_slice_get}
 use Rattle.std.proofs.Math.Nat.{mul-le-mul, le_refl}
 use Rattle.matroid_theory.specs.Rep.{Rep, count, size, matrix}
-use Rattle.fast_form.specs.States.{IsShapeOf}
-use Rattle.fast_form.proofs.GroupSteps.{set_at}
-use Rattle.fast_form.proofs.Shapes.{shaped}
+use Rattle.form_states.specs.States.{IsShapeOf}
+use Rattle.form_states.proofs.GroupSteps.{set_at}
+use Rattle.form_states.proofs.Shapes.{shaped}
 use Rattle.fast_form.proofs.start.column_of.Goals as goal
 
 module _ (M : Rep) (fields : List ℕ) (factors rank total : ℕ) (h : IsShapeOf M fields factors rank total) (e : ℕ) (e_below : e < size M) (items : List ℕ)

@@ -1,6 +1,6 @@
 use Rattle.std.proofs.Common.{◌≡◌, ◌<◌, ℕ, length}
 use Rattle.matroid_theory.specs.Rep.{count, matrix}
-use Rattle.fast_form.specs.Codes.{AreColumnCodes, code}
+use Rattle.form_states.specs.Codes.{AreColumnCodes, code}
 use Rattle.fast_form.proofs.start.column_of.Given as goal
 
 abbrev pub invariant-loop-i : goal.invariant-loop-i

@@ -1,6 +1,6 @@
 use Rattle.std.proofs.Common.{◌≡◌, ◌<◌, ◌∷◌, [], ℕ, refl, List, slice_index, slice_index_or, sym, ◌∙◌, ap, subst, arith}
 use Rattle.std.proofs.lemmas.List.{get_or-replicate}
-use Rattle.fast_form.specs.Codes.{code}
+use Rattle.form_states.specs.Codes.{code}
 use Rattle.fast_form.proofs.start.columns_of.Goals as goal
 
 abbrev zero_row : List ℕ

@@ -1,7 +1,7 @@
 use Rattle.std.proofs.Common.{◌≡◌, ◌<◌, ℕ, [], length, slice_index_or}
 use Rattle.matroid_theory.specs.Rep.{count, matrix}
-use Rattle.fast_form.specs.Codes.{code}
-use Rattle.fast_form.specs.States.{AreColumns}
+use Rattle.form_states.specs.Codes.{code}
+use Rattle.form_states.specs.States.{AreColumns}
 use Rattle.fast_form.proofs.start.columns_of.Given as goal
 
 abbrev pub invariant-loop-e : goal.invariant-loop-e

@@ -1,5 +1,5 @@
 use Rattle.std.proofs.Common.{◌≡◌, ◌≢◌, ◌<◌, ℕ, [], true, false, length, slice_index_or}
-use Rattle.fast_form.specs.Codes.{code}
+use Rattle.form_states.specs.Codes.{code}
 use Rattle.fast_form.proofs.start.nonzero_marks.Given as goal
 
 abbrev pub invariant-loop-e : goal.invariant-loop-e

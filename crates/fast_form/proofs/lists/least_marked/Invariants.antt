@@ -1,5 +1,0 @@
-use Rattle.fast_form.specs.States.{IsLeastMarked}
-use Rattle.fast_form.proofs.lists.least_marked.Given as goal
-
-abbrev pub invariant-loop-e : goal.invariant-loop-e
-invariant-loop-e l = IsLeastMarked l.marks l.numbers l.e l.least

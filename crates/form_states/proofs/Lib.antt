@@ -1,0 +1,4 @@
+pub mod GroupSteps
+pub mod Marks
+pub mod Moves
+pub mod Shapes

@@ -1,0 +1,4 @@
+pub mod Codes
+pub mod Groups
+pub mod States
+pub mod Steps
