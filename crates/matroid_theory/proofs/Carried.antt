@@ -20,7 +20,7 @@ module _ (q : ℕ) (F : IsField q) (r n : ℕ) (t : ℕ) (G A B : Matrix) (s : �
     (s_code : (j : ℕ) → j < n → s j < q) (s_nonzero : (j : ℕ) → j < n → s j ≢ 0)
     (B_is : (i j : ℕ) → i < r → j < n → B i j ≡ times q (s j) (combination q r G (λ k. raised q t (A k (p j))) i)) where
   -- the coefficients of B's columns that belong to those of A's
-  turned_over : (ℕ → ℕ) → ℕ → ℕ
+  pub turned_over : (ℕ → ℕ) → ℕ → ℕ
   turned_over a j = times q (inverse q (s j)) (raised q t (a (p j)))
 
   -- (s x) (s⁻¹ y) = x y
@@ -31,7 +31,7 @@ module _ (q : ℕ) (F : IsField q) (r n : ℕ) (t : ℕ) (G A B : Matrix) (s : �
       ∙ ap (times q x) (sym (F.times_assoc s (inverse q s) y) ∙ ap (λ z. times q z y) (F.times_inverse s l ne) ∙ F.times_one y c)
 
   -- B (turned a) = G (raised (A a))
-  combination_carried : (a : ℕ → ℕ) → ((k : ℕ) → k < n → a k < q) → (i : ℕ) → i < r
+  pub combination_carried : (a : ℕ → ℕ) → ((k : ℕ) → k < n → a k < q) → (i : ℕ) → i < r
       → combination q n B (turned_over a) i ≡ combination q r G (λ k. raised q t (combination q n A a k)) i
   unfolding turned_over
   combination_carried a c i l =
@@ -89,11 +89,11 @@ module _ (q : ℕ) (F : IsField q) (r n : ℕ) (t : ℕ) (G A B : Matrix) (s : �
 -- ---- one move
 
 -- a permutation's inverse is one
-inverse_permutation : (n : ℕ) (p u : ℕ → ℕ) → ArePermutation n p u → ArePermutation n u p
+pub inverse_permutation : (n : ℕ) (p u : ℕ → ℕ) → ArePermutation n p u → ArePermutation n u p
 inverse_permutation n p u v = record { below = v.inverse_below; inverse_below = v.below; there = v.back; back = v.there }
 
 -- which numbers are equal stays
-same_label : (n : ℕ) (p u : ℕ → ℕ) → ArePermutation n p u → (k i : ℕ) → k < n → i < n → (p k == p i) ≡ (k == i)
+pub same_label : (n : ℕ) (p u : ℕ → ℕ) → ArePermutation n p u → (k i : ℕ) → k < n → i < n → (p k == p i) ≡ (k == i)
 same_label n p u v k i l m =
     elim (cases_eq k i) [
       | inl e ↦ ap (λ x. p x == p i) e ∙ same_number (p i) ∙ sym (ap (λ x. x == i) e ∙ same_number i)

@@ -8,15 +8,13 @@ use Rattle.std.specs.declared.cmp.Ordering.TheVariants.{Less, Equal, Greater}
 use Rattle.matroid_theory.specs.Rep.{Rep}
 use Rattle.matroid_theory.specs.Order.{rep_cmp}
 use Rattle.matroid_theory.proofs.Levels.{columns_total}
-
-same_reversed : (r : Ordering) → r ≡ ordering_reverse r → r ≢ Greater
-same_reversed Less e g = cc
-same_reversed Equal e g = cc
-same_reversed Greater e g = cc
+use Rattle.matroid_theory.proofs.Orderings.{own_reverse}
 
 -- nothing is above itself
 pub not_above_itself : (M : Rep) → rep_cmp M M ≢ Greater
-not_above_itself M = let t = columns_total in same_reversed (rep_cmp M M) (t.antisymm M.columns M.columns)
+not_above_itself M g =
+    let t = columns_total in
+    let h : Greater ≡ Equal = sym g ∙ own_reverse (rep_cmp M M) (t.antisymm M.columns M.columns) in cc
 
 -- of two, where the first is not below the second, the second is not above the first
 pub not_below_reversed : (M N : Rep) → rep_cmp M N ≢ Less → rep_cmp N M ≢ Greater

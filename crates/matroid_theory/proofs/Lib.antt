@@ -5,6 +5,7 @@ pub mod Frobenius
 pub mod Steps
 pub mod Dimension
 pub mod Masks
+pub mod TableBits
 pub mod Counts
 pub mod Picked
 pub mod Ranks
@@ -13,6 +14,7 @@ pub mod Bases
 pub mod Units
 pub mod Followed
 pub mod Lists
+pub mod Orderings
 pub mod Levels
 pub mod GivenLemmas
 pub mod First

@@ -6,7 +6,7 @@ use Rattle.std.proofs.lemmas.Bool.{cases_lt, cases_eq, le-ltb}
 use Rattle.std.proofs.lemmas.Nat.{mul-add-lt, mul-le}
 use Rattle.std.proofs.Math.Nat.{mod-lt}
 use Rattle.std.specs.Cmp.Lexicographic.{slice_cmp}
-use Rattle.std.specs.Ordering.{nat_cmp, ordering_then, ordering_reverse}
+use Rattle.std.specs.Ordering.{nat_cmp, ordering_then}
 use Rattle.std.specs.declared.cmp.Ordering.{Ordering}
 use Rattle.std.specs.declared.cmp.Ordering.TheVariants.{Less, Equal, Greater}
 use Rattle.matroid_theory.specs.Field.{IsField, times, inverse}
@@ -27,17 +27,18 @@ use Rattle.matroid_theory.proofs.Columns.{column_with, column_with-at, column_wi
 use Rattle.matroid_theory.proofs.Followed.{matrix_before, matrix_last, size_followed, shaped_pushed, shaped_before, column_last, standard_followed, standard_before}
 use Rattle.matroid_theory.proofs.Prefix.{slice_cmp-append, at_last, at_last-before, at_last-own}
 use Rattle.matroid_theory.proofs.Supports.{exchanged, size_exchanged, exchanged_independent, exchanged_dependent, zeros_dependent}
+use Rattle.matroid_theory.proofs.Orderings.{own_reverse}
 
 -- ---- lists
 
 -- the first number below r where c isn't zero
-record Lead (r : ℕ) (c : ℕ → ℕ) : Type 0 where
-  at : ℕ
-  below : at < r
-  nonzero : c at ≢ 0
-  before : (k : ℕ) → k < at → c k ≡ 0
+pub record Lead (r : ℕ) (c : ℕ → ℕ) : Type 0 where
+  pub at : ℕ
+  pub below : at < r
+  pub nonzero : c at ≢ 0
+  pub before : (k : ℕ) → k < at → c k ≡ 0
 
-lead_or_zero : (r : ℕ) (c : ℕ → ℕ) → Lead r c ⊎ ((i : ℕ) → i < r → c i ≡ 0)
+pub lead_or_zero : (r : ℕ) (c : ℕ → ℕ) → Lead r c ⊎ ((i : ℕ) → i < r → c i ≡ 0)
 lead_or_zero zero c = inr (λ i l. absurd (omega arith))
 lead_or_zero (suc r) c =
     elim (lead_or_zero r c) [
@@ -52,7 +53,7 @@ nat_cmp-above : (x y : ℕ) → y < x → nat_cmp x y ≡ Greater
 nat_cmp-above x y l = ap (λ b. cond b Less (cond (x == y) Equal Greater)) (le-ltb x y (omega arith))
     ∙ ap (λ b. cond b Equal Greater) (other_number x y (λ e. absurd (omega arith)))
 
-nat_cmp-same : (x y : ℕ) → x ≡ y → nat_cmp x y ≡ Equal
+pub nat_cmp-same : (x y : ℕ) → x ≡ y → nat_cmp x y ≡ Equal
 nat_cmp-same x y e = ap (λ b. cond b Less (cond (x == y) Equal Greater)) (le-ltb x y (omega arith))
     ∙ ap (λ b. cond b Equal Greater) (ap (λ z. x == z) (sym e) ∙ same_number x)
 
@@ -66,13 +67,8 @@ greater_at (x ∷ xs) (y ∷ ys) (suc k) d l h g =
     ap (λ (o : Ordering). ordering_then o (slice_cmp nat_cmp xs ys)) (nat_cmp-same x y (h 0 (omega arith)))
     ∙ greater_at xs ys k (omega arith) (omega arith) (λ e b. h (suc e) (omega arith)) g
 
-level : (r : Ordering) → r ≡ ordering_reverse r → r ≡ Equal
-level Less e = cc
-level Equal e = refl
-level Greater e = cc
-
 columns_level : (cs : List (List ℕ)) → slice_cmp (slice_cmp nat_cmp) cs cs ≡ Equal
-columns_level cs = let t = columns_total in level (slice_cmp (slice_cmp nat_cmp) cs cs) (t.antisymm cs cs)
+columns_level cs = let t = columns_total in own_reverse (slice_cmp (slice_cmp nat_cmp) cs cs) (t.antisymm cs cs)
 
 -- ---- the last column
 

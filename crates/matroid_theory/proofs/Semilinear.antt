@@ -18,6 +18,10 @@ use Rattle.matroid_theory.proofs.Equivalence.{identity, identity_move, takes_ide
 use Rattle.matroid_theory.proofs.Carried.{agrees_carried}
 use Rattle.matroid_theory.proofs.Compared.{not_above_itself, not_above_trans}
 
+-- a factor that isn't at the end is one of them
+pub factor_below : (f n m : ℕ) → f ≤ m → n ≡ m → f ≢ n → f < m
+factor_below f n m b e d = omega arith
+
 -- ---- moves with one power changed
 
 -- the powers with that of factor f changed

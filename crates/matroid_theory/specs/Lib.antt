@@ -9,3 +9,4 @@ pub mod Minor
 pub mod Given
 pub mod Connection
 pub mod Level
+pub mod Tables
