@@ -16,11 +16,10 @@ use Rattle.matroid_theory.proofs.Masks.{IsIndependent-same, IsBasis-same}
 use Rattle.matroid_theory.proofs.Equivalence.{undo, undo_move, takes_undone, equivalent-symmetric}
 
 module _ (q : ℕ) (F : IsField q) (r n : ℕ) (t : ℕ) (G A B : Matrix) (s : ℕ → ℕ) (p u : ℕ → ℕ)
-    (d : t < degree q) (w : ArePermutation n p u)
-    (s_code : (j : ℕ) → j < n → s j < q) (s_nonzero : (j : ℕ) → j < n → s j ≢ 0)
+    (w : ArePermutation n p u) (s_code : (j : ℕ) → j < n → s j < q) (s_nonzero : (j : ℕ) → j < n → s j ≢ 0)
     (B_is : (i j : ℕ) → i < r → j < n → B i j ≡ times q (s j) (combination q r G (λ k. raised q t (A k (p j))) i)) where
   -- the coefficients of B's columns that belong to those of A's
-  pub turned_over : (ℕ → ℕ) → ℕ → ℕ
+  unfoldable pub turned_over : (ℕ → ℕ) → ℕ → ℕ
   turned_over a j = times q (inverse q (s j)) (raised q t (a (p j)))
 
   -- (s x) (s⁻¹ y) = x y
@@ -31,7 +30,7 @@ module _ (q : ℕ) (F : IsField q) (r n : ℕ) (t : ℕ) (G A B : Matrix) (s : �
       ∙ ap (times q x) (sym (F.times_assoc s (inverse q s) y) ∙ ap (λ z. times q z y) (F.times_inverse s l ne) ∙ F.times_one y c)
 
   -- B (turned a) = G (raised (A a))
-  pub combination_carried : (a : ℕ → ℕ) → ((k : ℕ) → k < n → a k < q) → (i : ℕ) → i < r
+  combination_carried : (a : ℕ → ℕ) → ((k : ℕ) → k < n → a k < q) → (i : ℕ) → i < r
       → combination q n B (turned_over a) i ≡ combination q r G (λ k. raised q t (combination q n A a k)) i
   unfolding turned_over
   combination_carried a c i l =
@@ -52,39 +51,43 @@ module _ (q : ℕ) (F : IsField q) (r n : ℕ) (t : ℕ) (G A B : Matrix) (s : �
       Y : ℕ → ℕ
       Y j = sum_below q r (λ k. times q (G i k) (raised q t (times q (A k j) (a j))))
 
-  carried_zero : (S : ℕ → Bool) → IsIndependent q r n B S → (a : ℕ → ℕ) → AreCoefficients q n (λ k. S (u k)) a →
-      ((i : ℕ) → i < r → combination q n A a i ≡ 0) → (j : ℕ) → j < n → a (p j) ≡ 0
-  unfolding turned_over
-  carried_zero S h a c z = none
-    where
-      zero_row : (i : ℕ) → i < r → combination q n B (turned_over a) i ≡ 0
-      zero_row i m =
-          combination_carried a c.codes i m
-          ∙ sum_same q F r (λ k. times q (G i k) (raised q t (combination q n A a k))) (λ _. 0)
-          (λ k k'. ap (λ x. times q (G i k) (raised q t x)) (z k k') ∙ ap (times q (G i k)) (raised_zero q F t) ∙ times_zero q F (G i k))
-          ∙ sum_zero q F r
+  -- what is orthogonal to A is so to B when turned
+  pub turned_orthogonal : (a : ℕ → ℕ) → ((k : ℕ) → k < n → a k < q) → ((i : ℕ) → i < r → combination q n A a i ≡ 0) → (i : ℕ) →
+      i < r → combination q n B (turned_over a) i ≡ 0
+  turned_orthogonal a c z i l =
+      combination_carried a c i l
+      ∙ sum_same q F r (λ k. times q (G i k) (raised q t (combination q n A a k))) (λ _. 0)
+      (λ k k'. ap (λ x. times q (G i k) (raised q t x)) (z k k') ∙ ap (times q (G i k)) (raised_zero q F t) ∙ times_zero q F (G i k))
+      ∙ sum_zero q F r
 
-      coefficients : AreCoefficients q n S (turned_over a)
-      coefficients = record {
-        codes = λ j m. F.times_below (inverse q (s j)) (raised q t (a (p j)));
-        outside = λ j m o.
-            ap (λ x. times q (inverse q (s j)) (raised q t x)) (c.outside (p j) (w.below j m) (ap S (w.there j m) ∙ o))
-            ∙ ap (times q (inverse q (s j))) (raised_zero q F t) ∙ times_zero q F (inverse q (s j));
-      }
+  module _ (d : t < degree q) where
+    carried_zero : (S : ℕ → Bool) → IsIndependent q r n B S → (a : ℕ → ℕ) → AreCoefficients q n (λ k. S (u k)) a →
+        ((i : ℕ) → i < r → combination q n A a i ≡ 0) → (j : ℕ) → j < n → a (p j) ≡ 0
+    unfolding turned_over
+    carried_zero S h a c z = none
+      where
+        coefficients : AreCoefficients q n S (turned_over a)
+        coefficients = record {
+          codes = λ j m. F.times_below (inverse q (s j)) (raised q t (a (p j)));
+          outside = λ j m o.
+              ap (λ x. times q (inverse q (s j)) (raised q t x)) (c.outside (p j) (w.below j m) (ap S (w.there j m) ∙ o))
+              ∙ ap (times q (inverse q (s j))) (raised_zero q F t) ∙ times_zero q F (inverse q (s j));
+        }
 
-      none : (j : ℕ) → j < n → a (p j) ≡ 0
-      none j m =
-          elim (cases_eq (a (p j)) 0) [
-            | inl e ↦ e
-            | inr ne ↦ absurd (times_nonzero q F (inverse q (s j)) (raised q t (a (p j))) (F.inverse_below (s j) (s_code j m))
-                (raised_below q F t (a (p j)) (c.codes (p j) (w.below j m)))
-                (inverse_nonzero q F (s j) (s_code j m) (s_nonzero j m))
-                (raised_nonzero q F t (a (p j)) d (c.codes (p j) (w.below j m)) ne) (h.only_zero (turned_over a) coefficients zero_row j m))
-          ]
+        none : (j : ℕ) → j < n → a (p j) ≡ 0
+        none j m =
+            elim (cases_eq (a (p j)) 0) [
+              | inl e ↦ e
+              | inr ne ↦ absurd (times_nonzero q F (inverse q (s j)) (raised q t (a (p j))) (F.inverse_below (s j) (s_code j m))
+                  (raised_below q F t (a (p j)) (c.codes (p j) (w.below j m)))
+                  (inverse_nonzero q F (s j) (s_code j m) (s_nonzero j m))
+                  (raised_nonzero q F t (a (p j)) d (c.codes (p j) (w.below j m)) ne)
+                  (h.only_zero (turned_over a) coefficients (turned_orthogonal a c.codes z) j m))
+            ]
 
-  -- where columns of B are independent, so are the columns of A that they came from
-  independent_carried : (S : ℕ → Bool) → IsIndependent q r n B S → IsIndependent q r n A (λ k. S (u k))
-  independent_carried S h = record { only_zero = λ a c z k l. sym (ap a (w.back k l)) ∙ carried_zero S h a c z (u k) (w.inverse_below k l) }
+    -- where columns of B are independent, so are the columns of A that they came from
+    independent_carried : (S : ℕ → Bool) → IsIndependent q r n B S → IsIndependent q r n A (λ k. S (u k))
+    independent_carried S h = record { only_zero = λ a c z k l. sym (ap a (w.back k l)) ∙ carried_zero S h a c z (u k) (w.inverse_below k l) }
 
 -- ---- one move
 
@@ -106,7 +109,7 @@ independent_back : (mode : Mode) (M N : Rep) (m : Move) → IsShaped M → IsMov
 independent_back mode M N m s v t f l S b =
     independent_carried (order M f) (field_laws (order M f) (s.orders f l)) M.rank (size M) (m.power f) (m.rows f) (matrix M f)
     (matrix N f) (m.scalar f) m.label m.place
-    (v.powers f l) v.labels (λ j n. v.scalars f j l n) (λ j n. v.nonzero f j l n) (λ i j n o. t.codes f i j l n o) S
+    v.labels (λ j n. v.scalars f j l n) (λ j n. v.nonzero f j l n) (λ i j n o. t.codes f i j l n o) (v.powers f l) S
     (subst (λ S'. IsIndependent (slice_index S'.factors f) S'.rank S'.size (matrix N f) S) t.same_shape b)
 
 -- and one of M becomes one of N

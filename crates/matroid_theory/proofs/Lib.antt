@@ -25,6 +25,7 @@ pub mod MaskCounts
 pub mod Pairs
 pub mod Equivalence
 pub mod Carried
+pub mod Exchanges
 pub mod Forms
 pub mod Compared
 pub mod Semilinear
@@ -35,4 +36,5 @@ pub mod Prefix
 pub mod Rest
 pub mod Supports
 pub mod Normalised
+pub mod GroupLeast
 pub mod Parents

@@ -1,11 +1,12 @@
 -- Orderings, and the order of lists of numbers.
 use Rattle.std.proofs.Common.{◌≡◌, ◌≢◌, ℕ, zero, suc, ◌<◌, ◌≤◌, refl, sym, ◌∙◌, ap, arith, List, [], ◌∷◌, length, true, false, slice_index}
 use Rattle.std.specs.Bool.{◌==◌}
+use Rattle.std.specs.Cmp.{IsTotalOrder}
 use Rattle.std.specs.Cmp.Lexicographic.{slice_cmp}
 use Rattle.std.specs.Ordering.{is_gt, nat_cmp, ordering_index, ordering_reverse, ordering_then}
 use Rattle.std.specs.declared.cmp.Ordering.{Ordering}
 use Rattle.std.specs.declared.cmp.Ordering.TheVariants.{Less, Equal, Greater}
-use Rattle.std.proofs.lemmas.Cmp.{ranked}
+use Rattle.std.proofs.lemmas.Cmp.{ranked, tied_itself, upto}
 use Rattle.std.proofs.lemmas.Map.Lookups.{exact_unsigned}
 use mathlib.Core.Bool.{true≢false}
 
@@ -28,11 +29,13 @@ at_most_test Greater n = absurd (n refl)
 pub at_most_tested : (o : Ordering) → is_gt o ≡ false → o ≢ Greater
 at_most_tested o t e = true≢false (ap is_gt (sym e) ∙ t)
 
--- what is its own reverse is the order of equals
-pub own_reverse : (r : Ordering) → r ≡ ordering_reverse r → r ≡ Equal
-own_reverse Less e = cc
-own_reverse Equal e = refl
-own_reverse Greater e = cc
+module _ {X : Type 0} (R : X → X → Ordering) (o : IsTotalOrder R) where
+  -- nothing is above itself
+  pub at_most_itself : (x : X) → R x x ≢ Greater
+  at_most_itself x g = let e : Equal ≡ Greater = sym (tied_itself o x) ∙ g in cc
+
+  pub at_most_chain : (x y z : X) → R x y ≢ Greater → R y z ≢ Greater → R x z ≢ Greater
+  at_most_chain x y z h g = at_most_tested (R x z) (upto o x y z (at_most_test (R x y) h) (at_most_test (R y z) g))
 
 -- of two, neither of which is above the other, both are equal
 pub neither : (r s : Ordering) → s ≡ ordering_reverse r → r ≢ Greater → s ≢ Greater → r ≡ Equal

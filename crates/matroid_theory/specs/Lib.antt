@@ -3,6 +3,7 @@ pub mod Matrix
 pub mod Rep
 pub mod Matroid
 pub mod Move
+pub mod Exchange
 pub mod Order
 pub mod Powers
 pub mod Minor
