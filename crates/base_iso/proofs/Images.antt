@@ -6,9 +6,9 @@ use Rattle.std.specs.List.{slice_index}
 use Rattle.std.proofs.lemmas.Bool.{cases_lt}
 use Rattle.std.proofs.lemmas.Nat.Bits.{same_from_bits, bit_at-lt, bit_at_set_same, bit_at_set_other}
 use Rattle.matroid_theory.specs.Matroid.{members}
+use Rattle.matroid_theory.proofs.Masks.{same_bit}
 use Rattle.base_iso.specs.Started.{AreLabels, IsImage}
 use Rattle.base_iso.proofs.Places.{stands}
-use Rattle.base_iso.proofs.Inverses.{same_bit}
 use Rattle.std.proofs.lemmas.List.{get_or_default}
 
 -- a set has one image

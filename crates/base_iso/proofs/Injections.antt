@@ -1,5 +1,5 @@
 -- A map that is one to one on a list without repeats.
-use Rattle.std.proofs.Common.{◌≡◌, ◌≢◌, ℕ, suc, ◌+◌, ◌<◌, ◌≤◌, sym, ◌∙◌, ap, subst, refl, arith, Bool, true, false, cond, List, [], ◌∷◌, length, inl, inr}
+use Rattle.std.proofs.Common.{◌≡◌, ◌≢◌, ℕ, ◌+◌, ◌<◌, ◌≤◌, sym, ◌∙◌, ap, refl, arith, Bool, true, false, cond, List, [], ◌∷◌, length, inl, inr}
 use Rattle.std.specs.List.{AllPairs, Contains, slice_index_or, remove, count_by}
 use Rattle.std.specs.List.Sorted.{IsStrictlyIncreasing}
 use Rattle.std.proofs.lemmas.Bool.{cases_Bool, cond-true}
@@ -7,18 +7,7 @@ use Rattle.std.proofs.lemmas.List.{get_or_default}
 use Rattle.std.proofs.lemmas.List.Kept.{AllPairs-from_increasing}
 use Rattle.std.proofs.lemmas.List.Sums.{sum_by-cons, sum_by-remove}
 use Rattle.std.proofs.lemmas.Grind.{in_remove}
-
-here : (x : ℕ) (xs : List ℕ) → Contains (x ∷ xs) x
-here x xs = (0, omega arith, refl)
-
-there : (x z : ℕ) (xs : List ℕ) → Contains xs z → Contains (x ∷ xs) z
-there x z xs h = (suc h.0, (let l = h.1 in omega arith), h.2)
-
-rest_apart : (x : ℕ) (xs : List ℕ) → AllPairs (λ x y. x ≢ y) (x ∷ xs) → AllPairs (λ x y. x ≢ y) xs
-rest_apart x xs h i j d l m = h (suc i) (suc j) d (omega arith) (omega arith)
-
-first_apart : (x z : ℕ) (xs : List ℕ) → AllPairs (λ x y. x ≢ y) (x ∷ xs) → Contains xs z → x ≢ z
-first_apart x z xs h (k, l, e) = subst (λ y. x ≢ y) e (h 0 (suc k) z (omega arith) (omega arith))
+use Rattle.matroid_theory.proofs.Lists.{here, there, rest_pairs, first_pairs}
 
 -- a rising list has no repeats
 pub rising_apart : (xs : List ℕ) → IsStrictlyIncreasing xs → AllPairs (λ x y. x ≢ y) xs
@@ -40,9 +29,9 @@ pub count_most : (xs ys : List ℕ) → AllPairs (λ x y. x ≢ y) xs → (P Q :
 count_most [] ys d P Q f g i = omega arith
 count_most (x ∷ xs) ys d P Q f g i =
     elim (cases_Bool (P x)) [
-      | inl t ↦ passing (λ zs. count_most xs zs (rest_apart x xs d) P Q f) t (g x (here x xs) t)
+      | inl t ↦ passing (λ zs. count_most xs zs (rest_pairs (λ x y. x ≢ y) x xs d) P Q f) t (g x (here x xs) t)
       | inr o ↦ (let e : count_by P (x ∷ xs) ≡ 0 + count_by P xs = count_no P x xs o in
-          let r : count_by P xs ≤ count_by Q ys = count_most xs ys (rest_apart x xs d) P Q f (λ z m. g z (there x z xs m))
+          let r : count_by P xs ≤ count_by Q ys = count_most xs ys (rest_pairs (λ x y. x ≢ y) x xs d) P Q f (λ z m. g z (there x z xs m))
           (λ z w m n. i z w (there x z xs m) (there x w xs n)) in
           omega arith)
     ]
@@ -64,7 +53,7 @@ count_most (x ∷ xs) ys d P Q f g i =
           where
             in_keep : (z : ℕ) → Contains xs z → Contains ys (f z) → Contains (remove ys k) (f z)
             in_keep z m (j, b, o) = (in_remove ys k j (f z) l b (sym o)
-                (λ w. first_apart x z xs d m
+                (λ w. first_pairs (λ x y. x ≢ y) x z xs d m
                 (i x z (here x xs) (there x z xs m)
                 (sym e ∙ get_or_default ys k (f x) (f z) l ∙ ap (λ n. slice_index_or ys n (f z)) (sym w) ∙ o)))).1
 

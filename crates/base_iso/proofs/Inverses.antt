@@ -1,24 +1,13 @@
 -- The image of a mask under a permutation, and the inverse of an isomorphism.
-use Rattle.std.proofs.Common.{◌≡◌, ℕ, ◌<◌, ◌≤◌, ◌^◌, sym, ◌∙◌, ap, subst, arith, false, inl, inr}
+use Rattle.std.proofs.Common.{◌≡◌, ℕ, ◌<◌, ◌≤◌, ◌^◌, sym, ◌∙◌, ap, subst, false, inl, inr}
 use Rattle.std.specs.Bool.{◌==◌}
 use Rattle.std.specs.Int.{bit_at}
-use Rattle.std.proofs.lemmas.Bool.{cases_lt, cases_eq, false≢true}
-use Rattle.std.proofs.lemmas.Nat.Bits.{same_from_bits_below, same_from_bits, bit_at-lt, bit_at_above}
+use Rattle.std.proofs.lemmas.Bool.{cases_lt}
+use Rattle.std.proofs.lemmas.Nat.Bits.{same_from_bits, bit_at-lt, bit_at_above}
 use Rattle.matroid_theory.specs.Matroid.{members}
 use Rattle.matroid_theory.specs.Minor.{Matroid, AreIsomorphicBy}
 use Rattle.matroid_theory.specs.Move.{ArePermutation}
-use Rattle.matroid_theory.proofs.Masks.{mask, mask-below, members-mask}
-use Rattle.matroid_theory.proofs.Sums.{same_number, other_number}
-
-pub same_bit : (a b : ℕ) → a < 2 → b < 2 → (a == 1) ≡ (b == 1) → a ≡ b
-same_bit a b l m e = elim (cases_eq a 1) [
-  | inl x ↦ elim (cases_eq b 1) [ inl y ↦ x ∙ sym y | inr n ↦ absurd (false≢true (sym (other_number b 1 n) ∙ sym e ∙ ap (λ z. z == 1) x ∙ same_number 1)) ]
-  | inr n ↦ elim (cases_eq b 1) [ inl y ↦ absurd (false≢true (sym (other_number a 1 n) ∙ e ∙ ap (λ z. z == 1) y ∙ same_number 1)) | inr o ↦ omega arith ]
-]
-
--- two masks with the same members below n are equal
-pub same_mask : (n X Y : ℕ) → X < 2 ^ n → Y < 2 ^ n → ((j : ℕ) → j < n → members X j ≡ members Y j) → X ≡ Y
-same_mask n X Y l m h = same_from_bits_below n X Y l m (λ j b. same_bit (bit_at X j) (bit_at Y j) (bit_at-lt X j) (bit_at-lt Y j) (h j b))
+use Rattle.matroid_theory.proofs.Masks.{mask, mask-below, members-mask, same_bit, same_mask}
 
 -- a mask has no member from n on
 pub no_member : (n X j : ℕ) → X < 2 ^ n → n ≤ j → members X j ≡ false

@@ -7,12 +7,13 @@ use Rattle.std.proofs.lemmas.List.Elements.{All-contains}
 use Rattle.matroid_theory.specs.Matroid.{members}
 use Rattle.matroid_theory.specs.Minor.{Matroid, AreIsomorphicBy}
 use Rattle.matroid_theory.specs.Move.{ArePermutation}
+use Rattle.matroid_theory.proofs.Masks.{same_mask}
 use Rattle.bases.specs.BaseLists.{IsBaseList}
 use Rattle.base_iso.specs.Started.{AreLabels, IsImage, CarriesBases}
 use Rattle.base_iso.specs.Counted.{AreAlike}
 use Rattle.base_iso.proofs.Injections.{count_most, count_all, rising_apart}
 use Rattle.base_iso.proofs.Places.{place, labels_permute, stands}
-use Rattle.base_iso.proofs.Inverses.{relabelled, relabelled-below, relabelled-members, relabelled_apart, same_mask, no_member}
+use Rattle.base_iso.proofs.Inverses.{relabelled, relabelled-below, relabelled-members, relabelled_apart, no_member}
 
 module _ (M N : Matroid) (a : IsBaseList M) (s : AreAlike M N) (labels : List ℕ) (h : AreLabels M.size labels)
     (full : length labels ≡ M.size) (c : CarriesBases M N labels) where

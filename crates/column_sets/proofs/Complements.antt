@@ -1,5 +1,5 @@
 -- The complement of a mask.
-use Rattle.std.proofs.Common.{◌≡◌, ℕ, zero, suc, ◌+◌, ◌-◌, ◌*◌, ◌^◌, ◌<◌, ◌≤◌, refl, sym, ◌∙◌, ap, arith, cond, Bool, true, false, not}
+use Rattle.std.proofs.Common.{◌≡◌, ℕ, zero, suc, ◌+◌, ◌-◌, ◌*◌, ◌^◌, ◌<◌, ◌≤◌, refl, sym, ◌∙◌, ap, arith, not}
 use Rattle.std.specs.Bool.{◌==◌}
 use Rattle.std.specs.Int.{bit_at}
 use Rattle.std.proofs.lemmas.Nat.{pow_pos, pow-add}
@@ -7,15 +7,7 @@ use Rattle.std.proofs.Math.Nat.{suc-mul}
 use Rattle.std.proofs.Math.Pow.{pow_mono}
 use Rattle.std.proofs.lemmas.Nat.Bits.{bit_at_cat_low, bit_at_not, bit_at-lt}
 use mir.Syntax.{w16}
-use Rattle.matroid_theory.specs.Matrix.{size_below}
 use Rattle.matroid_theory.specs.Matroid.{members}
-
--- a set and its complement have n elements together
-pub size_complement : (n : ℕ) (S : ℕ → Bool) → size_below n S + size_below n (λ j. not (S j)) ≡ n
-size_complement zero S = refl
-size_complement (suc n) S =
-    let h : size_below n S + size_below n (λ j. not (S j)) ≡ n = size_complement n S in
-    elim (S n) as (λ b. (size_below n S + cond b 1 0) + (size_below n (λ j. not (S j)) + cond (not b) 1 0) ≡ suc n) [ true ↦ omega arith | false ↦ omega arith ]
 
 flipped : (x : ℕ) → x < 2 → ((1 - x) == 1) ≡ not (x == 1)
 flipped zero l = refl

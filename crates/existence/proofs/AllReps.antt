@@ -1,26 +1,17 @@
 -- All representations of a shape, as a list.
-use Rattle.std.proofs.Common.{◌≡◌, ℕ, ◌+◌, ◌*◌, ◌/◌, ◌%◌, ◌<◌, ◌≤◌, refl, ◌∙◌, ap, subst, arith, List, [], map, length, inl, inr, slice_index}
+use Rattle.std.proofs.Common.{◌≡◌, ℕ, ◌+◌, ◌*◌, ◌/◌, ◌%◌, ◌<◌, ◌≤◌, refl, ◌∙◌, ap, subst, arith, List, [], map, length, slice_index}
 use Rattle.std.specs.List.{range_with_len}
 use Rattle.std.proofs.Math.Nat.{mod-lt}
-use Rattle.std.proofs.lemmas.Bool.{cases_lt}
 use Rattle.matroid_theory.specs.Field.{IsOrder}
 use Rattle.matroid_theory.specs.Rep.{Rep, Shape, shape, size, IsShaped, IsProductColumn}
 use Rattle.matroid_theory.proofs.FieldLaws.{order_most}
-use Rattle.matroid_theory.proofs.First.{row_below, whole}
+use Rattle.matroid_theory.proofs.First.{row_below, whole, columns_positive}
 use Rattle.existence.proofs.Deciding.{IsIn, place_of}
 use Rattle.existence.proofs.Covers.{words, in_words, in_map, in_range}
 
 -- each order is below 16
 pub small : (q : ℕ) → IsOrder q → q < 16
 small q is = let most : q ≤ 13 = order_most q is in omega arith
-
--- where there is a place in a column there is a factor
-columns_positive : (k r c : ℕ) → k < r * c → 0 < c
-columns_positive k r c l = elim (cases_lt 0 c) [
-  | inl b ↦ b
-  | inr g ↦ (let e : c ≡ 0 = omega arith in let z : r * c ≡ r * 0 = ap (λ c. r * c) e in
-      absurd (omega arith))
-]
 
 -- the columns of a rank over some factors, and more
 pub all_columns : List ℕ → ℕ → List (List ℕ)

@@ -1,5 +1,5 @@
 -- Whether a set is a basis, whether all factors agree, whether a representation is simple, and whether it has a minor.
-use Rattle.std.proofs.Common.{◌≡◌, ℕ, zero, suc, ◌+◌, ◌^◌, ◌<◌, refl, sym, ◌∙◌, ap, subst, arith, Bool, false, List, inl, inr, ◌&&◌, ◌||◌}
+use Rattle.std.proofs.Common.{◌≡◌, ℕ, ◌+◌, ◌^◌, ◌<◌, sym, ◌∙◌, ap, subst, Bool, false, List, inl, inr, ◌&&◌, ◌||◌}
 use Rattle.std.specs.Bool.{◌==◌}
 use Rattle.std.specs.Prelude.{◌↔◌}
 use Rattle.std.specs.List.{All, Contains}
@@ -7,9 +7,9 @@ use Rattle.matroid_theory.specs.Field.{IsField}
 use Rattle.matroid_theory.specs.Matrix.{Matrix, size_below, IsIndependent}
 use Rattle.matroid_theory.specs.Rep.{Rep, count, size, order, matrix, IsShaped}
 use Rattle.matroid_theory.specs.Matroid.{members, IsBasis, IsIndependentIn, Agrees, IsRepresentation, IsSimple}
-use Rattle.matroid_theory.specs.Minor.{Matroid, any_below, image, IsInjection, IsMinorBy, IsMinor}
+use Rattle.matroid_theory.specs.Minor.{Matroid, image, IsInjection, IsMinorBy, IsMinor}
 use Rattle.matroid_theory.proofs.FieldLaws.{field_laws}
-use Rattle.matroid_theory.proofs.Masks.{size-same, IsBasis-same}
+use Rattle.matroid_theory.proofs.Masks.{size-same, IsBasis-same, any_below-same}
 use Rattle.matroid_theory.proofs.Ranks.{decided, related_dependent}
 use Rattle.existence.specs.Decided.{IsDecided}
 use Rattle.existence.proofs.Deciding.{along, both, implied, iff, less, equal, equal_bools, each_below}
@@ -64,11 +64,6 @@ injection_decided n m f =
     (both (each_below n (λ x. f x < m) (λ x _. less _ _)) (λ _. each_two n n (λ x y. f x ≡ f y → x ≡ y)
     (λ x y _ _. implied (equal (f x) (f y)) (λ _. equal x y))))
     (λ w. record { below = w.0; apart = w.1 }) (λ w. (w.below, w.apart))
-
--- tests that are the same below n pass at some number below n together
-pub any_below-same : (n : ℕ) (p p' : ℕ → Bool) → ((x : ℕ) → x < n → p x ≡ p' x) → any_below n p ≡ any_below n p'
-any_below-same zero p p' h = refl
-any_below-same (suc n) p p' h = λ i. any_below-same n p p' (λ x l. h x (omega arith)) i || h n (omega arith) i
 
 module _ (N : Matroid) (M : Rep) where
   -- the same embedding

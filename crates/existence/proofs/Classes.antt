@@ -1,9 +1,7 @@
 -- Each class of representations has a form; members are carried by equivalence; and what follows for tries.
 use Rattle.std.proofs.Common.{◌≡◌, ◌≢◌, ℕ, zero, suc, ◌<◌, refl, sym, ◌∙◌, ap, subst, arith, List, [], ◌∷◌, ◌++◌, length}
 use Rattle.std.specs.List.{Contains, slice_index_or}
-use Rattle.std.specs.Ordering.{ordering_reverse}
-use Rattle.std.specs.declared.cmp.Ordering.{Ordering}
-use Rattle.std.specs.declared.cmp.Ordering.TheVariants.{Less, Equal, Greater}
+use Rattle.std.specs.declared.cmp.Ordering.TheVariants.{Less, Greater}
 use Rattle.matroid_theory.specs.declared.Mode.{Mode}
 use Rattle.matroid_theory.specs.Rep.{Rep, shape, size, IsStandard}
 use Rattle.matroid_theory.specs.Matroid.{IsRepresentation}
@@ -12,10 +10,10 @@ use Rattle.matroid_theory.specs.Order.{rep_cmp, IsForm}
 use Rattle.matroid_theory.specs.Level.{Family, IsMember, IsLevelForm, IsLevel, IsRisingList, IsTry, IsTryFor, followed_by}
 use Rattle.matroid_theory.proofs.Equivalence.{equivalent-reflexive, equivalent-transitive}
 use Rattle.matroid_theory.proofs.Carried.{agrees_carried, simple_carried}
-use Rattle.matroid_theory.proofs.Levels.{rep_cmp-reversed}
 use Rattle.matroid_theory.proofs.Built.{standard_exists}
 use Rattle.matroid_theory.proofs.Forms.{one_form}
 use Rattle.matroid_theory.proofs.Parents.{last_try}
+use Rattle.matroid_theory.proofs.Compared.{not_above_itself}
 use Rattle.existence.specs.Exists.{HasOneOfEachClass}
 use Rattle.existence.proofs.Deciding.{both}
 use Rattle.existence.proofs.RisingLists.{rising_list}
@@ -24,15 +22,6 @@ use Rattle.existence.proofs.Moves.{equivalent_decided}
 use Rattle.existence.proofs.SameMatroid.{same_matroid-equivalent, same_minors}
 
 -- ---- the form of a class
-
--- no representation is above itself
-not_above_itself : (M : Rep) → rep_cmp M M ≢ Greater
-not_above_itself M h = at (rep_cmp M M) (rep_cmp-reversed M M) h
-  where
-    at : (o : Ordering) → o ≡ ordering_reverse o → o ≢ Greater
-    at Less e g = cc
-    at Equal e g = cc
-    at Greater e g = cc
 
 -- the first of a rising list that isn't empty is not above any of it
 pub first_least : (P : Rep → Type 0) (forms : List Rep) → IsRisingList P forms → ((N : Rep) × P N) → (N : Rep) × P N × ((L : Rep) → P L → rep_cmp N L ≢ Greater)

@@ -1,6 +1,6 @@
 -- What is given by all sets of one size, by columns or as their dual is a matroid.
 use Rattle.std.proofs.Common.{◌≡◌, ℕ, zero, suc, ◌+◌, ◌-◌, ◌^◌, ◌<◌, ◌≤◌, refl, sym, ◌∙◌, ap}
-use Rattle.std.proofs.Common.{subst, arith, Bool, true, false, cond, not, List, [], ◌∷◌, length, inl, inr, slice_index}
+use Rattle.std.proofs.Common.{subst, arith, Bool, true, false, not, List, [], ◌∷◌, length, inl, inr, slice_index}
 use Rattle.std.specs.Bool.{nat_lt}
 use Rattle.std.specs.List.Sorted.{IsStrictlyIncreasing}
 use Rattle.matroid_theory.specs.Field.{IsOrder}
@@ -13,6 +13,7 @@ use Rattle.matroid_theory.proofs.FieldLaws.{field_laws}
 use Rattle.matroid_theory.proofs.Masks.{mask, mask-below, members-mask, size-same, IsIndependent-same}
 use Rattle.matroid_theory.proofs.Bases.{rank_exists, rank_unique}
 use Rattle.matroid_theory.proofs.Rest.{size_front}
+use Rattle.matroid_theory.proofs.Built.{size_both}
 use Rattle.existence.specs.Decided.{IsDecided}
 use Rattle.existence.proofs.Deciding.{IsIn, to_contains, from_contains, along, both, equal}
 use Rattle.existence.proofs.Bases.{independent_decided}
@@ -92,13 +93,6 @@ uniform_given rank size l =
     (size_front rank size l) (λ S e. e)
 
 -- ---- columns and duals
-
--- a set and its complement have n numbers together
-size_both : (n : ℕ) (S : ℕ → Bool) → size_below n S + size_below n (λ j. not (S j)) ≡ n
-size_both zero S = refl
-size_both (suc n) S =
-    let h : size_below n S + size_below n (λ j. not (S j)) ≡ n = size_both n S in
-    elim (S n) as (λ b. size_below n S + cond b 1 0 + (size_below n (λ j. not (S j)) + cond (not b) 1 0) ≡ suc n) [ true ↦ omega arith | false ↦ omega arith ]
 
 module _ (q : ℕ) (o : IsOrder q) (columns : List (List ℕ)) (codes : (i j : ℕ) → i < column_length columns → j < length columns
     → matrix_of_lists columns i j < q) where

@@ -14,16 +14,11 @@ use Rattle.matroid_theory.specs.Move.{ArePermutation, AreEquivalent}
 use Rattle.matroid_theory.specs.Minor.{Matroid, image, IsMinorBy, IsMinor, HaveSameMatroid}
 use Rattle.matroid_theory.specs.Connection.{IsRank, IsSeparation, IsConnected, Is3Connected, IsCosimple}
 use Rattle.matroid_theory.proofs.FieldLaws.{field_laws}
-use Rattle.matroid_theory.proofs.Sums.{same_number, other_number}
-use Rattle.matroid_theory.proofs.Masks.{IsBasis-same}
+use Rattle.matroid_theory.proofs.Masks.{IsBasis-same, any_below-same}
 use Rattle.matroid_theory.proofs.Counts.{size_relabelled}
-use Rattle.matroid_theory.proofs.Carried.{basis_carried}
+use Rattle.matroid_theory.proofs.Carried.{basis_carried, inverse_permutation, same_label}
 use Rattle.matroid_theory.proofs.Bases.{with_element, with_other, with_own, size_with, smaller_independent, augmentation, set_bound}
-use Rattle.existence.proofs.Bases.{any_below-same}
 use Rattle.existence.proofs.Connection.{rank_near}
-
-inverse_permutation : (n : ℕ) (p u : ℕ → ℕ) → ArePermutation n p u → ArePermutation n u p
-inverse_permutation n p u w = record { below = w.inverse_below; inverse_below = w.below; there = w.back; back = w.there }
 
 pub same_matroid-symmetric : (M N : Rep) → HaveSameMatroid M N → HaveSameMatroid N M
 same_matroid-symmetric M N w = record {
@@ -74,14 +69,6 @@ same_matroid-equivalent mode M N some e = record {
 
     in_M : (j : ℕ) → j < size N → j < size M
     in_M j l = subst (λ (n : ℕ). j < n) sizes l
-
--- labels are equal where their places are
-same_label : (n : ℕ) (p u : ℕ → ℕ) → ArePermutation n p u → (k i : ℕ) → k < n → i < n → (p k == p i) ≡ (k == i)
-same_label n p u v k i l m =
-    elim (cases_eq k i) [
-      | inl e ↦ ap (λ x. p x == p i) e ∙ same_number (p i) ∙ sym (ap (λ x. x == i) e ∙ same_number i)
-      | inr ne ↦ other_number (p k) (p i) (λ e. ne (sym (v.there k l) ∙ ap u e ∙ v.there i m)) ∙ sym (other_number k i ne)
-    ]
 
 -- ---- independent sets
 

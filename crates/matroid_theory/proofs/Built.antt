@@ -5,7 +5,7 @@ use Rattle.std.specs.List.{range_with_len, slice_index, slice_index_or}
 use Rattle.std.proofs.lemmas.Bool.{cases_lt, cases_eq, cases_Bool, le-ltb, lt-ltb}
 use Rattle.std.proofs.lemmas.Nat.{div-mul-add, mod-mul-add, mul-add-lt}
 use Rattle.std.proofs.lemmas.List.FromFn.{get_or-map-range_with_len, length-map-range_with_len}
-use Rattle.matroid_theory.specs.Field.{IsField, times, inverse, degree, raised}
+use Rattle.matroid_theory.specs.Field.{IsField, IsOrder, times, inverse, degree, raised}
 use Rattle.matroid_theory.specs.Matrix.{Matrix, combination, unit, AreInverse, size_below, IsIndependent}
 use Rattle.matroid_theory.specs.Rep.{Rep, Shape, shape, matrix, order, count, size, IsShaped, IsStandard}
 use Rattle.matroid_theory.specs.Matroid.{IsBasis, Agrees}
@@ -26,7 +26,8 @@ use Rattle.matroid_theory.proofs.Standard.{ordered_independent}
 abbrev others : (ℕ → Bool) → ℕ → Bool
 others S j = not (S j)
 
-size_both : (n : ℕ) (S : ℕ → Bool) → size_below n S + size_below n (others S) ≡ n
+-- a set and the others have n numbers together
+pub size_both : (n : ℕ) (S : ℕ → Bool) → size_below n S + size_below n (others S) ≡ n
 size_both zero S = refl
 size_both (suc n) S = let h : size_below n S + size_below n (others S) ≡ n = size_both n S in
     elim (S n) as (λ b. (size_below n S + cond b 1 0) + (size_below n (others S) + cond (not b) 1 0) ≡ suc n)
@@ -94,17 +95,20 @@ module _ (n : ℕ) (S : ℕ → Bool) where
 abbrev built_column : Shape → (ℕ → Matrix) → ℕ → List ℕ
 built_column S B j = map (λ e. B (e % length S.factors) (e / length S.factors) j) (range_with_len 0 (S.rank * length S.factors))
 
-abbrev built : Shape → (ℕ → Matrix) → Rep
+abbrev pub built : Shape → (ℕ → Matrix) → Rep
 built S B = record { factors = S.factors; rank = S.rank; columns = map (built_column S B) (range_with_len 0 S.size) }
 
 module _ (S : Shape) (B : ℕ → Matrix) where
-  size_built : size (built S B) ≡ S.size
+  pub size_built : size (built S B) ≡ S.size
   size_built = length-map-range_with_len (built_column S B) 0 S.size
+
+  pub shape_built : shape (built S B) ≡ S
+  shape_built = λ i. record { factors = S.factors; rank = S.rank; size = size_built i }
 
   column_built : (j : ℕ) → j < S.size → slice_index_or (map (built_column S B) (range_with_len 0 S.size)) j [] ≡ built_column S B j
   column_built j l = get_or-map-range_with_len (built_column S B) 0 S.size j j [] l (omega arith)
 
-  matrix_built : (f i j : ℕ) → f < length S.factors → i < S.rank → j < S.size → matrix (built S B) f i j ≡ B f i j
+  pub matrix_built : (f i j : ℕ) → f < length S.factors → i < S.rank → j < S.size → matrix (built S B) f i j ≡ B f i j
   matrix_built f i j l m n =
       let b : i * length S.factors + f < length S.factors * S.rank = mul-add-lt i (length S.factors) f S.rank m l in
       let b' : i * length S.factors + f < S.rank * length S.factors = omega arith in
@@ -112,6 +116,17 @@ module _ (S : Shape) (B : ℕ → Matrix) where
       ∙ get_or-map-range_with_len (λ e. B (e % length S.factors) (e / length S.factors) j) 0 (S.rank * length S.factors)
       (i * length S.factors + f) (i * length S.factors + f) 0 b' (omega arith)
       ∙ (λ t. B (mod-mul-add i (length S.factors) f l t) (div-mul-add i (length S.factors) f l t) j)
+
+  pub shaped_built : ((f : ℕ) → f < length S.factors → IsOrder (slice_index S.factors f)) →
+      ((f i j : ℕ) → f < length S.factors → i < S.rank → j < S.size → B f i j < slice_index S.factors f) → IsShaped (built S B)
+  shaped_built fields codes = record {
+    orders = fields;
+    lengths = λ j l. ap (λ (c : List ℕ). length c) (column_built j (back l)) ∙ length-map-range_with_len _ 0 (S.rank * length S.factors);
+    codes = λ f i j l m n. subst (λ (x : ℕ). x < slice_index S.factors f) (sym (matrix_built f i j l m (back n))) (codes f i j l m (back n));
+  }
+    where
+      back : {j : ℕ} → j < size (built S B) → j < S.size
+      back {j} l = subst (λ (x : ℕ). j < x) size_built l
 
 -- ---- an inverse with its rows and columns scaled
 
@@ -232,18 +247,10 @@ module _ (mode : Mode) (M : Rep) (shaped : IsShaped M) (room : M.rank ≤ size M
 
   standard_takes : TakesTo M standard_move (built (shape M) standard_codes)
   standard_takes = record {
-    same_shape = λ i. record { factors = M.factors; rank = M.rank; size = size_built (shape M) standard_codes i };
-    shaped = record {
-      orders = shaped.orders;
-      lengths = λ j l. ap (λ (c : List ℕ). length c) (column_built (shape M) standard_codes j (back l)) ∙ length-map-range_with_len _ 0 (M.rank * count M);
-      codes = λ f i j l m n. let F = field f l in
-          subst (λ (x : ℕ). x < order M f) (sym (matrix_built (shape M) standard_codes f i j l m (back n))) (F.times_below _ _);
-    };
+    same_shape = shape_built (shape M) standard_codes;
+    shaped = shaped_built (shape M) standard_codes shaped.orders (λ f i j l _ _. let F = field f l in F.times_below _ _);
     codes = matrix_built (shape M) standard_codes;
   }
-    where
-      back : {j : ℕ} → j < size (built (shape M) standard_codes) → j < size M
-      back {j} l = subst (λ (x : ℕ). j < x) (size_built (shape M) standard_codes) l
 
   standard_result : IsStandard (built (shape M) standard_codes)
   standard_result = record {

@@ -16,11 +16,10 @@ use Rattle.matroid_theory.proofs.Masks.{IsIndependent-same, IsBasis-same}
 use Rattle.matroid_theory.proofs.Equivalence.{undo, undo_move, takes_undone, equivalent-symmetric}
 
 module _ (q : ℕ) (F : IsField q) (r n : ℕ) (t : ℕ) (G A B : Matrix) (s : ℕ → ℕ) (p u : ℕ → ℕ)
-    (d : t < degree q) (w : ArePermutation n p u)
-    (s_code : (j : ℕ) → j < n → s j < q) (s_nonzero : (j : ℕ) → j < n → s j ≢ 0)
+    (w : ArePermutation n p u) (s_code : (j : ℕ) → j < n → s j < q) (s_nonzero : (j : ℕ) → j < n → s j ≢ 0)
     (B_is : (i j : ℕ) → i < r → j < n → B i j ≡ times q (s j) (combination q r G (λ k. raised q t (A k (p j))) i)) where
   -- the coefficients of B's columns that belong to those of A's
-  turned_over : (ℕ → ℕ) → ℕ → ℕ
+  unfoldable pub turned_over : (ℕ → ℕ) → ℕ → ℕ
   turned_over a j = times q (inverse q (s j)) (raised q t (a (p j)))
 
   -- (s x) (s⁻¹ y) = x y
@@ -52,48 +51,52 @@ module _ (q : ℕ) (F : IsField q) (r n : ℕ) (t : ℕ) (G A B : Matrix) (s : �
       Y : ℕ → ℕ
       Y j = sum_below q r (λ k. times q (G i k) (raised q t (times q (A k j) (a j))))
 
-  carried_zero : (S : ℕ → Bool) → IsIndependent q r n B S → (a : ℕ → ℕ) → AreCoefficients q n (λ k. S (u k)) a →
-      ((i : ℕ) → i < r → combination q n A a i ≡ 0) → (j : ℕ) → j < n → a (p j) ≡ 0
-  unfolding turned_over
-  carried_zero S h a c z = none
-    where
-      zero_row : (i : ℕ) → i < r → combination q n B (turned_over a) i ≡ 0
-      zero_row i m =
-          combination_carried a c.codes i m
-          ∙ sum_same q F r (λ k. times q (G i k) (raised q t (combination q n A a k))) (λ _. 0)
-          (λ k k'. ap (λ x. times q (G i k) (raised q t x)) (z k k') ∙ ap (times q (G i k)) (raised_zero q F t) ∙ times_zero q F (G i k))
-          ∙ sum_zero q F r
+  -- what is orthogonal to A is so to B when turned
+  pub turned_orthogonal : (a : ℕ → ℕ) → ((k : ℕ) → k < n → a k < q) → ((i : ℕ) → i < r → combination q n A a i ≡ 0) → (i : ℕ) →
+      i < r → combination q n B (turned_over a) i ≡ 0
+  turned_orthogonal a c z i l =
+      combination_carried a c i l
+      ∙ sum_same q F r (λ k. times q (G i k) (raised q t (combination q n A a k))) (λ _. 0)
+      (λ k k'. ap (λ x. times q (G i k) (raised q t x)) (z k k') ∙ ap (times q (G i k)) (raised_zero q F t) ∙ times_zero q F (G i k))
+      ∙ sum_zero q F r
 
-      coefficients : AreCoefficients q n S (turned_over a)
-      coefficients = record {
-        codes = λ j m. F.times_below (inverse q (s j)) (raised q t (a (p j)));
-        outside = λ j m o.
-            ap (λ x. times q (inverse q (s j)) (raised q t x)) (c.outside (p j) (w.below j m) (ap S (w.there j m) ∙ o))
-            ∙ ap (times q (inverse q (s j))) (raised_zero q F t) ∙ times_zero q F (inverse q (s j));
-      }
+  module _ (d : t < degree q) where
+    carried_zero : (S : ℕ → Bool) → IsIndependent q r n B S → (a : ℕ → ℕ) → AreCoefficients q n (λ k. S (u k)) a →
+        ((i : ℕ) → i < r → combination q n A a i ≡ 0) → (j : ℕ) → j < n → a (p j) ≡ 0
+    unfolding turned_over
+    carried_zero S h a c z = none
+      where
+        coefficients : AreCoefficients q n S (turned_over a)
+        coefficients = record {
+          codes = λ j m. F.times_below (inverse q (s j)) (raised q t (a (p j)));
+          outside = λ j m o.
+              ap (λ x. times q (inverse q (s j)) (raised q t x)) (c.outside (p j) (w.below j m) (ap S (w.there j m) ∙ o))
+              ∙ ap (times q (inverse q (s j))) (raised_zero q F t) ∙ times_zero q F (inverse q (s j));
+        }
 
-      none : (j : ℕ) → j < n → a (p j) ≡ 0
-      none j m =
-          elim (cases_eq (a (p j)) 0) [
-            | inl e ↦ e
-            | inr ne ↦ absurd (times_nonzero q F (inverse q (s j)) (raised q t (a (p j))) (F.inverse_below (s j) (s_code j m))
-                (raised_below q F t (a (p j)) (c.codes (p j) (w.below j m)))
-                (inverse_nonzero q F (s j) (s_code j m) (s_nonzero j m))
-                (raised_nonzero q F t (a (p j)) d (c.codes (p j) (w.below j m)) ne) (h.only_zero (turned_over a) coefficients zero_row j m))
-          ]
+        none : (j : ℕ) → j < n → a (p j) ≡ 0
+        none j m =
+            elim (cases_eq (a (p j)) 0) [
+              | inl e ↦ e
+              | inr ne ↦ absurd (times_nonzero q F (inverse q (s j)) (raised q t (a (p j))) (F.inverse_below (s j) (s_code j m))
+                  (raised_below q F t (a (p j)) (c.codes (p j) (w.below j m)))
+                  (inverse_nonzero q F (s j) (s_code j m) (s_nonzero j m))
+                  (raised_nonzero q F t (a (p j)) d (c.codes (p j) (w.below j m)) ne)
+                  (h.only_zero (turned_over a) coefficients (turned_orthogonal a c.codes z) j m))
+            ]
 
-  -- where columns of B are independent, so are the columns of A that they came from
-  independent_carried : (S : ℕ → Bool) → IsIndependent q r n B S → IsIndependent q r n A (λ k. S (u k))
-  independent_carried S h = record { only_zero = λ a c z k l. sym (ap a (w.back k l)) ∙ carried_zero S h a c z (u k) (w.inverse_below k l) }
+    -- where columns of B are independent, so are the columns of A that they came from
+    independent_carried : (S : ℕ → Bool) → IsIndependent q r n B S → IsIndependent q r n A (λ k. S (u k))
+    independent_carried S h = record { only_zero = λ a c z k l. sym (ap a (w.back k l)) ∙ carried_zero S h a c z (u k) (w.inverse_below k l) }
 
 -- ---- one move
 
 -- a permutation's inverse is one
-inverse_permutation : (n : ℕ) (p u : ℕ → ℕ) → ArePermutation n p u → ArePermutation n u p
+pub inverse_permutation : (n : ℕ) (p u : ℕ → ℕ) → ArePermutation n p u → ArePermutation n u p
 inverse_permutation n p u v = record { below = v.inverse_below; inverse_below = v.below; there = v.back; back = v.there }
 
 -- which numbers are equal stays
-same_label : (n : ℕ) (p u : ℕ → ℕ) → ArePermutation n p u → (k i : ℕ) → k < n → i < n → (p k == p i) ≡ (k == i)
+pub same_label : (n : ℕ) (p u : ℕ → ℕ) → ArePermutation n p u → (k i : ℕ) → k < n → i < n → (p k == p i) ≡ (k == i)
 same_label n p u v k i l m =
     elim (cases_eq k i) [
       | inl e ↦ ap (λ x. p x == p i) e ∙ same_number (p i) ∙ sym (ap (λ x. x == i) e ∙ same_number i)
@@ -106,7 +109,7 @@ independent_back : (mode : Mode) (M N : Rep) (m : Move) → IsShaped M → IsMov
 independent_back mode M N m s v t f l S b =
     independent_carried (order M f) (field_laws (order M f) (s.orders f l)) M.rank (size M) (m.power f) (m.rows f) (matrix M f)
     (matrix N f) (m.scalar f) m.label m.place
-    (v.powers f l) v.labels (λ j n. v.scalars f j l n) (λ j n. v.nonzero f j l n) (λ i j n o. t.codes f i j l n o) S
+    v.labels (λ j n. v.scalars f j l n) (λ j n. v.nonzero f j l n) (λ i j n o. t.codes f i j l n o) (v.powers f l) S
     (subst (λ S'. IsIndependent (slice_index S'.factors f) S'.rank S'.size (matrix N f) S) t.same_shape b)
 
 -- and one of M becomes one of N

@@ -1,12 +1,12 @@
 -- The level of the size that equals the rank: the one representation whose columns are the unit columns.
-use Rattle.std.proofs.Common.{◌≡◌, ℕ, zero, suc, ◌+◌, ◌*◌, ◌/◌, ◌%◌, ◌<◌, refl, sym, ◌∙◌, ap, subst, arith, [], ◌∷◌, length, Bool, true, false, inl, inr, slice_index, lit<}
+use Rattle.std.proofs.Common.{◌≡◌, ℕ, zero, suc, ◌+◌, ◌*◌, ◌/◌, ◌%◌, ◌<◌, ◌≤◌, refl, sym, ◌∙◌, ap, subst, arith, List, [], ◌∷◌, length, Bool, true, false, inl, inr, slice_index, lit<}
 use Rattle.std.specs.Bool.{◌==◌, nat_lt}
 use Rattle.std.specs.Prelude.{◌||◌}
 use Rattle.std.specs.List.{slice_index_or, Contains, All}
 use mathlib.Core.Bool.{true≢false}
 use Rattle.std.proofs.lemmas.Bool.{cases_lt, lt-ltb}
 use Rattle.std.proofs.lemmas.Nat.{rows}
-use Rattle.std.proofs.Math.Nat.{mod-lt}
+use Rattle.std.proofs.Math.Nat.{mod-lt, mul-le-mul, le_refl}
 use Rattle.std.proofs.Math.Seq.{ext_get_or}
 use Rattle.std.specs.declared.cmp.Ordering.{Ordering}
 use Rattle.std.specs.declared.cmp.Ordering.TheVariants.{Less, Equal, Greater}
@@ -23,7 +23,8 @@ use Rattle.matroid_theory.proofs.Masks.{IsIndependent-same}
 use Rattle.matroid_theory.proofs.Units.{units_independent}
 use Rattle.matroid_theory.proofs.Levels.{columns_total}
 
-columns_positive : (k r c : ℕ) → k < r * c → 0 < c
+-- where there is a place in a column there is a factor
+pub columns_positive : (k r c : ℕ) → k < r * c → 0 < c
 columns_positive k r c l =
     elim (cases_lt 0 c) [ inl b ↦ b | inr g ↦ (let e : c ≡ 0 = omega arith in let z : r * c ≡ r * 0 = ap (λ c. r * c) e in absurd (omega arith)) ]
 
@@ -32,6 +33,21 @@ row_below k c r p l = grind (arith, rows)
 
 pub whole : (k c : ℕ) → 0 < c → k / c * c + k % c ≡ k
 whole k c p = omega arith
+
+-- columns of r * c codes are equal where their codes are
+pub same_column : (r c : ℕ) (v w : List ℕ) → length v ≡ r * c → length w ≡ r * c → 0 < c →
+    ((f i : ℕ) → f < c → i < r → slice_index v (i * c + f) ≡ slice_index w (i * c + f)) → v ≡ w
+same_column r c v w a b p h = ext_get_or 0 v w (a ∙ sym b) code
+  where
+    code : (k : ℕ) → k < length v → slice_index v k ≡ slice_index w k
+    code k l =
+        let l' : k < r * c = subst (λ (n : ℕ). k < n) a l in
+        let e : k / c * c + k % c ≡ k = whole k c p in
+        sym (ap (slice_index v) e) ∙ h (k % c) (k / c) (mod-lt k p) (row_below k c r p l') ∙ ap (slice_index w) e
+
+-- of two numbers of more digits, the one with the less first digit is the less
+pub digit_less : (x y n v w : ℕ) → x < y → v < n → x * n + v < y * n + w
+digit_less x y n v w l m = let h : suc x * n ≤ y * n = mul-le-mul (let k : suc x ≤ y = omega arith in k) (le_refl n) in omega arith
 
 -- representations of one shape with the same codes are equal
 pub same_codes : (M N : Rep) → IsShaped M → IsShaped N → shape N ≡ shape M →

@@ -5,6 +5,7 @@ pub mod Frobenius
 pub mod Steps
 pub mod Dimension
 pub mod Masks
+pub mod TableBits
 pub mod Counts
 pub mod Picked
 pub mod Ranks
@@ -13,6 +14,7 @@ pub mod Bases
 pub mod Units
 pub mod Followed
 pub mod Lists
+pub mod Orderings
 pub mod Levels
 pub mod GivenLemmas
 pub mod First
@@ -23,6 +25,7 @@ pub mod MaskCounts
 pub mod Pairs
 pub mod Equivalence
 pub mod Carried
+pub mod Exchanges
 pub mod Forms
 pub mod Compared
 pub mod Semilinear
@@ -33,4 +36,5 @@ pub mod Prefix
 pub mod Rest
 pub mod Supports
 pub mod Normalised
+pub mod GroupLeast
 pub mod Parents

@@ -5,21 +5,21 @@ use Rattle.std.proofs.lemmas.List.{get_or_default}
 use Rattle.std.proofs.lemmas.Grind.{in_remove, common_steps}
 
 module _ {X : Type 0} where
-  here : (x : X) (xs : List X) → Contains (x ∷ xs) x
+  pub here : (x : X) (xs : List X) → Contains (x ∷ xs) x
   here x xs = (0, omega arith, refl)
 
-  there : (x z : X) (xs : List X) → Contains xs z → Contains (x ∷ xs) z
+  pub there : (x z : X) (xs : List X) → Contains xs z → Contains (x ∷ xs) z
   there x z xs h = (suc h.0, (let l = h.1 in omega arith), h.2)
 
   -- an element of a list is the first or one of the rest
-  found : (x z : X) (xs : List X) → Contains (x ∷ xs) z → (x ≡ z) ⊎ Contains xs z
+  pub found : (x z : X) (xs : List X) → Contains (x ∷ xs) z → (x ≡ z) ⊎ Contains xs z
   found x z xs (zero, l, e) = inl e
   found x z xs (suc k, l, e) = inr (k, omega arith, e)
 
-  rest_pairs : (R : X → X → Type 0) (x : X) (xs : List X) → AllPairs R (x ∷ xs) → AllPairs R xs
+  pub rest_pairs : (R : X → X → Type 0) (x : X) (xs : List X) → AllPairs R (x ∷ xs) → AllPairs R xs
   rest_pairs R x xs h i j d l m = h (suc i) (suc j) d (omega arith) (omega arith)
 
-  first_pairs : (R : X → X → Type 0) (x z : X) (xs : List X) → AllPairs R (x ∷ xs) → Contains xs z → R x z
+  pub first_pairs : (R : X → X → Type 0) (x z : X) (xs : List X) → AllPairs R (x ∷ xs) → Contains xs z → R x z
   first_pairs R x z xs h (k, l, e) = subst (R x) e (h 0 (suc k) z (omega arith) (omega arith))
 
   -- two lists that rise and contain the same are equal

@@ -1,13 +1,16 @@
 -- Sets of column numbers as masks.
 use Rattle.std.proofs.Common.{◌≡◌, ℕ, zero, suc, ◌+◌, ◌-◌, ◌*◌, ◌^◌, ◌<◌, ◌≤◌, refl, sym, ◌∙◌, ap, arith, cond, Bool, true, false, inl, inr, lit<}
 use Rattle.std.specs.Bool.{◌==◌}
+use Rattle.std.specs.Prelude.{◌||◌}
 use Rattle.std.specs.Int.{bit_at}
-use Rattle.std.proofs.lemmas.Bool.{cases_lt}
+use Rattle.std.proofs.lemmas.Bool.{cases_lt, cases_eq, false≢true}
 use Rattle.std.proofs.Math.Nat.{two-pow-succ}
-use Rattle.std.proofs.lemmas.Nat.Bits.{bit_at_cat_low, bit_at_cat_high}
+use Rattle.std.proofs.lemmas.Nat.Bits.{bit_at_cat_low, bit_at_cat_high, bit_at-lt, same_from_bits_below}
 use Rattle.matroid_theory.specs.Matrix.{size_below, IsIndependent}
 use Rattle.matroid_theory.specs.Rep.{Rep, size, order, matrix}
 use Rattle.matroid_theory.specs.Matroid.{members, IsBasis}
+use Rattle.matroid_theory.specs.Minor.{any_below}
+use Rattle.matroid_theory.proofs.Sums.{same_number, other_number}
 
 -- a set's mask
 abbrev pub mask : ℕ → (ℕ → Bool) → ℕ
@@ -25,6 +28,11 @@ mask-below (suc n) S =
 pub size-same : (n : ℕ) (S T : ℕ → Bool) → ((j : ℕ) → j < n → S j ≡ T j) → size_below n S ≡ size_below n T
 size-same zero S T h = refl
 size-same (suc n) S T h = λ i. size-same n S T (λ j l. h j (omega arith)) i + cond (h n (omega arith) i) 1 0
+
+-- tests that are the same below n pass at some number below n together
+pub any_below-same : (n : ℕ) (p p' : ℕ → Bool) → ((x : ℕ) → x < n → p x ≡ p' x) → any_below n p ≡ any_below n p'
+any_below-same zero p p' h = refl
+any_below-same (suc n) p p' h = λ i. any_below-same n p p' (λ x l. h x (omega arith)) i || h n (omega arith) i
 
 pub IsIndependent-same : (q r n : ℕ) (A : ℕ → ℕ → ℕ) (S T : ℕ → Bool) → ((j : ℕ) → j < n → S j ≡ T j) → IsIndependent q r n A S → IsIndependent q r n A T
 IsIndependent-same q r n A S T h d =
@@ -54,6 +62,16 @@ members-mask (suc n) S j l =
     top : (b : Bool) → (bit_at (cond b 1 0) (n - n) == 1) ≡ b
     top b = (let z : n - n ≡ 0 = omega arith in ap (λ k. bit_at (cond b 1 0) k == 1) z)
         ∙ (elim b as (λ b. (bit_at (cond b 1 0) 0 == 1) ≡ b) [ true ↦ refl | false ↦ refl ])
+
+-- masks with the same members below n are equal
+pub same_bit : (a b : ℕ) → a < 2 → b < 2 → (a == 1) ≡ (b == 1) → a ≡ b
+same_bit a b l m e = elim (cases_eq a 1) [
+  | inl x ↦ elim (cases_eq b 1) [ inl y ↦ x ∙ sym y | inr n ↦ absurd (false≢true (sym (other_number b 1 n) ∙ sym e ∙ ap (λ z. z == 1) x ∙ same_number 1)) ]
+  | inr n ↦ elim (cases_eq b 1) [ inl y ↦ absurd (false≢true (sym (other_number a 1 n) ∙ e ∙ ap (λ z. z == 1) y ∙ same_number 1)) | inr o ↦ omega arith ]
+]
+
+pub same_mask : (n X Y : ℕ) → X < 2 ^ n → Y < 2 ^ n → ((j : ℕ) → j < n → members X j ≡ members Y j) → X ≡ Y
+same_mask n X Y l m h = same_from_bits_below n X Y l m (λ j b. same_bit (bit_at X j) (bit_at Y j) (bit_at-lt X j) (bit_at-lt Y j) (h j b))
 
 -- so what holds of each mask of n columns holds of each set of them, where only those columns count
 pub by_masks : (n : ℕ) (P : (ℕ → Bool) → Type 0) → ((S T : ℕ → Bool) → ((j : ℕ) → j < n → S j ≡ T j) → P S → P T) →

@@ -5,8 +5,10 @@ use Rattle.std.specs.Prelude.{◌||◌}
 use Rattle.std.proofs.lemmas.Bool.{cases_lt, cases_eq, le-ltb}
 use Rattle.std.proofs.lemmas.Nat.{mul-add-lt, mul-le}
 use Rattle.std.proofs.Math.Nat.{mod-lt}
+use Rattle.std.specs.Cmp.{nat_cmp_total}
+use Rattle.std.proofs.lemmas.Cmp.{tied_itself}
 use Rattle.std.specs.Cmp.Lexicographic.{slice_cmp}
-use Rattle.std.specs.Ordering.{nat_cmp, ordering_then, ordering_reverse}
+use Rattle.std.specs.Ordering.{nat_cmp, ordering_then}
 use Rattle.std.specs.declared.cmp.Ordering.{Ordering}
 use Rattle.std.specs.declared.cmp.Ordering.TheVariants.{Less, Equal, Greater}
 use Rattle.matroid_theory.specs.Field.{IsField, times, inverse}
@@ -31,13 +33,13 @@ use Rattle.matroid_theory.proofs.Supports.{exchanged, size_exchanged, exchanged_
 -- ---- lists
 
 -- the first number below r where c isn't zero
-record Lead (r : ℕ) (c : ℕ → ℕ) : Type 0 where
-  at : ℕ
-  below : at < r
-  nonzero : c at ≢ 0
-  before : (k : ℕ) → k < at → c k ≡ 0
+pub record Lead (r : ℕ) (c : ℕ → ℕ) : Type 0 where
+  pub at : ℕ
+  pub below : at < r
+  pub nonzero : c at ≢ 0
+  pub before : (k : ℕ) → k < at → c k ≡ 0
 
-lead_or_zero : (r : ℕ) (c : ℕ → ℕ) → Lead r c ⊎ ((i : ℕ) → i < r → c i ≡ 0)
+pub lead_or_zero : (r : ℕ) (c : ℕ → ℕ) → Lead r c ⊎ ((i : ℕ) → i < r → c i ≡ 0)
 lead_or_zero zero c = inr (λ i l. absurd (omega arith))
 lead_or_zero (suc r) c =
     elim (lead_or_zero r c) [
@@ -53,8 +55,7 @@ nat_cmp-above x y l = ap (λ b. cond b Less (cond (x == y) Equal Greater)) (le-l
     ∙ ap (λ b. cond b Equal Greater) (other_number x y (λ e. absurd (omega arith)))
 
 nat_cmp-same : (x y : ℕ) → x ≡ y → nat_cmp x y ≡ Equal
-nat_cmp-same x y e = ap (λ b. cond b Less (cond (x == y) Equal Greater)) (le-ltb x y (omega arith))
-    ∙ ap (λ b. cond b Equal Greater) (ap (λ z. x == z) (sym e) ∙ same_number x)
+nat_cmp-same x y e = ap (nat_cmp x) (sym e) ∙ tied_itself nat_cmp_total x
 
 -- of two lists as long, the one with the greater number at the first place where they differ is the greater
 greater_at : (xs ys : List ℕ) (k : ℕ) → length xs ≡ length ys → k < length xs →
@@ -65,14 +66,6 @@ greater_at (x ∷ xs) (y ∷ ys) zero d l h g = ap (λ (o : Ordering). ordering_
 greater_at (x ∷ xs) (y ∷ ys) (suc k) d l h g =
     ap (λ (o : Ordering). ordering_then o (slice_cmp nat_cmp xs ys)) (nat_cmp-same x y (h 0 (omega arith)))
     ∙ greater_at xs ys k (omega arith) (omega arith) (λ e b. h (suc e) (omega arith)) g
-
-level : (r : Ordering) → r ≡ ordering_reverse r → r ≡ Equal
-level Less e = cc
-level Equal e = refl
-level Greater e = cc
-
-columns_level : (cs : List (List ℕ)) → slice_cmp (slice_cmp nat_cmp) cs cs ≡ Equal
-columns_level cs = let t = columns_total in level (slice_cmp (slice_cmp nat_cmp) cs cs) (t.antisymm cs cs)
 
 -- ---- the last column
 
@@ -109,7 +102,7 @@ module _ (P : Rep) (v : List ℕ) (shaped : IsShaped (followed_by P v)) (st : Is
       (subst (λ n. IsIndependent (order P f) P.rank n (matrix (followed_by P v) f) (exchanged P.rank (size P) i)) (size_followed P v) b.independent)
 
   -- all factors have the same support
-  same_support : Agrees (followed_by P v) → (i f g : ℕ) → i < P.rank → f < count P → g < count P → entry i f ≡ 0 → entry i g ≡ 0
+  pub same_support : Agrees (followed_by P v) → (i f g : ℕ) → i < P.rank → f < count P → g < count P → entry i f ≡ 0 → entry i g ≡ 0
   same_support a i f g m l o e =
       elim (cases_eq (entry i g) 0) [
         | inl z ↦ z
@@ -117,7 +110,7 @@ module _ (P : Rep) (v : List ℕ) (shaped : IsShaped (followed_by P v)) (st : Is
       ]
 
   -- it isn't zero
-  not_zero : 0 < count P → IsSimple (followed_by P v) → ¬ ((i : ℕ) → i < P.rank → entry i 0 ≡ 0)
+  pub not_zero : 0 < count P → IsSimple (followed_by P v) → ¬ ((i : ℕ) → i < P.rank → entry i 0 ≡ 0)
   not_zero pos h z =
       zeros_dependent (order P 0) (field 0 pos) P.rank (size P) (matrix (followed_by P v) 0) (λ k. (k == size P) || (k == size P))
       (ap (λ b. b || (size P == size P)) (same_number (size P)))
@@ -223,7 +216,7 @@ module _ (P : Rep) (v : List ℕ) (shaped : IsShaped (followed_by P v)) (st : Is
         times (order P f) c (entry lead f) < entry lead f → rep_cmp (followed_by P v) (followed_by P scaled) ≡ Greater
     scaled_less lead d z less =
         slice_cmp-append (slice_cmp nat_cmp) P.columns (v ∷ []) P.columns (scaled ∷ []) refl
-        ∙ ap (λ (o : Ordering). ordering_then o (slice_cmp (slice_cmp nat_cmp) (v ∷ []) (scaled ∷ []))) (columns_level P.columns)
+        ∙ ap (λ (o : Ordering). ordering_then o (slice_cmp (slice_cmp nat_cmp) (v ∷ []) (scaled ∷ []))) (tied_itself columns_total P.columns)
         ∙ ap (λ (o : Ordering). ordering_then o Equal)
         (greater_at v scaled place (as_long ∙ sym scaled_length) (subst (λ n. place < n) (sym as_long) inside) before
         (subst (λ (x : ℕ). x < slice_index v place) (sym (scaled-at f lead l d ∙ ap (λ s. times (order P f) s (entry lead f)) scalar_own)) less))

@@ -5,7 +5,6 @@ use Rattle.std.proofs.lemmas.Bool.{cases_lt}
 use Rattle.std.specs.Cmp.Lexicographic.{slice_cmp}
 use Rattle.std.specs.Ordering.{nat_cmp, ordering_then}
 use Rattle.std.specs.declared.cmp.Ordering.{Ordering}
-use Rattle.std.specs.declared.cmp.Ordering.TheVariants.{Less, Equal, Greater}
 use Rattle.matroid_theory.specs.Field.{IsOrder, IsField, times, raised}
 use Rattle.matroid_theory.specs.Matrix.{Matrix, combination}
 use Rattle.matroid_theory.specs.Rep.{Rep, Shape, shape, count, size, order, matrix, IsShaped, IsStandard}
@@ -19,20 +18,16 @@ use Rattle.matroid_theory.proofs.Sums.{same_number, other_number, combination-sa
 use Rattle.matroid_theory.proofs.Rest.{units_basis, rest_agrees}
 use Rattle.matroid_theory.proofs.Columns.{column_with, column_with-at, column_with_codes}
 use Rattle.matroid_theory.proofs.Followed.{matrix_before, matrix_last, size_followed, shaped_pushed, shaped_before, standard_followed, standard_before}
+use Rattle.matroid_theory.proofs.Orderings.{then_assoc}
 
 -- the order of lists of columns whose first parts are as long
-then-assoc : (a b c : Ordering) → ordering_then (ordering_then a b) c ≡ ordering_then a (ordering_then b c)
-then-assoc Less b c = refl
-then-assoc Equal b c = refl
-then-assoc Greater b c = refl
-
 pub slice_cmp-append : {A : Type 0} (R : A → A → Ordering) (a b c d : List A) → length a ≡ length c →
     slice_cmp R (a ++ b) (c ++ d) ≡ ordering_then (slice_cmp R a c) (slice_cmp R b d)
 slice_cmp-append R [] b [] d e = refl
 slice_cmp-append R [] b (y ∷ ys) d e = absurd (omega arith)
 slice_cmp-append R (x ∷ xs) b [] d e = absurd (omega arith)
 slice_cmp-append R (x ∷ xs) b (y ∷ ys) d e =
-    ap (ordering_then (R x y)) (slice_cmp-append R xs b ys d (omega arith)) ∙ sym (then-assoc (R x y) (slice_cmp R xs ys) (slice_cmp R b d))
+    ap (ordering_then (R x y)) (slice_cmp-append R xs b ys d (omega arith)) ∙ sym (then_assoc (R x y) (slice_cmp R xs ys) (slice_cmp R b d))
 
 -- a function with another value at n
 abbrev pub at_last : {X : Type 0} → ℕ → X → (ℕ → X) → ℕ → X
@@ -45,7 +40,7 @@ pub at_last-own : {X : Type 0} (n : ℕ) (x : X) (g : ℕ → X) → at_last n x
 at_last-own n x g = ap (λ b. cond b x (g n)) (same_number n)
 
 -- a permutation with one more number, which stays
-kept : (n : ℕ) (p u : ℕ → ℕ) → ((j : ℕ) → j < n → p j < n) → ((j : ℕ) → j < n → u (p j) ≡ j) → (j : ℕ) → j < suc n → at_last n n u (at_last n n p j) ≡ j
+pub kept : (n : ℕ) (p u : ℕ → ℕ) → ((j : ℕ) → j < n → p j < n) → ((j : ℕ) → j < n → u (p j) ≡ j) → (j : ℕ) → j < suc n → at_last n n u (at_last n n p j) ≡ j
 kept n p u b t j l =
     elim (cases_lt j n) [
       | inl s ↦ ap (at_last n n u) (at_last-before n n p j s) ∙ at_last-before n n u (p j) (b j s) ∙ t j s
@@ -53,7 +48,7 @@ kept n p u b t j l =
           ∙ at_last-own n n u ∙ sym e)
     ]
 
-kept_below : (n : ℕ) (p : ℕ → ℕ) → ((j : ℕ) → j < n → p j < n) → (j : ℕ) → j < suc n → at_last n n p j < suc n
+pub kept_below : (n : ℕ) (p : ℕ → ℕ) → ((j : ℕ) → j < n → p j < n) → (j : ℕ) → j < suc n → at_last n n p j < suc n
 kept_below n p b j l =
     elim (cases_lt j n) [
       | inl s ↦ (let k : p j < n = b j s in subst (λ (x : ℕ). x < suc n) (sym (at_last-before n n p j s)) (omega arith))

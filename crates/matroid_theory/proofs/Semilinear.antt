@@ -1,5 +1,5 @@
 -- Powers of the Frobenius automorphism one factor after another: a representation is taken to what its raised ones are taken to by moves of fewer powers.
-use Rattle.std.proofs.Common.{◌≡◌, ◌≢◌, ℕ, ◌+◌, ◌<◌, ◌≤◌, refl, sym, ◌∙◌, ap, subst, arith, if◌then◌else◌, cond, true, false, length, slice_index, inl, inr}
+use Rattle.std.proofs.Common.{◌≡◌, ◌≢◌, ℕ, ◌+◌, ◌<◌, ◌≤◌, refl, sym, ◌∙◌, ap, subst, arith, if◌then◌else◌, cond, true, false, length, slice_index, inl, inr, List}
 use Rattle.std.specs.Bool.{◌==◌}
 use Rattle.std.specs.declared.cmp.Ordering.TheVariants.{Greater}
 use Rattle.std.proofs.lemmas.Bool.{cases_eq, cases_lt}
@@ -17,6 +17,14 @@ use Rattle.matroid_theory.proofs.Frobenius.{raised_zero, raised_one}
 use Rattle.matroid_theory.proofs.Equivalence.{identity, identity_move, takes_identity, equivalent-symmetric, equivalent-transitive}
 use Rattle.matroid_theory.proofs.Carried.{agrees_carried}
 use Rattle.matroid_theory.proofs.Compared.{not_above_itself, not_above_trans}
+
+-- a factor that isn't at the end is one of them
+pub factor_below : (f n m : ℕ) → f ≤ m → n ≡ m → f ≢ n → f < m
+factor_below f n m b e d = omega arith
+
+-- a power below the degree of the order, as they are read
+pub power_below : (M : Rep) (f t q n : ℕ) (factors : List ℕ) → n ≡ degree q → q ≡ slice_index factors f → factors ≡ M.factors → t < n → t < degree (order M f)
+power_below M f t q n factors d e fs l = subst (λ (x : ℕ). t < x) (d ∙ ap degree (e ∙ ap (λ (fs : List ℕ). slice_index fs f) fs)) l
 
 -- ---- moves with one power changed
 

@@ -1,5 +1,5 @@
 -- Every standard representation equivalent to M is made of an ordered basis of M, row scalars, column scalars and an order of the columns.
-use Rattle.std.proofs.Common.{◌≡◌, ◌≢◌, ℕ, zero, suc, ◌+◌, ◌<◌, ◌≤◌, sym, ◌∙◌, ap, subst, arith, cond, length, inl, inr}
+use Rattle.std.proofs.Common.{◌≡◌, ◌≢◌, ℕ, zero, suc, ◌+◌, ◌<◌, ◌≤◌, sym, ◌∙◌, ap, subst, arith, cond, length, inl, inr, false}
 use Rattle.std.specs.Bool.{nat_lt}
 use Rattle.std.proofs.lemmas.Bool.{cases_lt, le-ltb, lt-ltb}
 use Rattle.matroid_theory.specs.Field.{plus, times, inverse, raised, IsField}
@@ -9,11 +9,11 @@ use Rattle.matroid_theory.specs.Matroid.{IsBasis}
 use Rattle.matroid_theory.specs.declared.Mode.{Mode}
 use Rattle.matroid_theory.specs.Move.{Move, ArePermutation, IsMove, TakesTo}
 use Rattle.matroid_theory.proofs.FieldLaws.{field_laws}
-use Rattle.matroid_theory.proofs.Sums.{zero_below, plus_zero_right, sum_same, sum_relabelled, sum_below-code, times_zero, combination-unit, combination-product, combination-same}
+use Rattle.matroid_theory.proofs.Sums.{zero_below, plus_zero_right, sum_same, sum_relabelled, sum_below-code, times_zero, combination-unit, combination-product, combination-same, sum_start}
 use Rattle.matroid_theory.proofs.Frobenius.{raised_combination, times_undone}
 use Rattle.matroid_theory.proofs.Masks.{size-same, IsBasis-same}
 use Rattle.matroid_theory.proofs.Units.{units_independent}
-use Rattle.matroid_theory.proofs.Steps.{All, Independent}
+use Rattle.matroid_theory.proofs.Steps.{All, Independent, all_coefficients}
 use Rattle.matroid_theory.proofs.Dimension.{spanning}
 use Rattle.matroid_theory.proofs.Carried.{basis_carried}
 
@@ -46,6 +46,25 @@ module _ (q : ℕ) (F : IsField q) (r : ℕ) where
         | inr g ↦ ap (plus q (sum_below q n f)) (z n g (omega arith))
             ∙ plus_zero_right q F (sum_below q n f) (sum_below-code q F n f) ∙ sum_short n f g (λ j l m. z j l (omega arith))
       ]
+
+  -- independent columns p 0, .., p (r - 1), as a set
+  pub set_of_independent : (n : ℕ) (A : Matrix) (p u : ℕ → ℕ) → r ≤ n → ArePermutation n p u → Independent q r r (λ i l. A i (p l)) →
+      IsIndependent q r n A (λ k. nat_lt (u k) r)
+  set_of_independent n A p u le w h = record {
+    only_zero = λ a c z k l. elim (cases_lt (u k) r) [
+      | inl b ↦ ap a (sym (w.back k l))
+          ∙ h.only_zero (λ j. a (p j)) (all_coefficients q F r r r (λ j. a (p j)) (λ j m. c.codes (p j) (w.below j (omega arith))))
+          (λ i m. sym (rows a c.outside i) ∙ z i m) (u k) b
+      | inr g ↦ c.outside k l (le-ltb (u k) r g)
+    ];
+  }
+    where
+      rows : (a : ℕ → ℕ) → ((j : ℕ) → j < n → nat_lt (u j) r ≡ false → a j ≡ 0) → (i : ℕ) →
+          combination q n A a i ≡ combination q r (λ i l. A i (p l)) (λ j. a (p j)) i
+      rows a o i =
+          sym (sum_relabelled q F n p u w (λ k. times q (A i k) (a k)) (λ k _. F.times_below (A i k) (a k)))
+          ∙ sum_start q F r n (λ l. times q (A i (p l)) (a (p l))) le
+          (λ l m b. ap (times q (A i (p l))) (o (p l) (w.below l b) (ap (λ x. nat_lt x r) (w.there l b) ∙ le-ltb l r m)) ∙ times_zero q F (A i (p l)))
 
   -- independent columns k with u k < r, in the order of p
   pub ordered_independent : (n : ℕ) (A : Matrix) (p u : ℕ → ℕ) → r ≤ n → ArePermutation n p u →

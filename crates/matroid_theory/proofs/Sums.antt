@@ -1,5 +1,5 @@
 -- Sums over a field: they add, scale, exchange and pick one term.
-use Rattle.std.proofs.Common.{◌≡◌, ◌≢◌, ℕ, zero, suc, ◌<◌, refl, sym, ◌∙◌, ap, true, false, arith, inl, inr, eqb-true, cond, eq-eqb}
+use Rattle.std.proofs.Common.{◌≡◌, ◌≢◌, ℕ, zero, suc, ◌<◌, refl, sym, ◌∙◌, ap, true, false, arith, inl, inr, eqb-true, cond, eq-eqb, ◌≤◌}
 use Rattle.matroid_theory.specs.Move.{ArePermutation}
 use Rattle.std.specs.Bool.{◌==◌}
 use Rattle.std.proofs.lemmas.Bool.{cases_lt, cases_Bool}
@@ -133,6 +133,16 @@ module _ (q : ℕ) (F : IsField q) where
       sym (combination-product r r G H a i)
       ∙ sum_same r (λ j. times q (matrix_product q r G H i j) (a j)) (λ j. times q (unit i j) (a j)) (λ j m. ap (λ x. times q x (a j)) (v.right i j l m))
       ∙ combination-unit r a i l c
+
+  -- a sum whose terms from k on are 0
+  pub sum_start : (k n : ℕ) (f : ℕ → ℕ) → k ≤ n → ((j : ℕ) → k ≤ j → j < n → f j ≡ 0) → sum_below q n f ≡ sum_below q k f
+  sum_start k zero f le z = (let e : zero ≡ k = omega arith in ap (λ n. sum_below q n f) e)
+  sum_start k (suc n) f le z =
+      elim (cases_lt n k) [
+        | inl b ↦ (let e : suc n ≡ k = omega arith in ap (λ n. sum_below q n f) e)
+        | inr g ↦ ap (plus q (sum_below q n f)) (z n g (omega arith))
+            ∙ plus_zero_right (sum_below q n f) (sum_below-code n f) ∙ sum_start k n f g (λ j l m. z j l (omega arith))
+      ]
 
   -- a sum in another order
   pub sum_relabelled : (n : ℕ) (p u : ℕ → ℕ) → ArePermutation n p u → (f : ℕ → ℕ) → ((j : ℕ) → j < n → f j < q) → sum_below q n (λ j. f (p j)) ≡ sum_below q n f

@@ -3,9 +3,11 @@ pub mod Matrix
 pub mod Rep
 pub mod Matroid
 pub mod Move
+pub mod Exchange
 pub mod Order
 pub mod Powers
 pub mod Minor
 pub mod Given
 pub mod Connection
 pub mod Level
+pub mod Tables

@@ -13,7 +13,7 @@ use Rattle.matroid_theory.proofs.Masks.{mask, mask-below, members-mask, IsBasis-
 use Rattle.named_matroids.specs.SmallMatroids.{IsSmallMatroid}
 use Rattle.minor_test.specs.declared.search.Tables.{Tables}
 use Rattle.minor_test.specs.declared.search.Images.{Images}
-use Rattle.minor_test.specs.Tables.{has}
+use Rattle.matroid_theory.specs.Tables.{has}
 use Rattle.minor_test.specs.Searches.{first, AreTables, AreImagesOf, image_with}
 use Rattle.minor_test.proofs.Embeddings.{narrower, none_embedded}
 use Rattle.minor_test.proofs.NextImage.{same_from_iff}

@@ -1,5 +1,4 @@
 mod Answers
-pub mod TableBits
 pub mod Images
 pub mod Embeddings
 pub mod NextImage

@@ -15,7 +15,7 @@ use Rattle.matroid_theory.proofs.Sums.{same_number, other_number}
 use Rattle.matroid_theory.proofs.Masks.{IsBasis-same}
 use Rattle.minor_test.specs.declared.search.Tables.{Tables}
 use Rattle.minor_test.specs.declared.search.Images.{Images}
-use Rattle.minor_test.specs.Tables.{has}
+use Rattle.matroid_theory.specs.Tables.{has}
 use Rattle.minor_test.specs.Searches.{first, AgreeBelow, AreTables, AreImagesOf, image_with, CarriesNext}
 use Rattle.minor_test.proofs.Images.{image-same, image_narrower, image_has, image_lacks, image_with_next}
 use Rattle.minor_test.proofs.Embeddings.{embedding-same, one_more_embedded}

@@ -5,7 +5,8 @@ use Rattle.matroid_theory.specs.Matroid.{members}
 use Rattle.matroid_theory.specs.Minor.{Matroid, image, IsMinorBy}
 use Rattle.minor_test.specs.declared.search.Tables.{Tables}
 use Rattle.minor_test.specs.declared.search.Images.{Images}
-use Rattle.minor_test.specs.Tables.{has, HasBases, HasMasks}
+use Rattle.matroid_theory.specs.Tables.{has}
+use Rattle.minor_test.specs.Tables.{HasBases, HasMasks}
 use Rattle.minor_test.specs.Twins.{AreTwinsOf}
 
 -- N with its first k elements alone, and the bases that lie within them

@@ -1,5 +1,6 @@
 ghost use Rattle.std.specs.Prelude.{◌≡◌, ◌==◌, ◌||◌, ◌<◌, ◌^◌, ℕ, false, length};
-ghost use Rattle.minor_test.specs.Tables.{has, HasBases, HasMasks};
+ghost use Rattle.matroid_theory.specs.Tables.{has};
+ghost use Rattle.minor_test.specs.Tables.{HasBases, HasMasks};
 
 use bases::is_basis;
 use column_sets::set_count;

@@ -3,7 +3,8 @@ ghost use Rattle.matroid_theory.specs.Rep.{size};
 ghost use Rattle.matroid_theory.specs.Matroid.{members, Agrees};
 ghost use Rattle.matroid_theory.specs.Matrix.{size_below};
 ghost use Rattle.matroid_theory.specs.Minor.{IsMinorBy, IsMinor};
-ghost use Rattle.minor_test.specs.Tables.{has, HasBases};
+ghost use Rattle.matroid_theory.specs.Tables.{has};
+ghost use Rattle.minor_test.specs.Tables.{HasBases};
 ghost use Rattle.minor_test.specs.Twins.{KeepsOrder};
 ghost use Rattle.minor_test.specs.Searches.{AreTables};
 

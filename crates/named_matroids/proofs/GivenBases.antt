@@ -12,6 +12,7 @@ use Rattle.matroid_theory.specs.Given as given
 use Rattle.matroid_theory.proofs.Masks.{mask, mask-below, members-mask, size-same, IsIndependent-same}
 use Rattle.matroid_theory.proofs.Bases.{rank_unique, size_most}
 use Rattle.matroid_theory.proofs.Rest.{size_front}
+use Rattle.matroid_theory.proofs.Built.{size_both}
 use Rattle.elimination.specs.Columns.{matrix_of, height, IsRankOfColumns}
 use Rattle.small_lists.specs.Lists.{lists}
 use Rattle.named_matroids.specs.SmallMatroids.{IsSmallMatroid, IsDual}
@@ -19,7 +20,7 @@ use Rattle.named_matroids.proofs.ColumnLists.{length_codes, independent_codes, r
 use Rattle.column_sets.specs.Sets.{AreMasks}
 use Rattle.column_sets.specs.Picked.{IsBasisOfColumns}
 use Rattle.column_sets.proofs.SetLemmas.{masks_same}
-use Rattle.column_sets.proofs.Complements.{size_complement, members_complement}
+use Rattle.column_sets.proofs.Complements.{members_complement}
 
 -- what is given and has few elements is a small matroid
 pub given_small : (what : Given) (N : Matroid) → IsGivenBy what N → 0 < N.size → N.size ≤ 10 → IsSmallMatroid N
@@ -124,7 +125,7 @@ module _ (N : Matroid) (small : IsSmallMatroid N) where
       (let k = c.0 in subst (λ (x : ℕ). size_below N.size (members x) ≡ N.rank) c.2 (small.of_rank k (2 ^ N.size - 1 - X) c.1)) in
       let s : size_below N.size (members (2 ^ N.size - 1 - X)) ≡ size_below N.size (λ j. not (members X j)) =
       size-same N.size (members (2 ^ N.size - 1 - X)) (λ j. not (members X j)) (λ j m. members_complement N.size few_elements X j l m) in
-      let t : size_below N.size (members X) + size_below N.size (λ j. not (members X j)) ≡ N.size = size_complement N.size (members X) in
+      let t : size_below N.size (members X) + size_below N.size (λ j. not (members X j)) ≡ N.size = size_both N.size (members X) in
       omega arith
 
   pub rank_within : N.rank ≤ N.size

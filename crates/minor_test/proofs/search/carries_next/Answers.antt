@@ -1,6 +1,6 @@
 use Rattle.std.proofs.Common.{below_more, sym, ◌∙◌, ap, bit_or, slice_index}
 use Rattle.std.proofs.lemmas.Nat.{one_shl}
-use Rattle.minor_test.specs.Tables.{has}
+use Rattle.matroid_theory.specs.Tables.{has}
 use Rattle.minor_test.proofs.Answers.{not_other}
 use Rattle.minor_test.proofs.search.carries_next.Goals as goal
 

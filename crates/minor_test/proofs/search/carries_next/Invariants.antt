@@ -1,5 +1,5 @@
 use Rattle.std.proofs.Common.{◌≡◌, ◌<◌, ◌+◌, ◌^◌, ℕ, length, slice_index, bit_or}
-use Rattle.minor_test.specs.Tables.{has}
+use Rattle.matroid_theory.specs.Tables.{has}
 use Rattle.minor_test.proofs.search.carries_next.Given as goal
 
 abbrev pub invariant-loop-place : goal.invariant-loop-place

@@ -3,7 +3,7 @@ use Rattle.std.proofs.lemmas.Bool.{false≢true}
 use Rattle.std.proofs.lemmas.List.{length-take-le, get_or-take}
 use Rattle.named_matroids.specs.SmallMatroids.{IsSmallMatroid}
 use Rattle.minor_test.specs.declared.search.Tables.{Tables}
-use Rattle.minor_test.specs.Tables.{has}
+use Rattle.matroid_theory.specs.Tables.{has}
 use Rattle.minor_test.specs.Searches.{CarriesNext}
 use Rattle.minor_test.proofs.NextImage.{room_below, next_from, next_free, next_carries}
 use Rattle.minor_test.proofs.search.is_next.Goals as goal

@@ -5,7 +5,7 @@ use Rattle.matroid_theory.specs.Rep.{Rep, size}
 use Rattle.matroid_theory.specs.Matroid.{members, IsBasis}
 use Rattle.matroid_theory.proofs.Sums.{same_number}
 use Rattle.minor_test.specs.declared.table.Table.{Table}
-use Rattle.minor_test.specs.Tables.{has}
+use Rattle.matroid_theory.specs.Tables.{has}
 use Rattle.minor_test.proofs.table.bases_of.Goals as goal
 use Rattle.minor_test.proofs.table.bases_of.Goals.{then-is_basis, else-is_basis}
 

@@ -1,6 +1,6 @@
 use Rattle.std.proofs.Common.{◌↔◌, ◌<◌, ℕ, IsTrue}
 use Rattle.matroid_theory.specs.Matroid.{members, IsBasis}
-use Rattle.minor_test.specs.Tables.{has}
+use Rattle.matroid_theory.specs.Tables.{has}
 use Rattle.minor_test.proofs.table.bases_of.Given as goal
 
 -- the bases before this set

@@ -1,6 +1,6 @@
 use Rattle.std.proofs.Common.{◌↔◌, ℕ, IsTrue, take}
 use Rattle.std.specs.List.{Contains}
-use Rattle.minor_test.specs.Tables.{has}
+use Rattle.matroid_theory.specs.Tables.{has}
 use Rattle.minor_test.proofs.table.table_of.Given as goal
 
 -- the masks before this one

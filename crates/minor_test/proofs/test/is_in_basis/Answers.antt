@@ -1,7 +1,7 @@
-use Rattle.std.proofs.Common.{◌≡◌, ◌↔◌, ◌<◌, ◌^◌, ℕ, IsTrue, ap, subst, bit_or, rules}
+use Rattle.std.proofs.Common.{◌↔◌, ◌<◌, ◌^◌, ℕ, IsTrue, subst, bit_or, rules}
 use Rattle.matroid_theory.specs.Rep.{size}
 use Rattle.column_sets.proofs.SetLemmas.{set_found}
-use Rattle.minor_test.specs.Tables.{has}
+use Rattle.matroid_theory.specs.Tables.{has}
 use Rattle.minor_test.proofs.test.is_in_basis.Goals as goal
 
 pub returns : goal.returns

@@ -5,7 +5,8 @@ use Rattle.std.proofs.Math.Nat.{pow-le-pow_right}
 use Rattle.matroid_theory.specs.Matroid.{members}
 use Rattle.matroid_theory.specs.Minor.{Matroid}
 use Rattle.named_matroids.specs.SmallMatroids.{IsSmallMatroid}
-use Rattle.minor_test.specs.Tables.{has, HasMasks}
+use Rattle.matroid_theory.specs.Tables.{has}
+use Rattle.minor_test.specs.Tables.{HasMasks}
 use Rattle.minor_test.specs.Twins.{swapped, IsSwapped, AreTwins}
 use Rattle.minor_test.proofs.TwinSets.{one_swapped}
 use Rattle.minor_test.proofs.twins.are_twins.Goals as goal

@@ -7,7 +7,7 @@ use Rattle.std.proofs.lemmas.List.{get_or-replicate, get_or_past, get_or-set_sam
 use Rattle.std.proofs.lemmas.Nat.Bits.{bit_at-zero, bit_at_set_same, bit_at_set_other}
 use Rattle.std.proofs.Math.Nat.{div-add-mod, mod-lt}
 use Rattle.matroid_theory.proofs.Sums.{same_number, other_number}
-use Rattle.minor_test.specs.Tables.{has}
+use Rattle.matroid_theory.specs.Tables.{has}
 
 -- a table of zeros has no mask
 pub has_none : (n X : ℕ) → has (replicate n 0) X ≡ false
