@@ -3,5 +3,4 @@ pub mod Covering
 pub mod Decoded
 pub mod OwnForms
 pub mod Owned
-pub mod Powers
 pub mod Standards

@@ -2,3 +2,4 @@ pub mod GroupSteps
 pub mod Marks
 pub mod Moves
 pub mod Shapes
+pub mod Powers

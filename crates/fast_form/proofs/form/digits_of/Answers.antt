@@ -2,7 +2,7 @@ use Rattle.std.proofs.Common.{◌≡◌, ◌<◌, ◌+◌, ◌-◌, ◌*◌, ◌
 use Rattle.std.proofs.lemmas.Bool.{cases_lt}
 use Rattle.std.proofs.Math.Seq.{get_or-append_seam}
 use Rattle.std.proofs.Math.ListN.{get_or-append}
-use Rattle.fast_form.proofs.Powers.{sixteens}
+use Rattle.form_states.proofs.Powers.{sixteens}
 use Rattle.fast_form.proofs.form.digits_of.Goals as goal
 
 -- one more digit at the end

@@ -2,7 +2,7 @@ use Rattle.std.proofs.Common.{◌≡◌, ◌<◌, ◌+◌, ◌*◌, ◌/◌, ◌
 use Rattle.std.proofs.lemmas.Bool.{eqb-true}
 use Rattle.std.proofs.lemmas.Nat.{pow_pos}
 use Rattle.std.proofs.Math.Nat.{lt-mul-div-succ}
-use Rattle.fast_form.proofs.Powers.{sixteens}
+use Rattle.form_states.proofs.Powers.{sixteens}
 use Rattle.form_states.proofs.steps.is_within.Goals as goal
 
 -- what has no quotient is less
