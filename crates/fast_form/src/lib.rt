@@ -19,5 +19,6 @@ mod states;
 mod steps;
 mod weights;
 
+pub use linear::is_standard;
 pub use modes::least_form_fast;
 pub use own::is_form_fast;

@@ -3,12 +3,10 @@ pub mod Columns
 pub mod Coordinates
 pub mod Ends
 pub mod Entries
-pub mod Exchanges
 pub mod Finish
 pub mod FormsSuffice
 pub mod Found
 pub mod Full
-pub mod GroupLeast
 pub mod Next
 pub mod Heads
 pub mod LeastNext

@@ -13,9 +13,9 @@ use Rattle.matroid_theory.proofs.Ranks.{IsIndependent-codes}
 use Rattle.matroid_theory.proofs.Dimension.{times_unit_column}
 use Rattle.matroid_theory.proofs.Standard.{ordered_independent}
 use Rattle.form_search.specs.Trail.{Trail, AreCoordinates, IsOrdered}
-use Rattle.form_search.specs.Pivot.{exchange}
+use Rattle.matroid_theory.specs.Exchange.{exchange}
 use Rattle.form_search.proofs.Scalars.{IsScalar, inverse_scalar, times_scalar, times_one_right}
-use Rattle.form_search.proofs.Exchanges.{exchange_one, exchange_other, exchanged_permutation}
+use Rattle.matroid_theory.proofs.Exchanges.{exchange_one, exchange_other, exchanged_permutation}
 use Rattle.form_search.proofs.Entries.{field}
 use Rattle.form_search.proofs.Coordinates.{row_scalars, same_coefficients, own_nonzero, others_zero}
 use Rattle.form_search.proofs.Ordered.{first_basis}

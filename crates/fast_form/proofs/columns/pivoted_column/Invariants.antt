@@ -1,6 +1,6 @@
 use Rattle.std.proofs.Common.{◌≡◌, ◌<◌, ℕ, length}
 use Rattle.fast_form.specs.Codes.{AreColumnCodes, code, cleared_code}
-use Rattle.form_search.specs.Pivot.{exchange}
+use Rattle.matroid_theory.specs.Exchange.{exchange}
 use Rattle.fast_form.proofs.columns.pivoted_column.Given as goal
 
 abbrev pub invariant-loop-i : goal.invariant-loop-i

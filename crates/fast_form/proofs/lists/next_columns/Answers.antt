@@ -1,7 +1,7 @@
 use Rattle.std.proofs.Common.{◌≡◌, inl, inr, [], ℕ, List, true, false, length, length-set, slice_index, slice_index_or, sym, ◌∙◌, subst, arith}
 use Rattle.std.proofs.lemmas.Bool.{cases_lt}
 use Rattle.matroid_theory.specs.Field.{times}
-use Rattle.form_search.specs.Pivot.{exchange}
+use Rattle.matroid_theory.specs.Exchange.{exchange}
 use Rattle.fast_form.specs.Codes.{AreColumnCodes, code, cleared_code, IsNormalisedFrom}
 use Rattle.fast_form.proofs.GroupSteps.{set_at}
 use Rattle.fast_form.proofs.lists.next_columns.Goals as goal

@@ -1,6 +1,6 @@
 use Rattle.std.proofs.Common.{◌≡◌, ◌<◌, ℕ, [], true, false, length, slice_index, slice_index_or}
 use Rattle.matroid_theory.specs.Field.{times}
-use Rattle.form_search.specs.Pivot.{exchange}
+use Rattle.matroid_theory.specs.Exchange.{exchange}
 use Rattle.fast_form.specs.Codes.{code, cleared_code, IsNormalisedFrom}
 use Rattle.fast_form.specs.States.{AreColumns}
 use Rattle.fast_form.proofs.lists.next_columns.Given as goal

@@ -1,5 +1,5 @@
 use Rattle.std.proofs.Common.{◌≡◌, ◌<◌, ℕ, [], true, false, length, slice_index_or}
-use Rattle.form_search.specs.Pivot.{exchange}
+use Rattle.matroid_theory.specs.Exchange.{exchange}
 use Rattle.fast_form.specs.Codes.{code, cleared_code}
 use Rattle.fast_form.specs.States.{AreColumns}
 use Rattle.fast_form.proofs.lists.pivoted_columns.Given as goal
