@@ -6,7 +6,6 @@ mod entry;
 mod field;
 mod layout;
 mod representation;
-mod standard;
 mod status;
 mod word;
 

@@ -8,8 +8,8 @@ ghost use Rattle.ask_run.specs.Texts.{texts_of};
 use crate::entry::matrices_in;
 use crate::field::factors_in;
 use crate::layout::layout_of;
-use crate::standard::is_standard;
 use bases::agree;
+use fast_form::is_standard;
 use product_rep::Rep;
 
 /// The representation that the words spell: its fields, with `x` between two, and then the columns of each factor, with `|`

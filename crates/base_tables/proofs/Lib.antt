@@ -1,2 +1,1 @@
-mod TableBits
 mod TableMasks

@@ -8,8 +8,9 @@ use Rattle.std.proofs.lemmas.List.Elements.{All-contains, All-contains_itself, A
 use Rattle.std.proofs.lemmas.List.FromFn.{length-range_with_len, get_or-range_with_len}
 use Rattle.std.proofs.lemmas.List.Kept.{IsStrictlyIncreasing-filter}
 use Rattle.matroid_theory.proofs.Sums.{same_number}
-use Rattle.base_tables.specs.Tables.{has, masks_below}
-use Rattle.base_tables.proofs.TableBits.{has_none, has_more}
+use Rattle.matroid_theory.specs.Tables.{has}
+use Rattle.base_tables.specs.Tables.{masks_below}
+use Rattle.matroid_theory.proofs.TableBits.{has_none, has_more}
 
 -- what passes a test is kept
 kept : (p : ℕ → Bool) (xs : List ℕ) (X : ℕ) → Contains xs X → p X ≡ true → Contains (filter p xs) X

@@ -1,5 +1,5 @@
 -- A candidate of an ordered basis and row scalars is not above what any move with this basis and these scalars makes.
-use Rattle.std.proofs.Common.{◌≡◌, ◌≢◌, ℕ, ◌+◌, ◌-◌, ◌*◌, ◌<◌, ◌≤◌, sym, ◌∙◌, ap, subst, arith, List, [], length, map, get_or-drop, length-drop, inl, inr, ◌⊎◌, slice_index, slice_index_or}
+use Rattle.std.proofs.Common.{◌≡◌, ◌≢◌, ℕ, ◌+◌, ◌-◌, ◌*◌, ◌<◌, ◌≤◌, sym, ◌∙◌, ap, subst, arith, List, [], length, map, get_or-drop, length-drop, inl, inr, ◌⊎◌, slice_index, slice_index_or, refl}
 use Rattle.std.specs.List.{Contains, range_with_len}
 use Rattle.std.specs.Cmp.Lexicographic.{slice_cmp}
 use Rattle.std.specs.Ordering.{nat_cmp}
@@ -20,9 +20,9 @@ use Rattle.matroid_theory.proofs.Sums.{sum_same}
 use Rattle.matroid_theory.proofs.Frobenius.{times_undone, times_nonzero, inverse_nonzero}
 use Rattle.matroid_theory.proofs.Lists.{distinct_length}
 use Rattle.matroid_theory.proofs.Standard.{standard_by}
+use Rattle.matroid_theory.proofs.GroupLeast.{group_least}
 use Rattle.canonical_form.specs.Search.{Reaches, PicksFirst, HasScalars, row_scalar, later, columns_cmp, chosen, IsOrderedBasis, AreScalars, AreOthers, AreCoordinates, IsScaled, AreOtherCoordinates, IsCandidate}
 use Rattle.canonical_form.proofs.Sorted.{IsMatched, ArePlaces, sorted_least, permutation_places}
-use Rattle.canonical_form.proofs.Scaled.{scaled_least}
 
 -- what one scaled column is multiplied by to get the other
 abbrev ratio : ℕ → ℕ → ℕ → ℕ → ℕ
@@ -219,7 +219,8 @@ module _ (M : Rep) (basis scalars : List ℕ) (rep : KeepsLimits M) (b : IsOrder
 
     column_least : slice_cmp nat_cmp v column ≢ Greater
     column_least = let w = scaled.column in
-        scaled_least (count M) M.rank (order M) field v column factor w.rows column_rows w.codes scaled.leads factor_code factor_nonzero multiple
+        group_least (count M) M.rank (order M) field v column (λ _. 0) (λ f _. factor f) w.rows column_rows w.codes
+        (λ i f l m z. scaled.leads i f l m (λ k b. z k b refl)) (λ f _. factor_code f) (λ f _. factor_nonzero f) multiple
 
   later-at : (t : ℕ) → slice_index_or (later N) t [] ≡ slice_index_or N.columns (M.rank + t) []
   later-at t = get_or-drop N.rank N.columns t [] ∙ ap (λ r. slice_index_or N.columns (r + t) []) same_rank

@@ -5,7 +5,6 @@ pub mod Orders
 pub mod Others
 pub mod Picks
 pub mod Places
-pub mod Scaled
 pub mod SearchSteps
 pub mod Sorted
 pub mod StandardLemmas

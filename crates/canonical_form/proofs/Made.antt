@@ -1,5 +1,5 @@
 -- Each candidate of the search is the later columns of a standard representation of the class.
-use Rattle.std.proofs.Common.{◌≡◌, ◌≢◌, ◌⊎◌, ℕ, zero, suc, ◌+◌, ◌-◌, ◌*◌, ◌<◌, ◌≤◌, refl, sym, ◌∙◌, ap, subst, arith, List, [], ◌∷◌, ◌++◌, length, length-append, drop, cond, true, false, inl, inr, slice_index}
+use Rattle.std.proofs.Common.{◌≡◌, ◌≢◌, ◌⊎◌, ℕ, zero, suc, ◌+◌, ◌-◌, ◌*◌, ◌<◌, ◌≤◌, refl, sym, ◌∙◌, ap, subst, arith, List, [], ◌∷◌, ◌++◌, length, length-append, drop, cond, true, inl, inr, slice_index}
 use Rattle.std.specs.Bool.{◌==◌, nat_lt}
 use Rattle.std.specs.List.{slice_index_or, Contains, AllPairs, range_with_len, swap}
 use Rattle.std.proofs.lemmas.Bool.{cases_lt, cases_eq, le-ltb, lt-ltb}
@@ -15,14 +15,18 @@ use Rattle.matroid_theory.specs.Matrix.{Matrix, combination, unit, IsIndependent
 use Rattle.matroid_theory.specs.Rep.{Rep, shape, count, size, order, matrix, IsStandard, KeepsLimits}
 use Rattle.matroid_theory.specs.Move.{Move, ArePermutation, IsMove, TakesTo}
 use Rattle.matroid_theory.proofs.FieldLaws.{field_laws}
-use Rattle.matroid_theory.proofs.Sums.{plus_zero_right, sum_same, sum_one, sum_plus, sum_relabelled, times_zero, same_number, other_number, combination-scaled}
+use Rattle.matroid_theory.proofs.Sums.{plus_zero_right, sum_same, sum_plus, times_zero, same_number, other_number, combination-scaled}
 use Rattle.matroid_theory.proofs.Frobenius.{times_undone, inverse_nonzero}
 use Rattle.matroid_theory.proofs.Steps.{Independent, all_coefficients}
-use Rattle.matroid_theory.proofs.Standard.{standard_by}
+use Rattle.matroid_theory.proofs.Standard.{standard_by, set_of_independent}
 use Rattle.matroid_theory.proofs.Built.{standard_made}
 use Rattle.matroid_theory.proofs.Lists.{distinct_length}
+use Rattle.matroid_theory.specs.Exchange.{exchange}
+use Rattle.matroid_theory.proofs.Exchanges.{exchange_one, exchange_two, exchange_other, exchanged_permutation}
+use Rattle.matroid_theory.proofs.Dimension.{times_unit_column}
+use Rattle.matroid_theory.proofs.First.{same_column}
 use Rattle.canonical_form.specs.Search.{later, chosen, IsOrderedBasis, AreScalars, AreOthers, AreCoordinates, IsScaled, IsCandidate, AreOfClass}
-use Rattle.canonical_form.proofs.Whole.{sum_start, independent_same, same_column}
+use Rattle.canonical_form.proofs.Whole.{independent_same}
 
 -- ---- a list without repeats that has each number below n, and the places in it
 
@@ -105,59 +109,9 @@ module _ (n : ℕ) (labels : List ℕ) (below : (i : ℕ) → i < length labels 
         back = λ j l. (seat_of labels j (whole j l)).1;
       }
 
--- ---- two numbers exchanged
-
-abbrev exchange : ℕ → ℕ → ℕ → ℕ
-exchange a b x = cond (x == a) b (cond (x == b) a x)
-
-module _ (a b : ℕ) where
-  exchange_one : exchange a b a ≡ b
-  exchange_one = ap (λ c. cond c b (cond (a == b) a a)) (same_number a)
-
-  exchange_two : exchange a b b ≡ a
-  exchange_two =
-      elim (cases_eq b a) [
-        | inl e ↦ ap (exchange a b) e ∙ exchange_one ∙ e
-        | inr ne ↦ ap (λ c. cond c b (cond (b == b) a b)) (other_number b a ne) ∙ ap (λ c. cond c a b) (same_number b)
-      ]
-
-  exchange_other : (x : ℕ) → x ≢ a → x ≢ b → exchange a b x ≡ x
-  exchange_other x n m = ap (λ c. cond c b (cond (x == b) a x)) (other_number x a n) ∙ ap (λ c. cond c a x) (other_number x b m)
-
-  -- what holds in each of the three cases
-  exchange_cases : (P : ℕ → ℕ → Type 0) → P a b → P b a → ((x : ℕ) → x ≢ a → x ≢ b → P x x) → (x : ℕ) → P x (exchange a b x)
-  exchange_cases P one two other x =
-      elim (cases_eq x a) [
-        | inl e ↦ subst (λ (y : ℕ). P y (exchange a b y)) (sym e) (subst (P a) (sym exchange_one) one)
-        | inr n ↦ elim (cases_eq x b) [
-          | inl e ↦ subst (λ (y : ℕ). P y (exchange a b y)) (sym e) (subst (P b) (sym exchange_two) two)
-          | inr m ↦ subst (P x) (sym (exchange_other x n m)) (other x n m)
-        ]
-      ]
-
-  exchange_twice : (x : ℕ) → exchange a b (exchange a b x) ≡ x
-  exchange_twice = exchange_cases (λ x y. exchange a b y ≡ x) exchange_two exchange_one exchange_other
-
-  exchange_below : (n : ℕ) → a < n → b < n → (x : ℕ) → x < n → exchange a b x < n
-  exchange_below n l m = exchange_cases (λ x y. x < n → y < n) (λ _. m) (λ _. l) (λ x _ _ o. o)
-
-  exchanged_permutation : (n : ℕ) (p u : ℕ → ℕ) → a < n → b < n → ArePermutation n p u → ArePermutation n (λ x. p (exchange a b x)) (λ k. exchange a b (u k))
-  exchanged_permutation n p u l m w = record {
-    below = λ j o. w.below (exchange a b j) (exchange_below n l m j o);
-    inverse_below = λ j o. exchange_below n l m (u j) (w.inverse_below j o);
-    there = λ j o. ap (exchange a b) (w.there (exchange a b j) (exchange_below n l m j o)) ∙ exchange_twice j;
-    back = λ j o. ap p (exchange_twice (u j)) ∙ w.back j o;
-  }
-
 -- ---- independent columns
 
 module _ (q : ℕ) (F : IsField q) (r : ℕ) where
-  pick_column : (n : ℕ) (A : Matrix) (l : ℕ) (i : ℕ) → l < n → A i l < q → combination q n A (λ j. unit j l) i ≡ A i l
-  pick_column n A l i b c =
-      sum_one q F n l (λ j. times q (A i j) (unit j l)) b (F.times_below (A i l) (unit l l))
-      (λ j _ ne. ap (λ e. times q (A i j) (cond e 1 0)) (other_number j l ne) ∙ times_zero q F (A i j))
-      ∙ ap (λ e. times q (A i l) (cond e 1 0)) (same_number l) ∙ F.times_comm (A i l) 1 ∙ F.times_one (A i l) c
-
   -- two of them differ
   columns_differ : (n : ℕ) (A : Matrix) → ((i j : ℕ) → i < r → j < n → A i j < q) → Independent q r n A → (l m : ℕ) → l < n →
       m < n → l ≢ m → ((i : ℕ) → i < r → A i l ≡ A i m) → ⊥
@@ -185,29 +139,10 @@ module _ (q : ℕ) (F : IsField q) (r : ℕ) where
           (λ j. plus q (times q (A i j) (unit j l)) (times q (A i j) (times q (negative q 1) (unit j m))))
           (λ j _. F.times_plus (A i j) (unit j l) (times q (negative q 1) (unit j m)))
           ∙ sum_plus q F n (λ j. times q (A i j) (unit j l)) (λ j. times q (A i j) (times q (negative q 1) (unit j m)))
-          ∙ (λ t. plus q (pick_column n A l i b (codes i l k b) t)
+          ∙ (λ t. plus q (times_unit_column q F n A i l b (codes i l k b) t)
           ((combination-scaled q F n A (negative q 1) (λ j. unit j m) i
-          ∙ ap (times q (negative q 1)) (pick_column n A m i c (codes i m k c) ∙ sym (e i k))) t))
+          ∙ ap (times q (negative q 1)) (times_unit_column q F n A i m c (codes i m k c) ∙ sym (e i k))) t))
           ∙ cancelled (A i l) (codes i l k b)
-
-  -- independent columns p 0, .., p (r - 1), as a set
-  set_of_independent : (n : ℕ) (A : Matrix) (p u : ℕ → ℕ) → r ≤ n → ArePermutation n p u → Independent q r r (λ i l. A i (p l)) →
-      IsIndependent q r n A (λ k. nat_lt (u k) r)
-  set_of_independent n A p u le w h = record {
-    only_zero = λ a c z k l. elim (cases_lt (u k) r) [
-      | inl b ↦ ap a (sym (w.back k l))
-          ∙ h.only_zero (λ j. a (p j)) (all_coefficients q F r r r (λ j. a (p j)) (λ j m. c.codes (p j) (w.below j (omega arith))))
-          (λ i m. sym (rows a c.outside i) ∙ z i m) (u k) b
-      | inr g ↦ c.outside k l (le-ltb (u k) r g)
-    ];
-  }
-    where
-      rows : (a : ℕ → ℕ) → ((j : ℕ) → j < n → nat_lt (u j) r ≡ false → a j ≡ 0) → (i : ℕ) →
-          combination q n A a i ≡ combination q r (λ i l. A i (p l)) (λ j. a (p j)) i
-      rows a o i =
-          sym (sum_relabelled q F n p u w (λ k. times q (A i k) (a k)) (λ k _. F.times_below (A i k) (a k)))
-          ∙ sum_start q F r r n (λ l. times q (A i (p l)) (a (p l))) le
-          (λ l m b. ap (times q (A i (p l))) (o (p l) (w.below l b) (ap (λ x. nat_lt x r) (w.there l b) ∙ le-ltb l r m)) ∙ times_zero q F (A i (p l)))
 
   inverse_twice : (a : ℕ) → a < q → a ≢ 0 → inverse q (inverse q a) ≡ a
   inverse_twice a l ne =

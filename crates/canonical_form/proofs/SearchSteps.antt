@@ -9,12 +9,13 @@ use Rattle.matroid_theory.specs.Field.{IsField}
 use Rattle.matroid_theory.specs.Rep.{Rep, Shape, count, order, size, KeepsLimits}
 use Rattle.matroid_theory.specs.Move.{Move}
 use Rattle.matroid_theory.proofs.FieldLaws.{field_laws}
+use Rattle.matroid_theory.proofs.Levels.{columns_total}
+use Rattle.matroid_theory.proofs.Orderings.{at_most_chain}
 use Rattle.product_rep.proofs.PiecesLemmas.{place_below}
 use Rattle.canonical_form.specs.Search.{Reaches, PicksFirst, HasScalars, row_scalar, AreScalars, AreIndependentColumns, IsOrderedBasis, IsCandidate, AreOfClass, IsNotAbove, columns_cmp, later}
 use Rattle.canonical_form.specs.Found.{IsAtMost, CoversBases, CoversScalars, AreFirstScalars}
 use Rattle.canonical_form.proofs.Least.{candidate_least}
 use Rattle.canonical_form.proofs.Made.{candidate_made}
-use Rattle.canonical_form.proofs.Orders.{not_above_trans}
 use Rattle.canonical_form.proofs.Places.{one_more_item, field_at}
 use Rattle.canonical_form.proofs.Whole.{begins_independent, row_scalar_code, row_scalar_nonzero, row_scalar_first}
 
@@ -49,7 +50,7 @@ ends_at_order M fs scalars place c end q x f e n h k d =
 -- where what was found is at most x, and x isn't above y
 pub at_most_trans : (found : Option (List (List ℕ))) (x y : List (List ℕ)) → IsAtMost found x → columns_cmp x y ≢ Greater → IsAtMost found y
 at_most_trans None x y h n = h
-at_most_trans (Some z) x y h n = not_above_trans z x y h n
+at_most_trans (Some z) x y h n = at_most_chain columns_cmp columns_total z x y h n
 
 module _ (M : Rep) (r : KeepsLimits M) where
   some : 0 < count M

@@ -4,41 +4,25 @@ use Rattle.std.specs.Bool.{◌==◌}
 use Rattle.std.specs.List.{swap}
 use Rattle.std.specs.List.Sorted.{IsSorted, IsPermutation}
 use Rattle.std.proofs.lemmas.Bool.{cases_eq}
-use Rattle.std.proofs.lemmas.Cmp.{upto, tied_back}
+use Rattle.std.proofs.lemmas.Cmp.{tied_back}
 use Rattle.std.proofs.lemmas.List.{get_or-set_same, get_or-set_other}
 use Rattle.std.proofs.lemmas.List.Edits.{swap_is, length-swap}
 use Rattle.std.proofs.lemmas.List.Sorted.{ranks_by, sorted_far, IsPermutation-keeps}
 use Rattle.std.specs.Cmp.{IsTotalOrder}
 use Rattle.std.specs.Cmp.Lexicographic.{slice_cmp}
-use Rattle.std.specs.Ordering.{is_lt, is_gt, ordering_then, ordering_reverse}
+use Rattle.std.specs.Ordering.{is_lt, ordering_reverse}
 use Rattle.std.specs.declared.cmp.Ordering.{Ordering}
-use Rattle.std.specs.declared.cmp.Ordering.TheVariants.{Less, Equal, Greater}
+use Rattle.std.specs.declared.cmp.Ordering.TheVariants.{Equal, Greater}
 use mathlib.Core.Bool.{true≢false}
 use Rattle.matroid_theory.proofs.Sums.{same_number, other_number}
+use Rattle.matroid_theory.proofs.Orderings.{then_at_most, at_most_chain}
 
 -- ---- orders
-
-at_most_test : (o : Ordering) → o ≢ Greater → is_gt o ≡ false
-at_most_test Less n = refl
-at_most_test Equal n = refl
-at_most_test Greater n = absurd (n refl)
-
-at_most_tested : (o : Ordering) → is_gt o ≡ false → o ≢ Greater
-at_most_tested o t e = true≢false (ap is_gt (sym e) ∙ t)
 
 level_at_most : (o : Ordering) → o ≡ Equal → o ≢ Greater
 level_at_most o e g = let d : Equal ≡ Greater = sym e ∙ g in cc
 
--- the first pair decides, unless it is level
-pub then_at_most : (o p : Ordering) → o ≢ Greater → (o ≡ Equal → p ≢ Greater) → ordering_then o p ≢ Greater
-then_at_most Less p n h e = cc
-then_at_most Equal p n h e = h refl e
-then_at_most Greater p n h e = n refl
-
 module _ {X : Type 0} (R : X → X → Ordering) (o : IsTotalOrder R) where
-  pub at_most_chain : (x y z : X) → R x y ≢ Greater → R y z ≢ Greater → R x z ≢ Greater
-  at_most_chain x y z h g = at_most_tested (R x z) (upto o x y z (at_most_test (R x y) h) (at_most_test (R y z) g))
-
   at_most_turned : (x y : X) → is_lt (R y x) ≡ false → R x y ≢ Greater
   at_most_turned x y t e = true≢false (ap is_lt (sym (o.antisymm y x ∙ ap ordering_reverse e)) ∙ t)
 

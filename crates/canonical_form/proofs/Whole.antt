@@ -1,5 +1,5 @@
 -- What is reached from a representation, and the member of its class that is the form.
-use Rattle.std.proofs.Common.{◌≡◌, ◌≢◌, ℕ, zero, suc, ◌+◌, ◌*◌, ◌/◌, ◌%◌, ◌<◌, ◌≤◌, refl, sym, ◌∙◌, ap, subst, arith, List, [], ◌++◌, length, take, drop, cond, inl, inr, slice_index}
+use Rattle.std.proofs.Common.{◌≡◌, ◌≢◌, ℕ, ◌+◌, ◌<◌, ◌≤◌, refl, sym, ◌∙◌, ap, subst, arith, List, [], ◌++◌, length, take, drop, cond, inl, inr}
 use Rattle.std.specs.Bool.{nat_lt}
 use Rattle.std.specs.List.{slice_index_or}
 use Rattle.std.specs.Cmp.Lexicographic.{slice_cmp}
@@ -9,16 +9,15 @@ use Rattle.std.specs.declared.cmp.Ordering.TheVariants.{Equal, Greater}
 use Rattle.std.proofs.lemmas.Bool.{cases_lt, le-ltb, lt-ltb}
 use Rattle.std.proofs.lemmas.Cmp.{tied_itself}
 use Rattle.std.proofs.lemmas.List.{ext_get_or, get_or-take, length-take-le, take-append-drop}
-use Rattle.std.proofs.Math.Nat.{mod-lt}
 use Rattle.matroid_theory.specs.declared.Mode.TheVariants.{Linear}
-use Rattle.matroid_theory.specs.Field.{plus, times, inverse, IsField}
-use Rattle.matroid_theory.specs.Matrix.{Matrix, sum_below, combination}
+use Rattle.matroid_theory.specs.Field.{times, inverse, IsField}
+use Rattle.matroid_theory.specs.Matrix.{Matrix, combination}
 use Rattle.matroid_theory.specs.Rep.{Rep, shape, count, size, order, matrix, IsShaped, IsStandard, KeepsLimits}
 use Rattle.matroid_theory.specs.Matroid.{Agrees}
 use Rattle.matroid_theory.specs.Move.{Move, AreEquivalent}
 use Rattle.matroid_theory.specs.Order.{rep_cmp, IsForm}
 use Rattle.matroid_theory.proofs.FieldLaws.{field_laws}
-use Rattle.matroid_theory.proofs.Sums.{zero_below, plus_zero_right, sum_same, sum_below-code, times_zero}
+use Rattle.matroid_theory.proofs.Sums.{zero_below, sum_same, times_zero, sum_start}
 use Rattle.matroid_theory.proofs.Frobenius.{times_nonzero, inverse_nonzero}
 use Rattle.matroid_theory.proofs.Steps.{Independent, all_coefficients}
 use Rattle.matroid_theory.proofs.Standard.{standard_basis, ordered_independent}
@@ -26,23 +25,13 @@ use Rattle.matroid_theory.proofs.Built.{standard_exists}
 use Rattle.matroid_theory.proofs.Equivalence.{equivalent-transitive}
 use Rattle.matroid_theory.proofs.Carried.{agrees_carried}
 use Rattle.matroid_theory.proofs.Levels.{columns_total}
-use Rattle.matroid_theory.proofs.First.{row_below, whole}
+use Rattle.matroid_theory.proofs.First.{same_column}
 use Rattle.matroid_theory.proofs.Prefix.{slice_cmp-append}
 use Rattle.canonical_form.specs.Search.{Reaches, PicksFirst, row_scalar, later, columns_cmp, chosen, AreIndependentColumns, AreOfClass}
 
 -- ---- a part of independent columns
 
 module _ (q : ℕ) (F : IsField q) (r : ℕ) where
-  -- a sum whose terms from k on are 0
-  pub sum_start : (k n : ℕ) (f : ℕ → ℕ) → k ≤ n → ((j : ℕ) → k ≤ j → j < n → f j ≡ 0) → sum_below q n f ≡ sum_below q k f
-  sum_start k zero f le z = (let e : zero ≡ k = omega arith in ap (λ n. sum_below q n f) e)
-  sum_start k (suc n) f le z =
-      elim (cases_lt n k) [
-        | inl b ↦ (let e : suc n ≡ k = omega arith in ap (λ n. sum_below q n f) e)
-        | inr g ↦ ap (plus q (sum_below q n f)) (z n g (omega arith))
-            ∙ plus_zero_right q F (sum_below q n f) (sum_below-code q F n f) ∙ sum_start k n f g (λ j l m. z j l (omega arith))
-      ]
-
   -- the first k of n independent columns are independent
   pub first_independent : (k n : ℕ) (A : Matrix) → k ≤ n → Independent q r n A → Independent q r k A
   first_independent k n A le h = record {
@@ -68,7 +57,7 @@ module _ (q : ℕ) (F : IsField q) (r : ℕ) where
 
       rows : (a : ℕ → ℕ) (i : ℕ) → combination q n A (extended a) i ≡ combination q k A a i
       rows a i =
-          sum_start k n (λ j. times q (A i j) (extended a j)) le (λ j g _. ap (times q (A i j)) (past a j g) ∙ times_zero q F (A i j))
+          sum_start q F k n (λ j. times q (A i j) (extended a j)) le (λ j g _. ap (times q (A i j)) (past a j g) ∙ times_zero q F (A i j))
           ∙ sum_same q F k (λ j. times q (A i j) (extended a j)) (λ j. times q (A i j) (a j)) (λ j l. ap (times q (A i j)) (at a j l))
 
   -- independence looks at the columns alone
@@ -142,17 +131,6 @@ begins_independent M columns m N h le w b = record {
 }
 
 -- ---- the form
-
--- columns of r * c codes are equal where their codes are
-pub same_column : (r c : ℕ) (v w : List ℕ) → length v ≡ r * c → length w ≡ r * c → 0 < c →
-    ((f i : ℕ) → f < c → i < r → slice_index v (i * c + f) ≡ slice_index w (i * c + f)) → v ≡ w
-same_column r c v w a b p h = ext_get_or 0 v w (a ∙ sym b) code
-  where
-    code : (k : ℕ) → k < length v → slice_index v k ≡ slice_index w k
-    code k l =
-        let l' : k < r * c = subst (λ (n : ℕ). k < n) a l in
-        let e : k / c * c + k % c ≡ k = whole k c p in
-        sym (ap (slice_index v) e) ∙ h (k % c) (k / c) (mod-lt k p) (row_below k c r p l') ∙ ap (slice_index w) e
 
 -- the representation with the factors and the rank of N, and other columns
 abbrev with_columns : Rep → List (List ℕ) → Rep

@@ -6,12 +6,13 @@ use Rattle.std.specs.Cmp.Lexicographic.{slice_cmp}
 use Rattle.std.specs.Ordering.{nat_cmp, ordering_then}
 use Rattle.std.specs.declared.cmp.Ordering.{Ordering}
 use Rattle.std.specs.declared.cmp.Ordering.TheVariants.{Less, Equal, Greater}
-use Rattle.std.proofs.lemmas.Bool.{le-ltb, lt-ltb}
+use Rattle.std.proofs.lemmas.Bool.{lt-ltb}
 use Rattle.std.proofs.Math.Seq.{ext_get_or}
+use Rattle.std.specs.Cmp.{nat_cmp_total}
+use Rattle.std.proofs.lemmas.Cmp.{tied_itself, nat_list_cmp_total}
 use Rattle.matroid_theory.specs.Rep.{Rep, shape, count, size, matrix, IsStandard}
 use Rattle.matroid_theory.specs.Minor.{Matroid}
 use Rattle.matroid_theory.specs.Order.{rep_cmp}
-use Rattle.matroid_theory.proofs.Sums.{same_number}
 use Rattle.dual_theory.specs.Represented.{Represents, AgreeBefore, Completes}
 use Rattle.dual_theory.proofs.Rescaled.{lead_made_one, first_made_one}
 
@@ -19,13 +20,6 @@ use Rattle.dual_theory.proofs.Rescaled.{lead_made_one, first_made_one}
 
 nat_cmp-below : (x y : ℕ) → x < y → nat_cmp x y ≡ Less
 nat_cmp-below x y l = ap (λ b. cond b Less (cond (x == y) Equal Greater)) (lt-ltb x y l)
-
-nat_cmp-same : (x : ℕ) → nat_cmp x x ≡ Equal
-nat_cmp-same x = ap (λ b. cond b Less (cond (x == x) Equal Greater)) (le-ltb x x (omega arith)) ∙ ap (λ b. cond b Equal Greater) (same_number x)
-
-slice_cmp-same : (xs : List ℕ) → slice_cmp nat_cmp xs xs ≡ Equal
-slice_cmp-same [] = refl
-slice_cmp-same (x ∷ xs) = ap (λ (o : Ordering). ordering_then o (slice_cmp nat_cmp xs xs)) (nat_cmp-same x) ∙ slice_cmp-same xs
 
 -- of two lists as long, the one with the less entry at the first place where they differ is less
 less_at : {A : Type 0} (R : A → A → Ordering) (d : A) (xs ys : List A) (k : ℕ) → ((x : A) → R x x ≡ Equal) → length xs ≡ length ys →
@@ -67,10 +61,11 @@ module _ (q : ℕ) (N : Matroid) (M L K : Rep) (i j : ℕ) (i_below : i < M.rank
 
   pub smaller_entry : matrix L 0 i j < matrix K 0 i j → rep_cmp L K ≡ Less
   smaller_entry less =
-      less_at (slice_cmp nat_cmp) [] L.columns K.columns j slice_cmp-same (ap (λ S. S.size) (e ∙ sym d)) (subst (λ S. j < S.size) (sym e) j_below)
+      less_at (slice_cmp nat_cmp) [] L.columns K.columns j (tied_itself nat_list_cmp_total) (ap (λ S. S.size) (e ∙ sym d))
+      (subst (λ S. j < S.size) (sym e) j_below)
       (λ c m. ext_get_or 0 (slice_index_or L.columns c []) (slice_index_or K.columns c []) (length_L c (inside c m) ∙ sym (length_K c (inside c m)))
       (λ r o. same_entry r c (subst (λ n. r < n) (length_L c (inside c m)) o) (inside c m) (inl m)))
-      (less_at nat_cmp 0 (slice_index_or L.columns j []) (slice_index_or K.columns j []) i nat_cmp-same
+      (less_at nat_cmp 0 (slice_index_or L.columns j []) (slice_index_or K.columns j []) i (tied_itself nat_cmp_total)
       (length_L j j_below ∙ sym (length_K j j_below)) (subst (λ n. i < n) (sym (length_L j j_below)) i_below)
       (λ r o. same_entry r j (omega arith) j_below (inr (refl, o)))
       (nat_cmp-below _ _ (subst (λ x. x < slice_index (slice_index_or K.columns j []) i) (at_place L one_L i j)

@@ -1,71 +1,25 @@
 -- Equivalent representations have equivalent orthogonal representations, so they have the same dual form.
-use Rattle.std.proofs.Common.{◌≡◌, ◌≢◌, ◌⊎◌, ℕ, ◌+◌, ◌<◌, ◌≤◌, refl, sym, ◌∙◌, ap, subst, arith, Bool, inl, inr, length, slice_index}
+use Rattle.std.proofs.Common.{◌≡◌, ◌⊎◌, ℕ, ◌+◌, ◌<◌, ◌≤◌, refl, sym, ◌∙◌, ap, subst, arith, Bool, inl, inr, length, slice_index}
 use Rattle.std.proofs.lemmas.Bool.{cases_lt}
 use Rattle.matroid_theory.specs.Field.{times, inverse, raised, IsField}
 use Rattle.matroid_theory.specs.Matrix.{Matrix, sum_below, combination, unit, AreInverse, size_below, IsIndependent}
 use Rattle.matroid_theory.specs.Rep.{Rep, Shape, shape, count, size, order, matrix, IsShaped}
 use Rattle.matroid_theory.specs.declared.Mode.{Mode}
-use Rattle.matroid_theory.specs.Move.{Move, ArePermutation, IsMove, moved, TakesTo, AreEquivalent}
+use Rattle.matroid_theory.specs.Move.{Move, IsMove, moved, TakesTo, AreEquivalent}
 use Rattle.matroid_theory.specs.Order.{IsForm}
 use Rattle.matroid_theory.proofs.FieldLaws.{field_laws}
-use Rattle.matroid_theory.proofs.Sums.{sum_same, sum_zero, sum_swap, sum_times, sum_times_right, sum_relabelled, sum_below-code, times_zero, combination-unit}
-use Rattle.matroid_theory.proofs.Frobenius.{raised_below, raised_times, raised_sum, raised_zero, inverse_nonzero}
+use Rattle.matroid_theory.proofs.Sums.{sum_same, sum_below-code, combination-unit}
+use Rattle.matroid_theory.proofs.Frobenius.{raised_below, inverse_nonzero}
 use Rattle.matroid_theory.proofs.Dimension.{unit_code}
 use Rattle.matroid_theory.proofs.Equivalence.{allowed_zero, equivalent-reflexive, equivalent-symmetric, equivalent-transitive}
-use Rattle.matroid_theory.proofs.Carried.{basis_carried}
+use Rattle.matroid_theory.proofs.Carried.{basis_carried, turned_over, turned_orthogonal}
 use Rattle.matroid_theory.proofs.Forms.{one_form}
 use Rattle.dual_theory.specs.Dual.{complement, AreOrthogonal, HasBases, IsDualForm}
 use Rattle.matroid_theory.proofs.Masks.{IsIndependent-same}
 use Rattle.dual_theory.proofs.Orthogonal.{complement_twice, change, change_back, change_codes, change_back_codes, change_inverse, changed}
 use Rattle.dual_theory.proofs.OrthogonalReps.{independent_named, there, codes_named, complement_basis, orthogonal_symmetric}
-use Rattle.dual_theory.proofs.BuiltReps.{built, shape_built, matrix_built, shaped_built}
+use Rattle.matroid_theory.proofs.Built.{built, shape_built, matrix_built, shaped_built}
 use Rattle.dual_theory.proofs.StandardDual.{standard_has_bases, standard_dual_orthogonal, standard_dual_has_bases, standard_dual_exists}
-
--- ---- one factor of a move: its rows and those of the other with the inverse scalars
-
-module _ (q : ℕ) (F : IsField q) (r n : ℕ) (t : ℕ) (G A B : Matrix) (s : ℕ → ℕ) (p u : ℕ → ℕ) (w : ArePermutation n p u)
-    (s_code : (j : ℕ) → j < n → s j < q) (s_nonzero : (j : ℕ) → j < n → s j ≢ 0)
-    (B_is : (i j : ℕ) → i < r → j < n → B i j ≡ times q (s j) (combination q r G (λ k. raised q t (A k (p j))) i)) where
-  pub turned_over : (ℕ → ℕ) → ℕ → ℕ
-  turned_over a j = times q (inverse q (s j)) (raised q t (a (p j)))
-
-  -- (s x) (s⁻¹ y) = x y
-  cancelled : (s x y : ℕ) → s < q → s ≢ 0 → y < q → times q (times q s x) (times q (inverse q s) y) ≡ times q x y
-  cancelled s x y l ne c =
-      ap (λ z. times q z (times q (inverse q s) y)) (F.times_comm s x)
-      ∙ F.times_assoc x s (times q (inverse q s) y)
-      ∙ ap (times q x) (sym (F.times_assoc s (inverse q s) y) ∙ ap (λ z. times q z y) (F.times_inverse s l ne) ∙ F.times_one y c)
-
-  -- B (turned a) = G (raised (A a))
-  combination_carried : (a : ℕ → ℕ) → ((k : ℕ) → k < n → a k < q) → (i : ℕ) → i < r
-      → combination q n B (turned_over a) i ≡ combination q r G (λ k. raised q t (combination q n A a k)) i
-  unfolding turned_over
-  combination_carried a c i l =
-      sum_same q F n (λ j. times q (B i j) (turned_over a j)) (λ j. Y (p j)) (λ j m.
-      ap (λ x. times q x (turned_over a j)) (B_is i j l m)
-      ∙ cancelled (s j) (combination q r G (λ k. raised q t (A k (p j))) i) (raised q t (a (p j))) (s_code j m) (s_nonzero j m)
-      (raised_below q F t (a (p j)) (c (p j) (w.below j m)))
-      ∙ sym (sum_times_right q F r (raised q t (a (p j))) (λ k. times q (G i k) (raised q t (A k (p j)))))
-      ∙ sum_same q F r (λ k. times q (times q (G i k) (raised q t (A k (p j)))) (raised q t (a (p j))))
-      (λ k. times q (G i k) (raised q t (times q (A k (p j)) (a (p j))))) (λ k _.
-      F.times_assoc (G i k) (raised q t (A k (p j))) (raised q t (a (p j))) ∙ ap (times q (G i k)) (sym (raised_times q F t (A k (p j)) (a (p j))))))
-      ∙ sum_relabelled q F n p u w Y (λ j _. sum_below-code q F r (λ k. times q (G i k) (raised q t (times q (A k j) (a j)))))
-      ∙ sum_swap q F n r (λ j k. times q (G i k) (raised q t (times q (A k j) (a j))))
-      ∙ sum_same q F r (λ k. sum_below q n (λ j. times q (G i k) (raised q t (times q (A k j) (a j)))))
-      (λ k. times q (G i k) (raised q t (combination q n A a k))) (λ k _.
-      sum_times q F n (G i k) (λ j. raised q t (times q (A k j) (a j))) ∙ ap (times q (G i k)) (sym (raised_sum q F t n (λ j. times q (A k j) (a j)))))
-    where
-      Y : ℕ → ℕ
-      Y j = sum_below q r (λ k. times q (G i k) (raised q t (times q (A k j) (a j))))
-
-  -- what is orthogonal to A is so to B when turned
-  pub turned_orthogonal : (a : ℕ → ℕ) → ((k : ℕ) → k < n → a k < q) → ((i : ℕ) → i < r → combination q n A a i ≡ 0) → (i : ℕ) →
-      i < r → combination q n B (turned_over a) i ≡ 0
-  turned_orthogonal a c z i l =
-      combination_carried a c i l
-      ∙ sum_same q F r (λ k. times q (G i k) (raised q t (combination q n A a k))) (λ _. 0)
-      (λ k k'. ap (λ x. times q (G i k) (raised q t x)) (z k k') ∙ ap (times q (G i k)) (raised_zero q F t) ∙ times_zero q F (G i k))
-      ∙ sum_zero q F r
 
 -- ---- equivalent representations have equivalent orthogonal ones
 

@@ -1,5 +1,5 @@
 -- Orthogonal matrices of full rank: their bases are complements, and one of them determines the other up to row operations.
-use Rattle.std.proofs.Common.{◌≡◌, ◌≢◌, ℕ, zero, suc, ◌+◌, ◌-◌, ◌<◌, ◌≤◌, refl, sym, ◌∙◌, ap, subst, arith, cond, Bool, true, false, inl, inr, not}
+use Rattle.std.proofs.Common.{◌≡◌, ◌≢◌, ℕ, suc, ◌+◌, ◌-◌, ◌<◌, ◌≤◌, refl, sym, ◌∙◌, ap, subst, arith, cond, Bool, true, false, inl, inr, not}
 use Rattle.std.specs.Bool.{◌==◌}
 use Rattle.std.proofs.lemmas.Bool.{cases_lt, cases_eq}
 use Rattle.matroid_theory.specs.Field.{plus, times, negative, characteristic, IsField}
@@ -11,6 +11,7 @@ use Rattle.matroid_theory.proofs.Dimension.{independent_bound, inverse_matrix, t
 use Rattle.matroid_theory.proofs.Picked.{size_grows, set_independent}
 use Rattle.matroid_theory.proofs.Bases.{pick, pick_picks}
 use Rattle.matroid_theory.proofs.Invertible.{combination_zero}
+use Rattle.matroid_theory.proofs.Built.{size_both}
 use Rattle.dual_theory.specs.Dual.{complement}
 
 -- ---- complements
@@ -23,12 +24,6 @@ complement_in S j e = sym (complement_twice S j) ∙ ap not e
 
 pub complement_out : (S : ℕ → Bool) (j : ℕ) → complement S j ≡ false → S j ≡ true
 complement_out S j e = sym (complement_twice S j) ∙ ap not e
-
-pub size_complement : (n : ℕ) (S : ℕ → Bool) → size_below n S + size_below n (complement S) ≡ n
-size_complement zero S = refl
-size_complement (suc n) S = let h : size_below n S + size_below n (complement S) ≡ n = size_complement n S in
-    elim (S n) as (λ b. (size_below n S + cond b 1 0) + (size_below n (complement S) + cond (not b) 1 0) ≡ suc n)
-    [ true ↦ omega arith | false ↦ omega arith ]
 
 unit_turned : (i j : ℕ) → unit j i ≡ unit i j
 unit_turned i j = elim (cases_eq i j) [
@@ -111,7 +106,7 @@ module _ (q : ℕ) (F : IsField q) where
       W l i = V (pick n (complement T) l) i
 
       T_other : size_below n (complement T) ≡ r
-      T_other = let h : size_below n T + size_below n (complement T) ≡ n = size_complement n T in omega arith
+      T_other = let h : size_below n T + size_below n (complement T) ≡ n = size_both n T in omega arith
 
       module _ (d : ℕ → ℕ) (d_codes : (i : ℕ) → i < suc r → d i < q) (d_zero : (l : ℕ) → l < r → combination q (suc r) W d l ≡ 0) where
         abbrev v : ℕ → ℕ

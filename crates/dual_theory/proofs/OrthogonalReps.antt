@@ -6,8 +6,9 @@ use Rattle.matroid_theory.specs.Rep.{Rep, count, size, order, matrix, IsShaped}
 use Rattle.matroid_theory.specs.Matroid.{IsIndependentIn, IsBasis, Agrees}
 use Rattle.matroid_theory.proofs.FieldLaws.{field_laws}
 use Rattle.matroid_theory.proofs.Masks.{IsBasis-same}
+use Rattle.matroid_theory.proofs.Built.{size_both}
 use Rattle.dual_theory.specs.Dual.{complement, IsDualBasis, IsDualRep, AreOrthogonal, HasBases}
-use Rattle.dual_theory.proofs.Orthogonal.{complement_twice, size_complement, row_products, complement_independent}
+use Rattle.dual_theory.proofs.Orthogonal.{complement_twice, row_products, complement_independent}
 
 -- independence in N, over its factors and size as they are named elsewhere
 pub independent_named : (N : Rep) (f : ℕ) (S : ℕ → Bool) (factors : List ℕ) (n : ℕ) → N.factors ≡ factors → size N ≡ n →
@@ -46,7 +47,7 @@ module _ (M N : Rep) (s : IsShaped M) (t : IsShaped N) (o : AreOrthogonal M N) (
   pub complement_basis : (S T : ℕ → Bool) → IsBasis M f S → IsBasis N f T → IsBasis N f (complement S)
   complement_basis S T b c = record {
     full =
-        (let h : size_below (size M) S + size_below (size M) (complement S) ≡ size M = size_complement (size M) S in
+        (let h : size_below (size M) S + size_below (size M) (complement S) ≡ size M = size_both (size M) S in
         let e : M.rank + N.rank ≡ size M = o.ranks in
         let g : size_below (size M) S ≡ M.rank = b.full in
         let k : size_below (size N) (complement S) ≡ size_below (size M) (complement S) = ap (λ n. size_below n (complement S)) o.same_size in

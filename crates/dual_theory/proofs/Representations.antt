@@ -1,10 +1,7 @@
 -- Where a matrix over a field has given bases, a standard one has; the least one is one.
-use Rattle.std.proofs.Common.{◌≡◌, ◌≢◌, ℕ, zero, suc, ◌+◌, ◌-◌, ◌*◌, ◌^◌, ◌<◌, ◌≤◌, refl, sym, ◌∙◌, ap, subst, arith, cond, Bool, inl, inr, ◌↔◌, length}
+use Rattle.std.proofs.Common.{◌≡◌, ℕ, zero, suc, ◌+◌, ◌-◌, ◌*◌, ◌^◌, ◌<◌, ◌≤◌, refl, sym, ◌∙◌, ap, subst, arith, cond, Bool, inl, inr, ◌↔◌, length}
 use Rattle.std.specs.Bool.{nat_lt}
 use Rattle.std.specs.List.{Contains}
-use Rattle.std.specs.Ordering.{ordering_reverse}
-use Rattle.std.specs.declared.cmp.Ordering.{Ordering}
-use Rattle.std.specs.declared.cmp.Ordering.TheVariants.{Less, Equal, Greater}
 use Rattle.std.proofs.lemmas.Bool.{cases_lt, le-ltb, lt-ltb}
 use Rattle.std.proofs.Math.Nat.{two-pow-succ}
 use Rattle.matroid_theory.specs.Rep.{Rep, shape, count, size, order, IsStandard}
@@ -18,6 +15,7 @@ use Rattle.matroid_theory.proofs.Masks.{mask, members-mask, IsBasis-same}
 use Rattle.matroid_theory.proofs.Levels.{rep_cmp-reversed, rep_cmp-equal}
 use Rattle.matroid_theory.proofs.Carried.{basis_carried}
 use Rattle.matroid_theory.proofs.Built.{standard_each}
+use Rattle.matroid_theory.proofs.Orderings.{neither}
 use Rattle.dual_theory.specs.Represented.{Represents, IsLeastOver}
 
 -- ---- the mask of the first r numbers
@@ -88,11 +86,6 @@ standard_represents q N M p c l =
     (L, standard, represents_moved q N M L m p valid takes labels)
 
 -- ---- one least
-
-neither : (r s : Ordering) → s ≡ ordering_reverse r → r ≢ Greater → s ≢ Greater → r ≡ Equal
-neither Less s e a b = absurd (b e)
-neither Equal s e a b = refl
-neither Greater s e a b = absurd (a refl)
 
 pub one_least : (q : ℕ) (N : Matroid) (M L : Rep) → IsLeastOver q N M → IsLeastOver q N L → M ≡ L
 one_least q N M L a b =

@@ -1,23 +1,20 @@
 -- The search for a standard matrix with given bases, entry by entry: what it tests is all, and what it gives up holds none.
 use Rattle.std.proofs.Common.{◌≡◌, ◌⊎◌, ℕ, zero, suc, ◌+◌, ◌-◌, ◌^◌, ◌<◌, ◌≤◌, refl, sym, ◌∙◌, ap, subst, arith, Bool, true, false, inl, inr, length}
-use Rattle.std.specs.Bool.{◌==◌, nat_lt}
-use Rattle.std.specs.Int.{bit_at}
+use Rattle.std.specs.Bool.{nat_lt}
 use Rattle.std.specs.List.{Contains}
-use Rattle.std.proofs.lemmas.Bool.{cases_lt, cases_eq, cases_Bool, le-ltb, lt-ltb}
-use Rattle.std.proofs.lemmas.Nat.Bits.{same_from_bits_below, bit_at-lt}
-use mathlib.Core.Bool.{true≢false}
+use Rattle.std.proofs.lemmas.Bool.{cases_lt, cases_Bool, le-ltb, lt-ltb}
 use Rattle.matroid_theory.specs.Matrix.{size_below}
 use Rattle.matroid_theory.specs.Rep.{Rep, shape, count, size}
 use Rattle.matroid_theory.specs.Matroid.{members, IsBasis}
 use Rattle.matroid_theory.specs.Minor.{Matroid}
-use Rattle.matroid_theory.proofs.Sums.{same_number, other_number}
-use Rattle.matroid_theory.proofs.Masks.{mask, mask-below, members-mask, size-same, IsBasis-same}
+use Rattle.matroid_theory.proofs.Masks.{mask, mask-below, members-mask, size-same, IsBasis-same, same_mask}
 use Rattle.matroid_theory.proofs.Picked.{size_more, size_stays, size_grows}
 use Rattle.matroid_theory.proofs.Bases.{size_none}
 use Rattle.matroid_theory.proofs.Rest.{units_basis}
+use Rattle.matroid_theory.proofs.Built.{size_both}
 use Rattle.dual_theory.specs.Represented.{Represents, IsToldAt, IsBasedFirst, IsStandardOver, KeepsBasesAt, Completes}
 use Rattle.dual_theory.specs.Dual.{complement}
-use Rattle.dual_theory.proofs.Orthogonal.{complement_in, complement_out, size_complement}
+use Rattle.dual_theory.proofs.Orthogonal.{complement_in, complement_out}
 use Rattle.dual_theory.proofs.Representations.{mask_first}
 use Rattle.dual_theory.proofs.Told.{base_told}
 
@@ -100,7 +97,7 @@ told_somewhere r n X le full =
             },
           )
           | inl b ↦ (let e : size_below n X ≡ size_below r X = size_early r n X le (λ k l m. v.3 k (omega arith) m) in
-              let h : size_below r X + size_below r (complement X) ≡ r = size_complement r X in
+              let h : size_below r X + size_below r (complement X) ≡ r = size_both r X in
               let g : size_below w.0 (complement X) < size_below r (complement X) = size_grows w.0 r (complement X) w.1 w.2 in
               absurd (omega arith))
         ]
@@ -108,16 +105,6 @@ told_somewhere r n X le full =
     ]
 
 -- ---- masks
-
-same_bit : (a b : ℕ) → a < 2 → b < 2 → (a == 1) ≡ (b == 1) → a ≡ b
-same_bit a b l m e = elim (cases_eq a 1) [
-  | inl x ↦ elim (cases_eq b 1) [ inl y ↦ x ∙ sym y | inr n ↦ absurd (true≢false (sym (same_number 1) ∙ sym (ap (λ z. z == 1) x) ∙ e ∙ other_number b 1 n)) ]
-  | inr n ↦ elim (cases_eq b 1)
-      [ inl y ↦ absurd (true≢false (sym (same_number 1) ∙ sym (ap (λ z. z == 1) y) ∙ sym e ∙ other_number a 1 n)) | inr o ↦ omega arith ]
-]
-
-pub same_mask : (n X Y : ℕ) → X < 2 ^ n → Y < 2 ^ n → ((j : ℕ) → j < n → members X j ≡ members Y j) → X ≡ Y
-same_mask n X Y l m h = same_from_bits_below n X Y l m (λ j b. same_bit (bit_at X j) (bit_at Y j) (bit_at-lt X j) (bit_at-lt Y j) (h j b))
 
 -- the set of the first r of n numbers has the mask 2^r - 1
 first_mask : (n r X : ℕ) → r ≤ n → X < 2 ^ n → ((k : ℕ) → k < n → members X k ≡ nat_lt k r) → X ≡ 2 ^ r - 1

@@ -11,9 +11,8 @@ use Rattle.matroid_theory.proofs.Sums.{plus_zero_right, sum_one, sum_below-code,
 use Rattle.matroid_theory.proofs.Dimension.{unit_code}
 use Rattle.matroid_theory.proofs.Rest.{size_front, units_basis}
 use Rattle.dual_theory.specs.Dual.{complement, AreOrthogonal, HasBases, dual_matrix, IsStandardDual}
-use Rattle.dual_theory.proofs.Orthogonal.{size_complement}
 use Rattle.dual_theory.proofs.OrthogonalReps.{independent_back}
-use Rattle.dual_theory.proofs.BuiltReps.{built, size_built, matrix_built, shaped_built}
+use Rattle.matroid_theory.proofs.Built.{built, size_built, matrix_built, shaped_built, size_both}
 
 module _ (q : ℕ) (F : IsField q) where
   -- a sum in two parts
@@ -96,7 +95,7 @@ module _ (M N : Rep) (s : IsShaped M) (t : IsStandard M) (d : IsStandardDual M N
   standard_dual_last f l = record {
     full =
         (let h : size_below (size M) (λ j. nat_lt j M.rank) + size_below (size M) (complement (λ j. nat_lt j M.rank)) ≡ size M =
-        size_complement (size M) (λ j. nat_lt j M.rank) in
+        size_both (size M) (λ j. nat_lt j M.rank) in
         let e : size_below (size M) (λ j. nat_lt j M.rank) ≡ M.rank = size_front M.rank (size M) t.room in
         let g : M.rank + N.rank ≡ size M = d.ranks in
         let k : size_below (size N) (complement (λ j. nat_lt j M.rank)) ≡ size_below (size M) (complement (λ j. nat_lt j M.rank)) =

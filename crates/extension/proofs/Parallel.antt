@@ -1,6 +1,5 @@
 -- When the new column is parallel to an old one, as it is read from their codes.
-use Rattle.std.proofs.Common.{◌≡◌, ℕ, suc, ◌+◌, ◌*◌, ◌<◌, sym, ◌∙◌, ap, subst, arith, List, length, slice_index}
-use Rattle.std.proofs.lemmas.List.FromFn.{length-map-range_with_len, get_or-map-range_with_len}
+use Rattle.std.proofs.Common.{◌≡◌, ℕ, suc, ◌+◌, ◌*◌, ◌<◌, sym, ◌∙◌, subst, arith, List, length, slice_index}
 use Rattle.matroid_theory.specs.Field.{IsField, times}
 use Rattle.matroid_theory.specs.Matrix.{IsIndependent}
 use Rattle.matroid_theory.specs.Rep.{Rep, size, count, order, matrix, column_of, KeepsLimits, IsProductColumn}
@@ -10,23 +9,16 @@ use Rattle.matroid_theory.proofs.FieldLaws.{field_laws}
 use Rattle.matroid_theory.proofs.Followed.{matrix_before, matrix_last, size_followed}
 use Rattle.matroid_theory.proofs.Pairs.{pair}
 use Rattle.elimination.specs.Columns.{IsColumn}
+use Rattle.product_rep.proofs.MoveLemmas.{column-entry, column-length}
 use Rattle.extension.proofs.Followers.{rep_followed}
 use Rattle.extension.proofs.Multiples.{multiple_dependent, apart_independent}
-
--- a column of one factor, in a list
-column_at : (M : Rep) (f j i : ℕ) (w : List ℕ) → w ≡ column_of M f j → i < M.rank → slice_index w i ≡ matrix M f i j
-column_at M f j i w e l = ap (λ (xs : List ℕ). slice_index xs i) e
-    ∙ get_or-map-range_with_len (λ i. matrix M f i j) 0 M.rank i i 0 l (let e : 0 + i ≡ i = omega arith in e)
-
-column_rows : (M : Rep) (f j : ℕ) (w : List ℕ) → w ≡ column_of M f j → length w ≡ M.rank
-column_rows M f j w e = ap (λ (xs : List ℕ). length xs) e ∙ length-map-range_with_len (λ i. matrix M f i j) 0 M.rank
 
 column_is : (M : Rep) → KeepsLimits M → (f j : ℕ) → f < count M → j < size M → (q : ℕ) → q ≡ order M f → (w : List ℕ) →
     w ≡ column_of M f j → IsColumn q M.rank w
 column_is M r f j l m q d w e = record {
-  rows = column_rows M f j w e;
+  rows = column-length M f j w e;
   below = λ i o. subst (λ (q : ℕ). slice_index w i < q) (sym d)
-      (subst (λ (x : ℕ). x < order M f) (sym (column_at M f j i w e o)) (let s = r.shaped in s.codes f i j l o m));
+      (subst (λ (x : ℕ). x < order M f) (sym (column-entry M f j i w e o)) (let s = r.shaped in s.codes f i j l o m));
 }
 
 module _ (M : Rep) (v : List ℕ) (r : KeepsLimits M) (room : size M < 16) (c : IsProductColumn M.factors M.rank v) (f : ℕ)
@@ -38,7 +30,7 @@ module _ (M : Rep) (v : List ℕ) (r : KeepsLimits M) (room : size M < 16) (c : 
   last_one = let k : size (followed_by M v) ≡ suc (size M) = size_followed M v in omega arith
 
   pub new_rows : length new ≡ M.rank
-  new_rows = column_rows (followed_by M v) f (size M) new p
+  new_rows = column-length (followed_by M v) f (size M) new p
 
   pub new_column : IsColumn q (length new) new
   new_column = subst (λ (n : ℕ). IsColumn q n new) (sym new_rows) (column_is (followed_by M v) whole f (size M) l last_one q d new p)
@@ -56,10 +48,10 @@ module _ (M : Rep) (v : List ℕ) (r : KeepsLimits M) (room : size M < 16) (c : 
       F = field_laws (order M f) (let s = r.shaped in s.orders f l)
 
       old_at : (i : ℕ) → i < M.rank → slice_index old i ≡ matrix (followed_by M v) f i j
-      old_at i a = column_at M f j i old o a ∙ sym (matrix_before M v f i j m)
+      old_at i a = column-entry M f j i old o a ∙ sym (matrix_before M v f i j m)
 
       new_at : (i : ℕ) → i < M.rank → slice_index new i ≡ matrix (followed_by M v) f i (size M)
-      new_at i a = column_at (followed_by M v) f (size M) i new p a
+      new_at i a = column-entry (followed_by M v) f (size M) i new p a
 
       code : (i : ℕ) → i < M.rank → matrix (followed_by M v) f i j < order M f
       code i a = (let s = whole in let t = s.shaped in t.codes f i j l a (let k : size (followed_by M v) ≡ suc (size M) = size_followed M v in omega arith))

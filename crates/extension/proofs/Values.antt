@@ -11,7 +11,7 @@ use Rattle.matroid_theory.specs.Field.{IsFactors}
 use Rattle.matroid_theory.specs.Rep.{IsProductColumn}
 use Rattle.matroid_theory.specs.Level.{IsNormalised}
 use Rattle.matroid_theory.proofs.FieldLaws.{order_most}
-use Rattle.matroid_theory.proofs.First.{whole, row_below}
+use Rattle.matroid_theory.proofs.First.{whole, row_below, digit_less}
 use Rattle.extension.specs.Admissible.{value, above_values}
 use Rattle.extension.specs.Steps.{IsStart}
 use Rattle.extension.proofs.Nexts.{normalised_length}
@@ -26,9 +26,6 @@ rest_digits x xs h p l = h (suc p) (omega arith)
 -- one digit more
 digit_below : (x n v : ℕ) → x ≤ 12 → v < n → x * n + v < 13 * n
 digit_below x n v l m = let h : x * n ≤ 12 * n = mul-le-mul l (le_refl n) in omega arith
-
-digit_less : (x y n v w : ℕ) → x < y → v < n → x * n + v < y * n + w
-digit_less x y n v w l m = let h : suc x * n ≤ y * n = mul-le-mul (let k : suc x ≤ y = omega arith in k) (le_refl n) in omega arith
 
 pub value_below : (xs : List ℕ) → AreDigits xs → value xs < 13 ^ length xs
 value_below [] h = lit< tt

@@ -1,12 +1,11 @@
 -- The columns with the numbers of a standard representation are its columns.
 use Rattle.std.proofs.Common.{◌≡◌, inl, inr, ℕ, ◌+◌, ◌-◌, ◌*◌, ◌/◌, ◌%◌, ◌^◌, ◌<◌, ◌≤◌, List, [], ◌∷◌, ◌++◌, length, length-append, slice_index, slice_index_or, sym, ◌∙◌, ap, subst, arith}
 use Rattle.std.proofs.lemmas.Bool.{cases_lt}
-use Rattle.std.proofs.Math.Nat.{mod-lt}
 use Rattle.std.proofs.Math.Seq.{ext_get_or, get_or-append_seam}
 use Rattle.std.proofs.Math.ListN.{get_or-append}
 use Rattle.matroid_theory.specs.Rep.{Rep, Shape, shape, count, size, IsShaped, IsStandard, IsProductColumn}
 use Rattle.matroid_theory.specs.Level.{followed_by}
-use Rattle.matroid_theory.proofs.First.{row_below, whole}
+use Rattle.matroid_theory.proofs.First.{same_column}
 use Rattle.form_trails.specs.Numbers.{weighed}
 use Rattle.form_search.specs.Search.{AreOfClass}
 use Rattle.form_trails.proofs.Numbers.{value-weighed, digit_of}
@@ -47,17 +46,6 @@ module _ (M : Rep) (numbers : List ℕ) (class : AreOfClass M numbers) where
         long : length (column L (M.rank + j)) ≡ M.rank * count M
         long = column_length M L l_shaped l_same (M.rank + j) p_below
 
--- columns of r * c codes are equal where their codes are
-pub same_codes : (r c : ℕ) (v w : List ℕ) → length v ≡ r * c → length w ≡ r * c → 0 < c →
-    ((f i : ℕ) → f < c → i < r → slice_index v (i * c + f) ≡ slice_index w (i * c + f)) → v ≡ w
-same_codes r c v w a b p h = ext_get_or 0 v w (a ∙ sym b) code
-  where
-    code : (k : ℕ) → k < length v → slice_index v k ≡ slice_index w k
-    code k l =
-        let l' : k < r * c = subst (λ (n : ℕ). k < n) a l in
-        let e : k / c * c + k % c ≡ k = whole k c p in
-        sym (ap (slice_index v) e) ∙ h (k % c) (k / c) (mod-lt k p) (row_below k c r p l') ∙ ap (slice_index w) e
-
 -- the first columns of the member with these numbers
 pub record IsPart (M : Rep) (numbers : List ℕ) (j : ℕ) (P : Rep) : Type 0 where
   pub class : AreOfClass M numbers
@@ -80,7 +68,7 @@ module _ (M : Rep) (numbers : List ℕ) (some : 0 < count M) where
         let room : M.rank ≤ size M = (let r = class.standard in let q : L'.rank ≤ size L' = r.room in let x = l_same M numbers class in
         let a : L'.rank ≡ M.rank = ap (λ (S : Shape). S.rank) x in let b : size L' ≡ size M = ap (λ (S : Shape). S.size) x in omega arith) in
         let iu : i < size U = (let a : size U ≡ M.rank = ap (λ (S : Shape). S.size) e in omega arith) in
-        same_codes M.rank (count M) (slice_index_or U.columns i []) (column L' i)
+        same_column M.rank (count M) (slice_index_or U.columns i []) (column L' i)
         (s.lengths i iu ∙ ap (λ (S : Shape). S.rank * length S.factors) e) (column_length M L' (l_shaped M numbers class) (l_same M numbers class) i
         (omega arith)) some
         (λ f j m n.

@@ -1,8 +1,7 @@
 -- The numbers of a standard representation's own later columns.
 use Rattle.std.proofs.Common.{◌≡◌, ◌≢◌, refl, sym, ◌∙◌, ap, List, ℕ, Option, Some, None, IfSome}
 use Rattle.std.specs.Cmp.Lexicographic.{slice_cmp}
-use Rattle.std.specs.Ordering.{nat_cmp, ordering_reverse}
-use Rattle.std.specs.declared.cmp.Ordering.{Ordering}
+use Rattle.std.specs.Ordering.{nat_cmp}
 use Rattle.std.specs.declared.cmp.Ordering.TheVariants.{Less, Equal, Greater}
 use Rattle.std.proofs.lemmas.Cmp.{nat_list_cmp_total, tied_itself}
 use Rattle.matroid_theory.specs.declared.Mode.TheVariants.{Linear}
@@ -10,6 +9,7 @@ use Rattle.matroid_theory.specs.Rep.{Rep, IsShaped, IsStandard}
 use Rattle.matroid_theory.specs.Order.{rep_cmp, IsForm}
 use Rattle.matroid_theory.proofs.Equivalence.{equivalent-reflexive}
 use Rattle.matroid_theory.proofs.Levels.{rep_cmp-reversed, rep_cmp-equal}
+use Rattle.matroid_theory.proofs.Orderings.{neither}
 use Rattle.form_search.specs.Search.{AreOfClass, numbers_of}
 use Rattle.form_search.proofs.Finish.{numbers_decide}
 
@@ -21,11 +21,6 @@ pub own_classes : (M : Rep) → IsShaped M → IsStandard M → (found : Option 
     (AreOfClass M)
 own_classes M shaped standard None w = w
 own_classes M shaped standard (Some least) w = own_class M shaped standard least w
-
-neither : (r s : Ordering) → s ≡ ordering_reverse r → r ≢ Greater → s ≢ Greater → r ≡ Equal
-neither Less s e a b = absurd (b e)
-neither Equal s e a b = refl
-neither Greater s e a b = absurd (a refl)
 
 -- where the class has less numbers, it is no form
 pub not_form : (M : Rep) → IsShaped M → IsStandard M → (numbers : List ℕ) → AreOfClass M numbers → slice_cmp nat_cmp numbers (numbers_of M M) ≡ Less → IsForm

@@ -1,7 +1,7 @@
 -- Which representations are standard: those that begin with the columns of the unit representation.
 use Rattle.std.proofs.Common.{◌≡◌, ℕ, ◌*◌, ◌+◌, ◌<◌, ◌≤◌, List, [], length, slice_index, slice_index_or, sym, ◌∙◌, ap, subst, arith}
 use Rattle.matroid_theory.specs.Rep.{Rep, Shape, shape, count, size, IsShaped, IsStandard}
-use Rattle.fast_form.proofs.Decoded.{same_codes}
+use Rattle.matroid_theory.proofs.First.{same_column}
 
 module _ (M U : Rep) (shaped : IsShaped M) (unit_shaped : IsShaped U) (t : IsStandard U)
     (e : shape U ≡ record { factors = M.factors; rank = M.rank; size = M.rank }) (some : 0 < count M) where
@@ -21,7 +21,7 @@ module _ (M U : Rep) (shaped : IsShaped M) (unit_shaped : IsShaped U) (t : IsSta
   }
 
   pub unit_column : IsStandard M → (j : ℕ) → j < M.rank → slice_index_or M.columns j [] ≡ slice_index_or U.columns j []
-  unit_column w j b = same_codes M.rank (count M) (slice_index_or M.columns j []) (slice_index_or U.columns j [])
+  unit_column w j b = same_column M.rank (count M) (slice_index_or M.columns j []) (slice_index_or U.columns j [])
       (shaped.lengths j (let r : M.rank ≤ size M = w.room in omega arith))
       (unit_shaped.lengths j (let n : size U ≡ M.rank = ap (λ (S : Shape). S.size) e in omega arith) ∙ ap (λ (S : Shape). S.rank * length S.factors) e) some
       (λ f i l a. w.units f i j l a b ∙ sym (ap (λ (S : Shape). slice_index (slice_index_or U.columns j []) (i * length S.factors + f)) (sym e) ∙ t.units f i

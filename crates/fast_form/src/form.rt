@@ -169,8 +169,7 @@ fn with_numbers(rep: &Rep, shape: &Shape, numbers: &Numbers) -> Rep
     ensures { (class : AreOfClass rep.now numbers.now) × (result ≡ class.member) }
 {
     let mut form = Rep::unit(rep.factors(), rep.rank() as u8);
-    // The proof learns here that this is a representation.
-    form.size();
+    form.laws();
     for j in 0..numbers.len() {
         form.push_column(&digits_of(numbers.get(j), shape.rank * shape.count));
     }

@@ -11,5 +11,6 @@ mod own;
 mod search;
 mod start;
 
+pub use linear::is_standard;
 pub use modes::least_form_fast;
 pub use own::is_form_fast;

@@ -11,7 +11,7 @@ use Rattle.std.proofs.Math.Nat.{mod-lt, mul_comm, mul-add-mod_self_right, mul-le
 use Rattle.matroid_theory.specs.Field.{orders, IsOrder}
 use Rattle.matroid_theory.specs.Rep.{Rep, count, size, KeepsLimits, IsShaped, IsProductColumn}
 use Rattle.matroid_theory.specs.Level.{followed_by}
-use Rattle.matroid_theory.proofs.First.{row_below, whole}
+use Rattle.matroid_theory.proofs.First.{row_below, whole, columns_positive}
 use Rattle.form_key.specs.Codes.{AreHalves, AreCodesOf}
 use Rattle.form_key.specs.Packing.{later_codes}
 
@@ -29,17 +29,10 @@ length-concat factors rank (v ∷ columns) h =
     let d : length (concat columns) ≡ length columns * (rank * length factors) = length-concat factors rank columns (tail_columns factors rank v columns h) in
     omega (arith, length-append v (concat columns))
 
--- codes of one column, and codes behind one
-positive : (k r c : ℕ) → k < r * c → 0 < c
-positive k r c l = elim (cases_lt 0 c) [
-  | inl b ↦ b
-  | inr g ↦ (let e : c ≡ 0 = omega arith in let z : r * c ≡ r * 0 = ap (λ c. r * c) e in absurd (omega arith))
-]
-
 column_codes : (factors : List ℕ) (rank : ℕ) (v : List ℕ) → IsProductColumn factors rank v → AreCodesOf factors v
 column_codes factors rank v h k l =
     let m : k < rank * length factors = subst (λ n. k < n) h.rows l in
-    let p : 0 < length factors = positive k rank (length factors) m in
+    let p : 0 < length factors = columns_positive k rank (length factors) m in
     subst (λ n. slice_index v n < slice_index factors (k % length factors)) (whole k (length factors) p)
     (h.codes (k / length factors) (k % length factors) (row_below k (length factors) rank p m) (mod-lt k p))
 

@@ -13,6 +13,7 @@ use Rattle.matroid_theory.specs.Order.{rep_cmp}
 use Rattle.matroid_theory.proofs.First.{same_codes}
 use Rattle.matroid_theory.proofs.Levels.{columns_total, rep_cmp-equal}
 use Rattle.matroid_theory.proofs.Prefix.{slice_cmp-append}
+use Rattle.matroid_theory.proofs.Orderings.{then_assoc}
 use Rattle.form_key.specs.Codes.{AreHalves}
 use Rattle.form_key.specs.Packing.{paired, later_codes, packing}
 use Rattle.form_key.proofs.Columns.{AreColumns, later_columns, length-later, later_are_codes, codes_are_halves}
@@ -28,11 +29,6 @@ nat_cmp-pair a b x y l m = sym (by_ranks a b x y (nat_cmp a x) (nat_cmp b y) (ra
     by_ranks a b x y Equal Equal g h l m = nat_cmp_is (a * 16 + b) (x * 16 + y) Equal (omega arith)
     by_ranks a b x y Equal Greater g h l m = nat_cmp_is (a * 16 + b) (x * 16 + y) Greater (omega arith)
     by_ranks a b x y Greater s g h l m = nat_cmp_is (a * 16 + b) (x * 16 + y) Greater (omega arith)
-
-then_assoc : (r s t : Ordering) → ordering_then (ordering_then r s) t ≡ ordering_then r (ordering_then s t)
-then_assoc Less s t = refl
-then_assoc Equal s t = refl
-then_assoc Greater s t = refl
 
 -- bytes compare as their codes
 pub slice_cmp-paired : (xs ys : List ℕ) → length xs ≡ length ys → AreHalves xs → AreHalves ys

@@ -62,8 +62,7 @@ fn standard(factors: Factors, rank: u8, later: usize, codes: &[u8]) -> Rep
     for j in 0..later {
         rep.push_column(&column(&codes[j * width..(j + 1) * width]));
     }
-    // The proof learns here that the codes are in range.
-    rep.size();
+    rep.laws();
     rep
 }
 

@@ -13,7 +13,7 @@ use Rattle.matroid_theory.specs.declared.Mode.TheVariants.{Linear}
 use Rattle.matroid_theory.specs.Rep.{Rep, Shape, shape, count, size, matrix, IsShaped, IsStandard}
 use Rattle.matroid_theory.specs.Move.{Move, AreEquivalent}
 use Rattle.matroid_theory.specs.Order.{rep_cmp, IsForm}
-use Rattle.matroid_theory.proofs.First.{same_codes}
+use Rattle.matroid_theory.proofs.First.{same_codes, digit_less}
 use Rattle.matroid_theory.proofs.Equivalence.{equivalent-transitive}
 use Rattle.form_trails.specs.Trail.{ReachesForm}
 use Rattle.form_trails.specs.Numbers.{value}
@@ -43,9 +43,6 @@ rest_below b x xs h p l = h (suc p) (omega arith)
 step_below : (b x n v : ℕ) → x < b → v < n → x * n + v < b * n
 step_below b x n v l m = let h : suc x * n ≤ b * n = mul-le-mul (let k : suc x ≤ b = omega arith in k) (le_refl n) in omega arith
 
-step_less : (x y n v w : ℕ) → x < y → v < n → x * n + v < y * n + w
-step_less x y n v w l m = let h : suc x * n ≤ y * n = mul-le-mul (let k : suc x ≤ y = omega arith in k) (le_refl n) in omega arith
-
 whole_below : (b : ℕ) (xs : List ℕ) → AreBelow b xs → whole b xs < places b xs
 whole_below b [] h = lit< tt
 whole_below b (x ∷ xs) h = step_below b x (places b xs) (whole b xs) (h 0 (omega arith)) (whole_below b xs (rest_below b x xs h))
@@ -70,7 +67,7 @@ whole_greater b (x ∷ xs) (y ∷ ys) h e g = go (whole_greater b xs ys (rest_be
     go ih Less a q = cc
     go ih Equal a q = let k : whole b ys < whole b xs = ih q in let t : x * places b xs ≡ y * places b ys = (λ i. a i * n i) in omega arith
     go ih Greater a q = subst (λ (k : ℕ). y * places b ys + whole b ys < x * k + whole b xs) (sym n)
-        (step_less y x (places b ys) (whole b ys) (whole b xs) a (whole_below b ys (rest_below b y ys h)))
+        (digit_less y x (places b ys) (whole b ys) (whole b xs) a (whole_below b ys (rest_below b y ys h)))
 
 -- ---- the first difference
 
@@ -192,20 +189,21 @@ carried M N r e = record {
   agrees = (agrees_carried Linear M N e).0 r.agrees;
 }
 
+-- the numbers of a member are below a power of 16
+class_below : (M : Rep) (xs : List ℕ) → AreOfClass M xs → AreBelow (16 ^ (M.rank * count M)) xs
+class_below M xs c p l =
+    let x = c.equivalent in
+    let n : length xs ≡ size M - M.rank = class_length M xs c in
+    subst (λ (w : List ℕ). slice_index w p < 16 ^ (M.rank * count M)) c.numbers_are
+    (subst (λ v. v < 16 ^ (M.rank * count M)) (sym (numbers_at M c.member p (omega arith)))
+    (subst (λ v. v < 16 ^ (M.rank * count M)) (column_number M c.member x.takes.shaped x.takes.same_shape (M.rank + p) (omega arith))
+    (subst (λ k. value (column c.member (M.rank + p)) < 16 ^ k) (column_length M c.member x.takes.shaped x.takes.same_shape (M.rank + p) (omega arith))
+    (value_below (column c.member (M.rank + p)) (column_digits M c.member x.takes.shaped x.takes.same_shape (M.rank + p) (omega arith))))))
+
 module _ (M : Rep) (whole_rep : IsRepresentation M) (found : List ℕ) (class : AreOfClass M found)
     (covers : (m : Move) (N : Rep) → ReachesForm M m N → slice_cmp nat_cmp found (numbers_of M N) ≢ Greater) where
   bound : ℕ
   bound = 16 ^ (M.rank * count M)
-
-  class_below : (xs : List ℕ) → AreOfClass M xs → AreBelow (16 ^ (M.rank * count M)) xs
-  class_below xs c p l =
-      let x = c.equivalent in
-      let n : length xs ≡ size M - M.rank = class_length M xs c in
-      subst (λ (w : List ℕ). slice_index w p < 16 ^ (M.rank * count M)) c.numbers_are
-      (subst (λ v. v < 16 ^ (M.rank * count M)) (sym (numbers_at M c.member p (omega arith)))
-      (subst (λ v. v < 16 ^ (M.rank * count M)) (column_number M c.member x.takes.shaped x.takes.same_shape (M.rank + p) (omega arith))
-      (subst (λ k. value (column c.member (M.rank + p)) < 16 ^ k) (column_length M c.member x.takes.shaped x.takes.same_shape (M.rank + p) (omega arith))
-      (value_below (column c.member (M.rank + p)) (column_digits M c.member x.takes.shaped x.takes.same_shape (M.rank + p) (omega arith))))))
 
   -- a member that isn't above any member is a form
   of_forms : (xs : List ℕ) → AreOfClass M xs → ((ys : List ℕ) → AreOfClass M ys → slice_cmp nat_cmp xs ys ≢ Greater) → slice_cmp nat_cmp found xs ≢ Greater
@@ -225,7 +223,7 @@ module _ (M : Rep) (whole_rep : IsRepresentation M) (found : List ℕ) (class : 
   not_above_members : (xs : List ℕ) → AreOfClass M xs → slice_cmp nat_cmp found xs ≢ Greater
   not_above_members =
       forms_suffice (List ℕ) (slice_cmp nat_cmp) (whole (16 ^ (M.rank * count M))) (AreOfClass M) found
-      (λ xs ys c e g. whole_greater (16 ^ (M.rank * count M)) xs ys (class_below ys e) (class_length M xs c ∙ sym (class_length M ys e)) g)
+      (λ xs ys c e g. whole_greater (16 ^ (M.rank * count M)) xs ys (class_below M ys e) (class_length M xs c ∙ sym (class_length M ys e)) g)
       chain of_forms
     where
       chain : (xs ys : List ℕ) → slice_cmp nat_cmp found xs ≡ Greater → slice_cmp nat_cmp xs ys ≡ Greater → slice_cmp nat_cmp found ys ≡ Greater
@@ -261,16 +259,6 @@ some_form M whole_rep N standard equivalent none = least_refused (suc (rank_of (
     rank_of : List ℕ → ℕ
     rank_of = whole (16 ^ (M.rank * count M))
 
-    class_bound : (xs : List ℕ) → AreOfClass M xs → AreBelow (16 ^ (M.rank * count M)) xs
-    class_bound xs c p l =
-        let x = c.equivalent in
-        let n : length xs ≡ size M - M.rank = class_length M xs c in
-        subst (λ (w : List ℕ). slice_index w p < 16 ^ (M.rank * count M)) c.numbers_are
-        (subst (λ v. v < 16 ^ (M.rank * count M)) (sym (numbers_at M c.member p (omega arith)))
-        (subst (λ v. v < 16 ^ (M.rank * count M)) (column_number M c.member x.takes.shaped x.takes.same_shape (M.rank + p) (omega arith))
-        (subst (λ k. value (column c.member (M.rank + p)) < 16 ^ k) (column_length M c.member x.takes.shaped x.takes.same_shape (M.rank + p) (omega arith))
-        (value_below (column c.member (M.rank + p)) (column_digits M c.member x.takes.shaped x.takes.same_shape (M.rank + p) (omega arith))))))
-
     least_refused : (n : ℕ) (xs : List ℕ) → rank_of xs < n → AreOfClass M xs → ⊥
     least_refused zero xs l c = absurd (omega arith)
     least_refused (suc n) xs l c = let x = c.equivalent in
@@ -285,7 +273,7 @@ some_form M whole_rep N standard equivalent none = least_refused (suc (rank_of (
                 record { member = P; standard = s; equivalent = equivalent-transitive Linear M c.member P x e; numbers_are = refl } in
                 let g' : slice_cmp nat_cmp xs (numbers_of M P) ≡ Greater = ap (λ (w : List ℕ). slice_cmp nat_cmp w (numbers_of M P)) (sym c.numbers_are) ∙ g in
                 let f : rank_of (numbers_of M P) < rank_of xs = whole_greater (16 ^ (M.rank * count M)) xs (numbers_of M P)
-                (class_bound (numbers_of M P) d) (class_length M xs c ∙ sym (class_length M (numbers_of M P) d)) g' in
+                (class_below M (numbers_of M P) d) (class_length M xs c ∙ sym (class_length M (numbers_of M P) d)) g' in
                 least_refused n (numbers_of M P) (omega arith) d));
           };
         })

@@ -3,9 +3,9 @@ use Rattle.std.proofs.Common.{◌≡◌, ◌≢◌, inl, inr, refl, ℕ, zero, s
 use Rattle.std.specs.Option.{MatchOption}
 use Rattle.std.proofs.lemmas.Bool.{cases_lt}
 use Rattle.std.specs.Cmp.{nat_cmp_total}
-use Rattle.std.proofs.lemmas.Cmp.{ranked, nat_list_cmp_total, tied_itself, upto}
+use Rattle.std.proofs.lemmas.Cmp.{ranked, nat_list_cmp_total, tied_itself}
 use Rattle.std.specs.Cmp.Lexicographic.{slice_cmp}
-use Rattle.std.specs.Ordering.{nat_cmp, ordering_then, MatchOrdering, is_gt}
+use Rattle.std.specs.Ordering.{nat_cmp, ordering_then, MatchOrdering}
 use Rattle.std.specs.declared.cmp.Ordering.{Ordering}
 use Rattle.std.specs.declared.cmp.Ordering.TheVariants.{Less, Equal, Greater}
 use Rattle.std.proofs.lemmas.List.FromFn.{get_or-map-range_with_len, length-map-range_with_len}
@@ -14,17 +14,10 @@ use Rattle.std.proofs.Math.ListN.{get_or-append}
 use mathlib.Core.Bool.{true≢false}
 use Rattle.matroid_theory.specs.Rep.{Rep, size, matrix}
 use Rattle.matroid_theory.specs.Move.{Move}
+use Rattle.matroid_theory.proofs.Orderings.{at_most_chain}
 use Rattle.form_trails.specs.Trail.{ReachesForm, Trail, Follows}
 use Rattle.form_trails.specs.Least.{number}
 use Rattle.form_search.specs.Search.{numbers_of, AreOfClass, IsAtMost, Covers, BeginsWith, IsBelow, Stands, Improves}
-
-not_greater : (o : Ordering) → is_gt o ≡ false → o ≢ Greater
-not_greater o t e = true≢false (ap is_gt (sym e) ∙ t)
-
-is_not_greater : (o : Ordering) → o ≢ Greater → is_gt o ≡ false
-is_not_greater Less n = refl
-is_not_greater Equal n = refl
-is_not_greater Greater n = absurd (n refl)
 
 less_by : (x y : ℕ) (o : Ordering) → MatchOrdering o (x < y) (x ≡ y) (y < x) → x < y → o ≡ Less
 less_by x y Less m l = refl
@@ -45,16 +38,9 @@ pub below_at_most : (xs ys : List ℕ) → IsBelow xs ys → slice_cmp nat_cmp x
 below_at_most xs ys b e = let l : slice_cmp nat_cmp xs ys ≡ Less =
     below_less xs ys b.place b.settled_has b.numbers_have b.same b.less in let z : Less ≡ Greater = sym l ∙ e in cc
 
-pub not_above_itself : (xs : List ℕ) → slice_cmp nat_cmp xs xs ≢ Greater
-not_above_itself xs e = let z : Equal ≡ Greater = sym (tied_itself nat_list_cmp_total xs) ∙ e in cc
-
-pub not_above_trans : (xs ys zs : List ℕ) → slice_cmp nat_cmp xs ys ≢ Greater → slice_cmp nat_cmp ys zs ≢ Greater → slice_cmp nat_cmp xs zs ≢ Greater
-not_above_trans xs ys zs a b = not_greater (slice_cmp nat_cmp xs zs)
-    (upto nat_list_cmp_total xs ys zs (is_not_greater (slice_cmp nat_cmp xs ys) a) (is_not_greater (slice_cmp nat_cmp ys zs) b))
-
 pub at_most_trans : (found : Option (List ℕ)) (xs ys : List ℕ) → IsAtMost found xs → slice_cmp nat_cmp xs ys ≢ Greater → IsAtMost found ys
 at_most_trans None xs ys h n = h
-at_most_trans (Some z) xs ys h n = not_above_trans z xs ys h n
+at_most_trans (Some z) xs ys h n = at_most_chain (slice_cmp nat_cmp) nat_list_cmp_total z xs ys h n
 
 -- ---- the numbers of a representation
 
@@ -209,4 +195,4 @@ replaced M old settled b c = record {
   where
     by : (o : Option (List ℕ)) → Stands false o settled → (numbers : List ℕ) → IsAtMost o numbers → IsAtMost (Some settled) numbers
     by None b n h = absurd h
-    by (Some least) b n h = not_above_trans settled least n (below_at_most settled least b) h
+    by (Some least) b n h = at_most_chain (slice_cmp nat_cmp) nat_list_cmp_total settled least n (below_at_most settled least b) h

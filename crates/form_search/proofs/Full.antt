@@ -4,14 +4,16 @@ use Rattle.std.specs.Cmp.Lexicographic.{slice_cmp}
 use Rattle.std.specs.Ordering.{nat_cmp}
 use Rattle.std.specs.declared.cmp.Ordering.TheVariants.{Greater}
 use Rattle.std.proofs.lemmas.Bool.{cases_lt}
+use Rattle.std.proofs.lemmas.Cmp.{nat_list_cmp_total}
 use Rattle.matroid_theory.specs.Rep.{Rep, count, size, matrix, IsShaped}
 use Rattle.matroid_theory.specs.Move.{Move}
+use Rattle.matroid_theory.proofs.Orderings.{at_most_itself}
 use Rattle.form_trails.specs.Trail.{ReachesForm, Trail, Follows}
 use Rattle.form_trails.specs.Least.{number}
 use Rattle.form_search.specs.Search.{Entries, IsThere, IsPlacing, Covers, AreOfClass, Stands, Improves, numbers_of}
 use Rattle.form_trails.proofs.Columns.{number_entries}
 use Rattle.form_trails.proofs.Ends.{member_begins}
-use Rattle.form_search.proofs.Found.{not_above_itself, full_at_most, full_begins, class_length, replaced}
+use Rattle.form_search.proofs.Found.{full_at_most, full_begins, class_length, replaced}
 
 module _ (M : Rep) (shaped : IsShaped M) (some : 0 < count M) (k : ℕ) (groups : ℕ → ℕ) (settled : List ℕ) (layer rest : Entries)
     (d : Trail) (h : IsPlacing M k groups settled layer rest d) where
@@ -52,7 +54,8 @@ module _ (M : Rep) (shaped : IsShaped M) (some : 0 < count M) (groups : ℕ → 
 
   -- what was found is the list, or it takes its place
   pub settled_covers : Covers M d 0 (length settled) (Some settled)
-  settled_covers m N reach f = subst (λ (w : List ℕ). slice_cmp nat_cmp settled w ≢ Greater) (sym (form_numbers m N reach f)) (not_above_itself settled)
+  settled_covers m N reach f = subst (λ (w : List ℕ). slice_cmp nat_cmp settled w ≢ Greater) (sym (form_numbers m N reach f))
+      (at_most_itself (slice_cmp nat_cmp) nat_list_cmp_total settled)
 
   pub level_covers : (found : Option (List ℕ)) → IfSome found (AreOfClass M) → Stands true found settled → Covers M d 0 (length settled) found
   level_covers None s b m N reach f = b

@@ -7,7 +7,7 @@ use Rattle.matroid_theory.specs.Field.{times}
 use Rattle.matroid_theory.specs.Rep.{Rep, count, size, order, matrix, IsShaped}
 use Rattle.matroid_theory.specs.Move.{Move}
 use Rattle.form_trails.specs.Trail.{ReachesForm, Trail, AreCoordinates, Follows, IsOrdered, IsTrail, TiesGroups}
-use Rattle.form_trails.specs.Pivot.{exchange}
+use Rattle.matroid_theory.specs.Exchange.{exchange}
 use Rattle.form_trails.specs.Least.{number, scaled, MakesOnes}
 use Rattle.form_search.specs.Search.{Entries, IsThere, IsEntry, IsPlacing}
 use Rattle.std.proofs.Math.Seq.{get_or-append_seam}
@@ -15,7 +15,7 @@ use Rattle.std.proofs.Math.ListN.{get_or-append}
 use Rattle.matroid_theory.proofs.Sums.{same_number, other_number, times_zero}
 use Rattle.form_trails.proofs.Scalars.{zero_factor}
 use Rattle.form_trails.proofs.Entries.{field}
-use Rattle.form_trails.proofs.Exchanges.{exchange_one, exchange_two, exchange_other}
+use Rattle.matroid_theory.proofs.Exchanges.{exchange_one, exchange_two, exchange_other}
 use Rattle.form_trails.proofs.Coordinates.{own_nonzero, zero_in_both}
 use Rattle.form_trails.proofs.Reached.{not_before}
 use Rattle.form_trails.proofs.LeastNext.{next_at_most_open, next_within, next_number, next_outside}

@@ -16,14 +16,14 @@ use Rattle.matroid_theory.proofs.Units.{units_independent}
 use Rattle.matroid_theory.proofs.First.{row_below}
 use Rattle.matroid_theory.proofs.FieldLaws.{order_most}
 use Rattle.form_trails.specs.Trail.{ReachesForm, Trail, AreCoordinates, Follows, IsOrdered, TiesGroups}
-use Rattle.form_trails.specs.Pivot.{exchange}
+use Rattle.matroid_theory.specs.Exchange.{exchange}
 use Rattle.form_trails.specs.Numbers.{weighed}
 use Rattle.form_trails.specs.Least.{number, scaled, MakesOnes}
 use Rattle.form_search.specs.Search.{Entries, IsThere, IsEntry, AreEntries, HasElement, IsPlacing, Covers}
 use Rattle.form_search.specs.Start.{zero_layer, others_of, IsZeroTest, IsStarted}
 use Rattle.form_trails.proofs.Numbers.{weighed_injective}
 use Rattle.form_trails.proofs.Scalars.{zero_factor}
-use Rattle.form_trails.proofs.Exchanges.{exchange_one, exchange_two, exchange_other, exchanged_permutation}
+use Rattle.matroid_theory.proofs.Exchanges.{exchange_one, exchange_two, exchange_other, exchanged_permutation}
 use Rattle.form_trails.proofs.Entries.{field}
 use Rattle.form_trails.proofs.Columns.{number_entries}
 use Rattle.form_trails.proofs.Ordered.{coordinates_same}

@@ -9,7 +9,8 @@ use Rattle.matroid_theory.specs.Field.{plus, times}
 use Rattle.matroid_theory.specs.Rep.{Rep, count, size, order, IsShaped, KeepsLimits}
 use Rattle.matroid_theory.proofs.Sums.{same_number, other_number, times_zero}
 use Rattle.form_trails.specs.Trail.{Trail, Follows, TiesGroups}
-use Rattle.form_trails.specs.Pivot.{exchange, cleared, pivoted}
+use Rattle.matroid_theory.specs.Exchange.{exchange}
+use Rattle.form_trails.specs.Pivot.{cleared, pivoted}
 use Rattle.form_trails.specs.Least.{number, scaled, MakesOnes}
 use Rattle.form_search.specs.Search.{Entries, IsThere, IsLed, IsPlacing}
 use Rattle.form_trails.proofs.Entries.{field}

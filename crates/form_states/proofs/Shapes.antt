@@ -1,11 +1,11 @@
 -- What the program's codes say of the representation's.
-use Rattle.std.proofs.Common.{◌≡◌, inl, inr, ℕ, zero, ◌*◌, ◌/◌, ◌%◌, ◌<◌, ◌≤◌, Bool, true, false, List, [], length, slice_index, slice_index_or, sym, ◌∙◌, ap, subst, arith, cond}
+use Rattle.std.proofs.Common.{◌≡◌, inl, inr, ℕ, zero, ◌*◌, ◌/◌, ◌%◌, ◌<◌, ◌≤◌, Bool, true, false, List, [], length, slice_index, slice_index_or, sym, ◌∙◌, ap, subst, arith, cond, suc}
 use Rattle.std.specs.Bool.{◌==◌, nat_lt}
 use Rattle.std.proofs.lemmas.Bool.{cases_lt, lt-ltb, le-ltb}
 use Rattle.std.proofs.Math.Nat.{mod-lt}
 use Rattle.matroid_theory.specs.Field.{plus, times}
 use Rattle.matroid_theory.specs.Rep.{Rep, count, size, order, IsShaped, KeepsLimits}
-use Rattle.matroid_theory.specs.Matroid.{IsRepresentation}
+use Rattle.matroid_theory.specs.Matroid.{Agrees, IsRepresentation}
 use Rattle.matroid_theory.proofs.First.{row_below}
 use Rattle.matroid_theory.proofs.FieldLaws.{field_laws}
 use Rattle.form_trails.specs.Trail.{Trail, IsOrdered}
@@ -21,6 +21,16 @@ use Rattle.form_states.specs.Codes.{code, AreColumnCodes, cleared_code}
 use Rattle.form_states.specs.Groups.{AreGroupFactors}
 use Rattle.form_states.specs.States.{IsShapeOf, AreGroups, layer_of, IsLeastNumber, IsScaledNumber}
 
+-- what keeps the limits and whose factors agree represents a matroid
+pub whole : (M : Rep) → KeepsLimits M → Agrees M → IsRepresentation M
+whole M k a = record { some = (let f = k.fields in f.some); shaped = k.shaped; agrees = a }
+
+pub by_three : (P : ℕ → Type 0) → P 0 → P 1 → P 2 → (f : ℕ) → f < 3 → P f
+by_three P a b c zero l = a
+by_three P a b c (suc zero) l = b
+by_three P a b c (suc (suc zero)) l = c
+by_three P a b c (suc (suc (suc f))) l = absurd (omega arith)
+
 module _ (M : Rep) (fields : List ℕ) (factors rank total : ℕ) (h : IsShapeOf M fields factors rank total) where
   pub is_rep : KeepsLimits M
   is_rep = h.is_rep
@@ -29,7 +39,7 @@ module _ (M : Rep) (fields : List ℕ) (factors rank total : ℕ) (h : IsShapeOf
   shaped = let r = h.is_rep in r.shaped
 
   pub is_whole : IsRepresentation M
-  is_whole = let r = h.is_rep in record { some = (let f = r.fields in f.some); shaped = r.shaped; agrees = h.agrees }
+  is_whole = whole M h.is_rep h.agrees
 
   pub some : 0 < count M
   some = let r = h.is_rep in let f = r.fields in f.some

@@ -3,7 +3,7 @@ use Rattle.std.specs.Prelude.{ℕ, ◌+◌, ◌<◌, ◌≤◌, ◌≡◌, ◌�
 use Rattle.matroid_theory.specs.Field.{plus, times}
 use Rattle.matroid_theory.specs.Rep.{Rep}
 use Rattle.matroid_theory.specs.Move.{Move}
-use Rattle.form_trails.specs.Pivot.{exchange}
+use Rattle.matroid_theory.specs.Exchange.{exchange}
 use Rattle.form_trails.specs.Trail.{Trail, Follows}
 use Rattle.form_search.specs.Search.{Entries, IsThere, IsFrame, IsPlacing}
 use Rattle.form_states.specs.Codes.{AreColumnCodes, code, cleared_code, IsNormalisedFrom}

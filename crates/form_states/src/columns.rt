@@ -1,7 +1,7 @@
 // Columns as six rows of codes.
 ghost use Rattle.std.specs.Prelude.{◌≡◌, ◌≢◌, ◌⊎◌, ◌<◌, ◌≤◌, ◌+◌, ◌*◌, ◌^◌, ◌==◌, ◌↔◌, if◌then◌else◌, ℕ, true, [], slice_index, slice_index_or, length};
 ghost use Rattle.matroid_theory.specs.Field.{plus, times};
-ghost use Rattle.form_trails.specs.Pivot.{exchange};
+ghost use Rattle.matroid_theory.specs.Exchange.{exchange};
 ghost use Rattle.form_states.specs.Codes.{AreCodes, AreColumnCodes, code, cleared_code, IsNormalisedFrom};
 ghost use Rattle.form_states.specs.States.{AreLimits};
 

@@ -2,7 +2,7 @@
 ghost use Rattle.std.specs.Prelude.{◌≡◌, ◌≢◌, ◌<◌, ◌≤◌, ◌+◌, ◌↔◌, ◌⊎◌, [], ℕ, IsTrue, true, false, slice_index, slice_index_or, slice_set};
 ghost use Rattle.std.specs.Option.{MatchOption};
 ghost use Rattle.matroid_theory.specs.Field.{times};
-ghost use Rattle.form_trails.specs.Pivot.{exchange};
+ghost use Rattle.matroid_theory.specs.Exchange.{exchange};
 ghost use Rattle.form_states.specs.Codes.{AreColumnCodes, code, cleared_code, IsNormalisedFrom};
 ghost use Rattle.form_states.specs.States.{AreLimits, AreColumns, AreGroups, IsScaledNumber, IsLeastMarked, HasHead, HasOtherHead, marked};
 

@@ -1,24 +1,19 @@
 -- The columns of a representation as numbers, and the first column at which two representations differ.
-use Rattle.std.proofs.Common.{◌≡◌, ◌≢◌, ℕ, zero, suc, ◌+◌, ◌*◌, ◌/◌, ◌%◌, ◌-◌, ◌^◌, ◌<◌, ◌≤◌, refl, sym, ◌∙◌, ap, subst, arith, List, [], ◌∷◌, length, slice_index, slice_index_or, inl, inr, lit<}
+use Rattle.std.proofs.Common.{◌≡◌, ◌≢◌, ℕ, zero, suc, ◌+◌, ◌*◌, ◌/◌, ◌%◌, ◌-◌, ◌^◌, ◌<◌, ◌≤◌, refl, sym, ◌∙◌, ap, subst, arith, List, [], ◌∷◌, length, slice_index, slice_index_or, lit<}
 use Rattle.std.specs.Cmp.{IsTotalOrder, nat_cmp_total}
 use Rattle.std.specs.Cmp.Lexicographic.{slice_cmp, lists_total}
 use Rattle.std.specs.Ordering.{nat_cmp, ordering_then}
 use Rattle.std.specs.declared.cmp.Ordering.{Ordering}
 use Rattle.std.specs.declared.cmp.Ordering.TheVariants.{Less, Equal, Greater}
 use Rattle.std.proofs.lemmas.Cmp.{tied_itself}
-use Rattle.std.proofs.lemmas.Bool.{cases_lt}
 use Rattle.std.proofs.lemmas.List.{ext_get_or}
 use Rattle.std.proofs.Math.Nat.{mod-lt, mul-le-mul, le_refl, pow-le-pow_right, add-mul}
 use Rattle.matroid_theory.specs.Rep.{Rep, Shape, shape, count, size, order, matrix, IsShaped}
-use Rattle.matroid_theory.proofs.First.{row_below, whole}
+use Rattle.matroid_theory.proofs.First.{row_below, whole, columns_positive}
 use Rattle.matroid_theory.proofs.FieldLaws.{order_most}
 use Rattle.form_trails.specs.Numbers.{value, weighed}
 use Rattle.form_trails.specs.Least.{number}
 use Rattle.form_trails.proofs.Numbers.{AreDigits, value-weighed, weighed_same, value_at_most, value_same, value_from, value_within}
-
-positive : (k r c : ℕ) → k < r * c → 0 < c
-positive k r c l = elim (cases_lt 0 c)
-    [ inl b ↦ b | inr g ↦ (let e : c ≡ 0 = omega arith in let z : r * c ≡ r * 0 = ap (λ c. r * c) e in absurd (omega arith)) ]
 
 -- the list of codes of a column
 abbrev pub column : Rep → ℕ → List ℕ
@@ -48,7 +43,7 @@ module _ (M N : Rep) (shaped : IsShaped N) (same : shape N ≡ shape M) (p : ℕ
   column_length = shaped.lengths p here ∙ ap (λ (S : Shape). S.rank * length S.factors) same
 
   some_factor : (e : ℕ) → e < M.rank * count M → 0 < count M
-  some_factor e l = positive e M.rank (count M) l
+  some_factor e l = columns_positive e M.rank (count M) l
 
   -- the code at a place
   code_at : (e : ℕ) → e < M.rank * count M → slice_index (column N p) e ≡ matrix N (e % count M) (e / count M) p
@@ -106,7 +101,7 @@ module _ (M N : Rep) (shaped : IsShaped N) (same : shape N ≡ shape M) (p : ℕ
 
       zeros : (e : ℕ) → e < k * count M → slice_index (column N p) e ≡ 0
       zeros e l =
-          let c : 0 < count M = positive e k (count M) l in
+          let c : 0 < count M = columns_positive e k (count M) l in
           let all : k * count M ≤ M.rank * count M = mul-le-mul o (le_refl (count M)) in
           code_at e (omega arith) ∙ z (e % count M) (e / count M) (mod-lt e c) (row_below e (count M) k c l)
 
@@ -114,7 +109,7 @@ module _ (M N : Rep) (shaped : IsShaped N) (same : shape N ≡ shape M) (p : ℕ
 pub number_entries : (M : Rep) (a b : ℕ → ℕ → ℕ) → ((f i : ℕ) → f < count M → i < M.rank → a f i ≡ b f i) → number M a ≡ number M b
 number_entries M a b h =
     weighed_same (λ e. a (e % count M) (e / count M)) (λ e. b (e % count M) (e / count M)) (M.rank * count M)
-    (λ e l. let c : 0 < count M = positive e M.rank (count M) l in h (e % count M) (e / count M) (mod-lt e c) (row_below e (count M) M.rank c l))
+    (λ e l. let c : 0 < count M = columns_positive e M.rank (count M) l in h (e % count M) (e / count M) (mod-lt e c) (row_below e (count M) M.rank c l))
 
 -- columns of two representations of one shape
 module _ (M N L : Rep) (n_shaped : IsShaped N) (l_shaped : IsShaped L) (n_same : shape N ≡ shape M) (l_same : shape L ≡ shape M) (p : ℕ) (b : p < size M) where
@@ -128,7 +123,7 @@ module _ (M N L : Rep) (n_shaped : IsShaped N) (l_shaped : IsShaped L) (n_same :
       code : (e : ℕ) → e < length (column N p) → slice_index (column N p) e ≡ slice_index (column L p) e
       code e l =
           let m : e < M.rank * count M = subst (λ n. e < n) (column_length M N n_shaped n_same p b) l in
-          let c : 0 < count M = positive e M.rank (count M) m in
+          let c : 0 < count M = columns_positive e M.rank (count M) m in
           code_at M N n_shaped n_same p b e m ∙ h (e % count M) (e / count M) (mod-lt e c) (row_below e (count M) M.rank c m)
           ∙ sym (code_at M L l_shaped l_same p b e m)
 

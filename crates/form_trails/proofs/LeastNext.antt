@@ -11,6 +11,7 @@ use Rattle.matroid_theory.specs.Move.{Move, AreEquivalent}
 use Rattle.matroid_theory.proofs.Sums.{times_zero}
 use Rattle.matroid_theory.proofs.Bases.{search_below}
 use Rattle.matroid_theory.proofs.Equivalence.{equivalent-symmetric, equivalent-transitive}
+use Rattle.matroid_theory.proofs.GroupLeast.{group_least}
 use Rattle.form_trails.specs.Trail.{ReachesForm, Trail, AreCoordinates, AreZeroBefore, Follows, IsTrail, row_factor}
 use Rattle.form_trails.specs.Least.{number, scaled, MakesOnes}
 use Rattle.form_trails.proofs.Scalars.{IsScalar, one_scalar, inverse_scalar, times_scalar, zero_factor, undone, cancelled, inverse_only}
@@ -19,7 +20,6 @@ use Rattle.form_trails.proofs.Entries.{field, column_factor, column_factor_scala
 use Rattle.form_trails.proofs.Columns.{column, column_length, column_code, number_entries, number_at_most, number_same, number_from, number_within, next_at_most}
 use Rattle.form_trails.proofs.Reached.{some_before}
 use Rattle.form_trails.proofs.Next.{AreGroupScalars, IsNext, exchange_open}
-use Rattle.form_trails.proofs.GroupLeast.{group_least}
 
 module _ (M : Rep) (shaped : IsShaped M) (some : 0 < count M) (k s : ℕ) (groups : ℕ → ℕ) (d : Trail) (h : IsTrail M k s groups d)
     (m : Move) (N : Rep) (reach : ReachesForm M m N) (follows : Follows M d k s m) where

@@ -3,8 +3,6 @@ pub mod Columns
 pub mod Coordinates
 pub mod Ends
 pub mod Entries
-pub mod Exchanges
-pub mod GroupLeast
 pub mod Heads
 pub mod LeastNext
 pub mod Next

@@ -13,9 +13,9 @@ use Rattle.matroid_theory.proofs.Standard.{standard_basis}
 use Rattle.matroid_theory.proofs.Masks.{IsBasis-same}
 use Rattle.form_trails.specs.Trail.{ReachesForm, Trail, AreCoordinates, AreZeroBefore, Follows, IsTrail}
 use Rattle.form_trails.specs.Least.{scaled}
-use Rattle.form_trails.specs.Pivot.{exchange}
+use Rattle.matroid_theory.specs.Exchange.{exchange}
 use Rattle.form_trails.proofs.Scalars.{IsScalar, one_scalar, inverse_scalar, undone}
-use Rattle.form_trails.proofs.Exchanges.{exchange_one, exchange_other, exchange_cases, exchanged_permutation}
+use Rattle.matroid_theory.proofs.Exchanges.{exchange_one, exchange_other, exchange_cases, exchanged_permutation}
 use Rattle.form_trails.proofs.Coordinates.{row_scalars}
 use Rattle.form_trails.proofs.Entries.{field, AreRowScalars, made}
 

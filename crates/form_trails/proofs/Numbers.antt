@@ -8,6 +8,7 @@ use Rattle.std.proofs.lemmas.Bool.{cases_lt}
 use Rattle.std.proofs.lemmas.Cmp.{ranked}
 use Rattle.std.proofs.Math.Nat.{mul-le-mul, le_refl, pow-succ'}
 use Rattle.std.proofs.lemmas.Nat.{div-mul-add, mod-mul-add}
+use Rattle.matroid_theory.proofs.First.{digit_less}
 use Rattle.form_trails.specs.Numbers.{value, weighed, weighed_on}
 
 -- each code is a digit
@@ -20,9 +21,6 @@ rest_digits x xs h p l = h (suc p) (omega arith)
 -- one digit more
 digit_below : (x n v : ℕ) → x < 16 → v < n → x * n + v < 16 * n
 digit_below x n v l m = let h : suc x * n ≤ 16 * n = mul-le-mul (let k : suc x ≤ 16 = omega arith in k) (le_refl n) in omega arith
-
-digit_less : (x y n v w : ℕ) → x < y → v < n → x * n + v < y * n + w
-digit_less x y n v w l m = let h : suc x * n ≤ y * n = mul-le-mul (let k : suc x ≤ y = omega arith in k) (le_refl n) in omega arith
 
 pub value_below : (xs : List ℕ) → AreDigits xs → value xs < 16 ^ length xs
 value_below [] h = lit< tt

@@ -1,49 +1,22 @@
 -- Ordered bases: as sets, in another order, and with other elements in rows that don't count.
-use Rattle.std.proofs.Common.{◌≡◌, inl, inr, ℕ, zero, suc, ◌<◌, ◌≤◌, sym, ◌∙◌, ap, subst, arith, false}
+use Rattle.std.proofs.Common.{◌≡◌, inl, inr, ℕ, ◌<◌, ◌≤◌, sym, ◌∙◌, ap, subst}
 use Rattle.std.specs.Bool.{nat_lt}
-use Rattle.std.proofs.lemmas.Bool.{cases_lt, le-ltb}
-use Rattle.matroid_theory.specs.Field.{IsField, plus, times}
-use Rattle.matroid_theory.specs.Matrix.{Matrix, sum_below, combination, IsIndependent}
+use Rattle.std.proofs.lemmas.Bool.{cases_lt}
+use Rattle.matroid_theory.specs.Field.{IsField, times}
+use Rattle.matroid_theory.specs.Matrix.{Matrix, combination}
 use Rattle.matroid_theory.specs.Rep.{Rep, count, size, order, matrix, IsShaped}
 use Rattle.matroid_theory.specs.Matroid.{IsBasis}
 use Rattle.matroid_theory.specs.Move.{ArePermutation}
-use Rattle.matroid_theory.proofs.Sums.{plus_zero_right, sum_same, sum_below-code, sum_relabelled, times_zero}
+use Rattle.matroid_theory.proofs.Sums.{sum_same, sum_relabelled, times_zero}
 use Rattle.matroid_theory.proofs.Steps.{Independent, all_coefficients}
 use Rattle.matroid_theory.proofs.Counts.{size_relabelled}
 use Rattle.matroid_theory.proofs.Rest.{size_front}
+use Rattle.matroid_theory.proofs.Standard.{set_of_independent}
+use Rattle.matroid_theory.proofs.Carried.{inverse_permutation}
 use Rattle.form_trails.specs.Trail.{Trail, AreCoordinates, AreZeroBefore}
 use Rattle.form_trails.proofs.Entries.{field}
 
 module _ (q : ℕ) (F : IsField q) (r : ℕ) where
-  -- a sum whose terms from k on are 0
-  sum_start : (k n : ℕ) (f : ℕ → ℕ) → k ≤ n → ((j : ℕ) → k ≤ j → j < n → f j ≡ 0) → sum_below q n f ≡ sum_below q k f
-  sum_start k zero f le z = (let e : zero ≡ k = omega arith in ap (λ n. sum_below q n f) e)
-  sum_start k (suc n) f le z =
-      elim (cases_lt n k) [
-        | inl b ↦ (let e : suc n ≡ k = omega arith in ap (λ n. sum_below q n f) e)
-        | inr g ↦ ap (plus q (sum_below q n f)) (z n g (omega arith))
-            ∙ plus_zero_right q F (sum_below q n f) (sum_below-code q F n f) ∙ sum_start k n f g (λ j l m. z j l (omega arith))
-      ]
-
-  -- independent columns p 0, .., p (r - 1), as a set
-  set_of_independent : (n : ℕ) (A : Matrix) (p u : ℕ → ℕ) → r ≤ n → ArePermutation n p u → Independent q r r (λ i l. A i (p l)) →
-      IsIndependent q r n A (λ k. nat_lt (u k) r)
-  set_of_independent n A p u le w h = record {
-    only_zero = λ a c z k l. elim (cases_lt (u k) r) [
-      | inl b ↦ ap a (sym (w.back k l))
-          ∙ h.only_zero (λ j. a (p j)) (all_coefficients q F r r r (λ j. a (p j)) (λ j m. c.codes (p j) (w.below j (omega arith))))
-          (λ i m. sym (rows a c.outside i) ∙ z i m) (u k) b
-      | inr g ↦ c.outside k l (le-ltb (u k) r g)
-    ];
-  }
-    where
-      rows : (a : ℕ → ℕ) → ((j : ℕ) → j < n → nat_lt (u j) r ≡ false → a j ≡ 0) → (i : ℕ) →
-          combination q n A a i ≡ combination q r (λ i l. A i (p l)) (λ j. a (p j)) i
-      rows a o i =
-          sym (sum_relabelled q F n p u w (λ k. times q (A i k) (a k)) (λ k _. F.times_below (A i k) (a k)))
-          ∙ sum_start r n (λ l. times q (A i (p l)) (a (p l))) le
-          (λ l m b. ap (times q (A i (p l))) (o (p l) (w.below l b) (ap (λ x. nat_lt x r) (w.there l b) ∙ le-ltb l r m)) ∙ times_zero q F (A i (p l)))
-
   -- independent columns in another order
   pub independent_relabelled : (A : Matrix) (p u : ℕ → ℕ) → ArePermutation r p u → Independent q r r A → Independent q r r (λ i l. A i (p l))
   independent_relabelled A p u w h = record {
@@ -58,16 +31,12 @@ module _ (q : ℕ) (F : IsField q) (r : ℕ) where
           sym (sum_relabelled q F r p u w (λ k. times q (A i k) (a (u k))) (λ k _. F.times_below (A i k) (a (u k))))
           ∙ sum_same q F r (λ l. times q (A i (p l)) (a (u (p l)))) (λ l. times q (A i (p l)) (a l)) (λ l b. ap (λ y. times q (A i (p l)) (a y)) (w.there l b))
 
--- a permutation the other way
-pub turned : (n : ℕ) (p u : ℕ → ℕ) → ArePermutation n p u → ArePermutation n u p
-turned n p u w = record { below = w.inverse_below; inverse_below = w.below; there = w.back; back = w.there }
-
 module _ (M : Rep) (shaped : IsShaped M) where
   -- the first rank elements as a set
   pub first_basis : (label place : ℕ → ℕ) → ArePermutation (size M) label place → M.rank ≤ size M → (f : ℕ) → f < count M
       → Independent (order M f) M.rank M.rank (λ i l. matrix M f i (label l)) → IsBasis M f (λ j. nat_lt (place j) M.rank)
   first_basis label place w room f l h = record {
-    full = size_relabelled (size M) place label (turned (size M) label place w) (λ j. nat_lt j M.rank) ∙ size_front M.rank (size M) room;
+    full = size_relabelled (size M) place label (inverse_permutation (size M) label place w) (λ j. nat_lt j M.rank) ∙ size_front M.rank (size M) room;
     independent = set_of_independent (order M f) (field M shaped f l) M.rank (size M) (matrix M f) label place room w h;
   }
 

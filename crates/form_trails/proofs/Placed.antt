@@ -10,9 +10,9 @@ use Rattle.matroid_theory.proofs.Steps.{pivot_row}
 use Rattle.matroid_theory.proofs.Ranks.{IsIndependent-codes}
 use Rattle.form_trails.specs.Trail.{ReachesForm, Trail, AreCoordinates, AreZeroBefore, Follows, IsOrdered, ArePlaced, IsTrail, TiesGroups, row_factor}
 use Rattle.form_trails.specs.Least.{scaled, MakesOnes}
-use Rattle.form_trails.specs.Pivot.{exchange}
+use Rattle.matroid_theory.specs.Exchange.{exchange}
 use Rattle.form_trails.proofs.Scalars.{IsScalar, one_scalar, inverse_scalar, times_scalar, undone, times_turn}
-use Rattle.form_trails.proofs.Exchanges.{exchange_one, exchange_other, exchanged_permutation}
+use Rattle.matroid_theory.proofs.Exchanges.{exchange_one, exchange_other, exchanged_permutation}
 use Rattle.form_trails.proofs.Coordinates.{row_scalars}
 use Rattle.form_trails.proofs.Entries.{field, AreRowScalars}
 use Rattle.form_trails.proofs.LeastNext.{next_is_own, met_rows}

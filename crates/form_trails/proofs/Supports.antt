@@ -13,9 +13,9 @@ use Rattle.matroid_theory.proofs.Ranks.{IsIndependent-codes}
 use Rattle.matroid_theory.proofs.Dimension.{times_unit_column}
 use Rattle.matroid_theory.proofs.Standard.{ordered_independent}
 use Rattle.form_trails.specs.Trail.{Trail, AreCoordinates, IsOrdered}
-use Rattle.form_trails.specs.Pivot.{exchange}
+use Rattle.matroid_theory.specs.Exchange.{exchange}
 use Rattle.form_trails.proofs.Scalars.{IsScalar, inverse_scalar, times_scalar, times_one_right}
-use Rattle.form_trails.proofs.Exchanges.{exchange_one, exchange_other, exchanged_permutation}
+use Rattle.matroid_theory.proofs.Exchanges.{exchange_one, exchange_other, exchanged_permutation}
 use Rattle.form_trails.proofs.Entries.{field}
 use Rattle.form_trails.proofs.Coordinates.{row_scalars, same_coefficients, own_nonzero, others_zero}
 use Rattle.form_trails.proofs.Ordered.{first_basis}

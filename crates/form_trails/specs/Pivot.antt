@@ -2,10 +2,7 @@
 use Rattle.std.specs.Prelude.{ℕ, ◌==◌, if◌then◌else◌}
 use Rattle.matroid_theory.specs.Field.{plus, times}
 use Rattle.matroid_theory.specs.Rep.{Rep, order}
-
--- a and b exchanged
-abbrev pub exchange : ℕ → ℕ → ℕ → ℕ
-exchange a b x = if x == a then b else (if x == b then a else x)
+use Rattle.matroid_theory.specs.Exchange.{exchange}
 
 -- a column keeps its code of row p, and its multiple of the chosen column is taken from the others, of which minus is the negative
 abbrev pub cleared : Rep → ℕ → (ℕ → ℕ → ℕ) → (ℕ → ℕ → ℕ) → ℕ → ℕ → ℕ

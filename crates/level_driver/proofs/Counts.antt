@@ -5,6 +5,7 @@ use Rattle.std.proofs.lemmas.List.{length-map, get_or-map}
 use Rattle.std.proofs.lemmas.List.Elements.{Contains-get_or, Contains-append_left, Contains-append_right, Contains-append_cases}
 use Rattle.std.proofs.lemmas.List.Kept.{AllPairs-cons}
 use Rattle.matroid_theory.specs.Level.{IsCount}
+use Rattle.matroid_theory.proofs.Lists.{here, there}
 
 module _ {X : Type 0} where
   pub count_same : (P Q : X → Type 0) (n : ℕ) → ((x : X) → P x ↔ Q x) → IsCount P n → IsCount Q n
@@ -34,12 +35,6 @@ module _ {X : Type 0} where
       only : (y : X) → Contains (x ∷ []) y → y ≡ x
       only y (zero, l, e) = sym e
       only y (suc k, l, e) = absurd (omega arith)
-
-  here : (x : X) (xs : List X) → Contains (x ∷ xs) x
-  here x xs = (0, omega arith, refl)
-
-  pub there : (x z : X) (xs : List X) → Contains xs z → Contains (x ∷ xs) z
-  there x z xs h = (suc h.0, (let l = h.1 in omega arith), h.2)
 
   -- two lists without repeats that have nothing in common have no repeats together
   pub append_apart : (xs ys : List X) → AllPairs (λ x y. x ≢ y) xs → AllPairs (λ x y. x ≢ y) ys →

@@ -1,9 +1,9 @@
 -- The order of lists of columns as a set of forms keeps them, and what an insertion adds to such a set.
-use Rattle.std.proofs.Common.{Bor, ◌≡◌, ◌⊎◌, ℕ, ◌<◌, List, [], ◌∷◌, map, length, zero, suc, inl, inr, refl, sym, ◌∙◌, ap, subst, arith}
+use Rattle.std.proofs.Common.{Bor, ◌≡◌, ◌⊎◌, ℕ, ◌<◌, List, [], ◌∷◌, map, length, inl, inr, refl, sym, ◌∙◌, ap, subst, arith}
 use Rattle.std.specs.List.{slice_index_or, All, Contains, AllPairs}
 use Rattle.std.specs.Map.Iter.{deref}
 use Rattle.std.specs.Cmp.Lexicographic.{slice_cmp}
-use Rattle.std.specs.Ordering.{nat_cmp, ordering_then, match_ordering}
+use Rattle.std.specs.Ordering.{match_ordering}
 use Rattle.std.specs.declared.cmp.Ordering.{Ordering}
 use Rattle.std.specs.declared.cmp.Ordering.TheVariants.{Less, Equal, Greater}
 use Rattle.std.specs.BTreeSet.{insert_key}
@@ -14,17 +14,15 @@ use Rattle.std.proofs.lemmas.List.{length-map, get_or-map}
 use Rattle.arrayvec.specs.ArrayVec.{ArrayVec}
 use Rattle.matroid_theory.specs.Rep.{Rep}
 use Rattle.matroid_theory.specs.Order.{rep_cmp}
+use Rattle.small_lists.proofs.Orders.{vector_cmp, lists_cmp}
 use Rattle.level_driver.specs.Keys.{columns_of_key}
 use Rattle.level_driver.specs.Children.{rep_of, Adds}
-use Rattle.level_driver.proofs.Counts.{there, Contains-map, Contains-from_map}
+use Rattle.level_driver.proofs.Counts.{Contains-map, Contains-from_map}
 use Rattle.matroid_theory.proofs.Levels.{then_equal}
-
--- the order of columns, and of lists of columns
-abbrev pub column_cmp : ArrayVec ℕ → ArrayVec ℕ → Ordering
-column_cmp v w = slice_cmp nat_cmp v.items w.items
+use Rattle.matroid_theory.proofs.Lists.{here, there, found}
 
 abbrev pub key_cmp : ArrayVec (ArrayVec ℕ) → ArrayVec (ArrayVec ℕ) → Ordering
-key_cmp v w = slice_cmp column_cmp v.items w.items
+key_cmp v w = slice_cmp vector_cmp v.items w.items
 
 exact_lists : {X : Type 0} (R : X → X → Ordering) → CmpEqualImpliesEq R → CmpEqualImpliesEq (slice_cmp R)
 exact_lists R exact [] [] e = refl
@@ -34,32 +32,25 @@ exact_lists R exact (x ∷ xs) (y ∷ ys) e =
     let both = then_equal (R x y) (slice_cmp R xs ys) e in
     λ i. exact x y both.0 i ∷ exact_lists R exact xs ys both.1 i
 
-exact_columns : CmpEqualImpliesEq column_cmp
+exact_columns : CmpEqualImpliesEq vector_cmp
 exact_columns v w e = λ i. record { items = exact_bytes v.items w.items e i }
 
 -- lists of columns that tie are one
 pub exact_keys : CmpEqualImpliesEq key_cmp
-exact_keys v w e = λ i. record { items = exact_lists column_cmp exact_columns v.items w.items e i }
+exact_keys v w e = λ i. record { items = exact_lists vector_cmp exact_columns v.items w.items e i }
 
 module _ {K : Type 0} (R : K → K → Ordering) (exact : CmpEqualImpliesEq R) (k : K) where
-  here : (x : K) (xs : List K) → Contains (x ∷ xs) x
-  here x xs = (0, omega arith, refl)
-
-  first_or_later : (x q : K) (xs : List K) → Contains (x ∷ xs) q → (x ≡ q) ⊎ Contains xs q
-  first_or_later x q xs (zero, l, e) = inl e
-  first_or_later x q xs (suc i, l, e) = inr (i, omega arith, e)
-
   -- an insertion adds the key and nothing else
   inserted : (ks : List K) (q : K) → Contains (insert_key R ks k) q → Contains ks q ⊎ (q ≡ k)
-  inserted [] q c = elim (first_or_later k q [] c) [ inl e ↦ inr (sym e) | inr (i, l, e) ↦ absurd (omega arith) ]
+  inserted [] q c = elim (found k q [] c) [ inl e ↦ inr (sym e) | inr (i, l, e) ↦ absurd (omega arith) ]
   inserted (x ∷ xs) q c = by_order (inserted xs q) (R k x) c
     where
       by_order : (Contains (insert_key R xs k) q → Contains xs q ⊎ (q ≡ k)) → (r : Ordering) →
           Contains (match_ordering r (k ∷ x ∷ xs) (x ∷ xs) (x ∷ insert_key R xs k)) q → Contains (x ∷ xs) q ⊎ (q ≡ k)
-      by_order more Less c = elim (first_or_later k q (x ∷ xs) c) [ inl e ↦ inr (sym e) | inr d ↦ inl d ]
+      by_order more Less c = elim (found k q (x ∷ xs) c) [ inl e ↦ inr (sym e) | inr d ↦ inl d ]
       by_order more Equal c = inl c
       by_order more Greater c =
-          elim (first_or_later x q (insert_key R xs k) c) [
+          elim (found x q (insert_key R xs k) c) [
             | inl e ↦ inl (subst (Contains (x ∷ xs)) e (here x xs))
             | inr d ↦ elim (more d) [ inl b ↦ inl (there x q xs b) | inr e ↦ inr e ]
           ]
@@ -72,7 +63,7 @@ module _ {K : Type 0} (R : K → K → Ordering) (exact : CmpEqualImpliesEq R) (
       by_order more Less = there k q (x ∷ xs) c
       by_order more Equal = c
       by_order more Greater =
-          elim (first_or_later x q xs c) [
+          elim (found x q xs c) [
             | inl e ↦ subst (Contains (x ∷ insert_key R xs k)) e (here x (insert_key R xs k))
             | inr d ↦ there x q (insert_key R xs k) (more d)
           ]
@@ -106,13 +97,6 @@ adds old key columns is other = (
       ],
 )
 
--- the order of what is kept is that of the columns
-same_order : (vs ws : List (ArrayVec ℕ)) → slice_cmp column_cmp vs ws ≡ slice_cmp (slice_cmp nat_cmp) (map (λ c. c.items) vs) (map (λ c. c.items) ws)
-same_order [] [] = refl
-same_order [] (w ∷ ws) = refl
-same_order (v ∷ vs) [] = refl
-same_order (v ∷ vs) (w ∷ ws) = ap (ordering_then (slice_cmp nat_cmp v.items w.items)) (same_order vs ws)
-
 -- so the representations rise
 pub rising : (factors : List ℕ) (rank : ℕ) (keys : List (ArrayVec (ArrayVec ℕ))) → IsStrictlySortedBy key_cmp keys →
     AllPairs (λ M N. rep_cmp M N ≡ Less) (map (rep_of factors rank) (map columns_of_key keys))
@@ -120,7 +104,7 @@ rising factors rank [] sorted i j d l m = absurd (omega arith)
 rising factors rank (k ∷ ks) sorted i j d l m =
     subst (λ M. rep_cmp M (slice_index_or reps j d) ≡ Less) (sym (at i (let j'' : j < length (k ∷ ks) = j' in omega arith)))
     (subst (λ N. rep_cmp (of (slice_index_or (k ∷ ks) i k)) N ≡ Less) (sym (at j j'))
-    (sym (same_order (slice_index_or (k ∷ ks) i k).items (slice_index_or (k ∷ ks) j k).items) ∙ Less-from_sorted key_cmp (k ∷ ks) i j k sorted l j'))
+    (sym (lists_cmp (slice_index_or (k ∷ ks) i k).items (slice_index_or (k ∷ ks) j k).items) ∙ Less-from_sorted key_cmp (k ∷ ks) i j k sorted l j'))
   where
     of : ArrayVec (ArrayVec ℕ) → Rep
     of key = rep_of factors rank (columns_of_key key)

@@ -1,5 +1,5 @@
 -- Equivalent representations have the same minors, and what is given is one list of matroids.
-use Rattle.std.proofs.Common.{◌≡◌, ℕ, zero, suc, ◌+◌, ◌<◌, List, ◌&&◌, ◌||◌, Bool, length, refl, sym, ◌∙◌, ap, subst, arith, inl, inr}
+use Rattle.std.proofs.Common.{◌≡◌, ℕ, ◌+◌, ◌<◌, List, ◌&&◌, ◌||◌, Bool, length, sym, ◌∙◌, ap, subst, inl, inr}
 use Rattle.std.specs.Bool.{◌==◌}
 use Rattle.std.proofs.lemmas.Bool.{cases_eq}
 use Rattle.matroid_theory.specs.declared.Mode.{Mode}
@@ -11,13 +11,9 @@ use Rattle.matroid_theory.specs.Move.{ArePermutation, AreEquivalent}
 use Rattle.matroid_theory.proofs.Carried.{basis_carried}
 use Rattle.matroid_theory.proofs.Counts.{size_relabelled}
 use Rattle.matroid_theory.proofs.Equivalence.{equivalent-symmetric}
-use Rattle.matroid_theory.proofs.Masks.{IsBasis-same}
+use Rattle.matroid_theory.proofs.Masks.{IsBasis-same, any_below-same}
 use Rattle.matroid_theory.proofs.Sums.{same_number, other_number}
 use Rattle.level_driver.specs.Forbidden.{Avoids}
-
-any_same : (n : ℕ) (p q : ℕ → Bool) → ((x : ℕ) → x < n → p x ≡ q x) → any_below n p ≡ any_below n q
-any_same zero p q same = refl
-any_same (suc n) p q same = λ i. any_same n p q (λ x l. same x (omega arith)) i || same n (omega arith) i
 
 -- a number has the label of j exactly where j is its place
 same_place : (n : ℕ) (label place : ℕ → ℕ) → ArePermutation n label place → (k j : ℕ) → k < n → j < n → (k == label j) ≡ (place k == j)
@@ -61,7 +57,7 @@ module _ (mode : Mode) (M L : Rep) (e : AreEquivalent mode M L) (some : 0 < coun
           let T : ℕ → Bool = λ k. image N.size f (members X) k || C k in
           let T' : ℕ → Bool = λ k. image N.size (λ x. place (f x)) (members X) k || C (label k) in
           let same : (j : ℕ) → j < size L → T (label j) ≡ T' j =
-          λ j m k. any_same N.size (λ x. members X x && (f x == label j)) (λ x. members X x && (place (f x) == j))
+          λ j m k. any_below-same N.size (λ x. members X x && (f x == label j)) (λ x. members X x && (place (f x) == j))
           (λ x o k. members X x && same_place (size M) label place labels (f x) j (h.injection.below x o)
           (subst (λ n. j < n) as_large m) k) k || C (label j) in
           let over = basis_carried mode M L e.move e.shaped e.valid e.takes 0 some T in (

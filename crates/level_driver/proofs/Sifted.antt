@@ -1,5 +1,5 @@
 -- Those of the forms of a level that pass.
-use Rattle.std.proofs.Common.{◌≡◌, ◌∙◌, ℕ, zero, suc, ◌+◌, ◌<◌, ◌≤◌, List, [], ◌∷◌, ◌++◌, length, take, get_or, None, Some, sym, ap, subst, arith, inl, inr, ◌⊎◌, length-append}
+use Rattle.std.proofs.Common.{◌≡◌, ◌∙◌, ℕ, suc, ◌+◌, ◌<◌, ◌≤◌, List, [], ◌∷◌, ◌++◌, length, take, get_or, None, Some, sym, ap, subst, arith, inl, inr, length-append}
 use Rattle.std.specs.Prelude.{◌↔◌, slice_get, AllPairs, Contains}
 use Rattle.std.proofs.Math.ListN.{get_or-append}
 use Rattle.std.proofs.lemmas.List.{take_more, take_all, get_or_default}
@@ -10,13 +10,9 @@ use Rattle.matroid_theory.specs.Rep.{Rep}
 use Rattle.matroid_theory.specs.Order.{rep_cmp}
 use Rattle.std.specs.declared.cmp.Ordering.TheVariants.{Less}
 use Rattle.matroid_theory.specs.Level.{IsRisingList}
+use Rattle.matroid_theory.proofs.Lists.{found}
 
 module _ {X : Type 0} where
-  -- an element of a list is the first or one of the rest
-  found : (x z : X) (xs : List X) → Contains (x ∷ xs) z → (x ≡ z) ⊎ Contains xs z
-  found x z xs (zero, l, e) = inl e
-  found x z xs (suc k, l, e) = inr (k, omega arith, e)
-
   -- each pair of the front is one of the whole, and each element of the front is before the last
   pairs_front : (R : X → X → Type 0) (xs : List X) (y : X) → AllPairs R (xs ++ y ∷ []) → AllPairs R xs
   pairs_front R xs y pairs i j d l m =

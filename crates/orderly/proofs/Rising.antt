@@ -13,7 +13,7 @@ use Rattle.matroid_theory.specs.Order.{rep_cmp}
 use Rattle.matroid_theory.specs.Level.{followed_by}
 use Rattle.matroid_theory.proofs.Levels.{columns_total}
 use Rattle.matroid_theory.proofs.Prefix.{slice_cmp-append}
-use Rattle.level_driver.proofs.Counts.{there}
+use Rattle.matroid_theory.proofs.Lists.{there}
 
 -- ---- a list after another
 

@@ -7,6 +7,7 @@ mod moves;
 mod rep;
 
 pub use factors::Factors;
+pub use matrices::{unit_rows, zeros};
 pub use matroid_theory::Mode;
-pub use moves::{Move, act, raised};
-pub use rep::{ProductColumn, Rep, code, compare, place};
+pub use moves::{Move, act, raised, raised_code};
+pub use rep::{ProductColumn, Rep, compare};

@@ -250,7 +250,7 @@ fn raised_column(field: Field, power: u8, column: &Column) -> Column
 }
 
 /// The code raised so many times to the power of the characteristic.
-fn raised_code(field: Field, power: u8, code: u8) -> u8
+pub fn raised_code(field: Field, power: u8, code: u8) -> u8
     requires { code < field }
     ensures value { result ≡ raised_by field power code }
     ensures code { result < field }

@@ -162,24 +162,6 @@ impl Rep {
     }
 }
 
-/// Where the code of row `i` and of a factor stands in a column of `count` factors.
-pub fn place(count: usize, i: usize, factor: usize) -> usize
-    requires count { count ≤ 3 }
-    requires row { i < 6 }
-    requires factor { factor < count }
-    ensures { result ≡ i * count + factor }
-{
-    i * count + factor
-}
-
-/// The code of row `i` and of a factor in a column of `count` factors.
-pub fn code(column: &ProductColumn, count: usize, i: usize, factor: usize) -> u8
-    requires { i * count + factor < length column.now.items }
-    ensures { result ≡ slice_index column.now.items (i * count + factor) }
-{
-    column[i * count + factor]
-}
-
 /// The order of two representations of one shape: column by column, in a column from row 0, in a row factor by factor, and by
 /// code.
 pub fn compare(a: &Rep, b: &Rep) -> Ordering

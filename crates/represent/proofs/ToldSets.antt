@@ -9,7 +9,7 @@ use Rattle.std.proofs.Math.Nat.{pow-le-pow_right, two-pow-succ, mod-eq_of_lt}
 use Rattle.matroid_theory.specs.Matroid.{members}
 use Rattle.matroid_theory.proofs.Masks.{mask, mask-below, members-mask}
 use Rattle.dual_theory.specs.Represented.{IsToldAt}
-use Rattle.dual_theory.proofs.Searches.{same_mask}
+use Rattle.matroid_theory.proofs.Masks.{same_mask}
 use Rattle.represent.specs.declared.told.Place.{Place}
 use Rattle.represent.specs.Kept.{IsToldWith}
 

@@ -3,7 +3,7 @@ ghost use Rattle.std.specs.Prelude.{◌≡◌, IfOk, IfSome};
 ghost use Rattle.matroid_theory.specs.Rep.{shape};
 
 use arrayvec::CapacityError;
-use product_rep::{Factors, Mode, Move, ProductColumn, Rep, act, compare, place, raised};
+use product_rep::{Factors, Mode, Move, ProductColumn, Rep, act, compare, raised};
 use std::cmp::Ordering;
 use std::test::Fail;
 
@@ -47,7 +47,6 @@ fn columns_of_representations(rt: HostRuntime) -> Result<(), Fail> {
     assert_eq!(rt; rep.size(), 4);
     assert_eq!(rt; rep.column(3).as_slice(), [1, 1, 1, 1, 1, 2].as_slice());
     assert_eq!(rt; rep.factor_column(1, 3).as_slice(), [1, 1, 2].as_slice());
-    assert_eq!(rt; place(2, 2, 1), 5);
     Ok(())
 }
 

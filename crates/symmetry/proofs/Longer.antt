@@ -10,23 +10,7 @@ use Rattle.matroid_theory.specs.Level.{followed_by}
 use Rattle.matroid_theory.proofs.FieldLaws.{field_laws}
 use Rattle.matroid_theory.proofs.Sums.{combination-same}
 use Rattle.matroid_theory.proofs.Followed.{matrix_before, matrix_last, size_followed, shaped_pushed}
-use Rattle.matroid_theory.proofs.Prefix.{at_last, at_last-before, at_last-own}
-
--- a permutation with one more number, which stays
-kept : (n : ℕ) (p u : ℕ → ℕ) → ((j : ℕ) → j < n → p j < n) → ((j : ℕ) → j < n → u (p j) ≡ j) → (j : ℕ) → j < suc n → at_last n n u (at_last n n p j) ≡ j
-kept n p u b t j l =
-    elim (cases_lt j n) [
-      | inl s ↦ ap (at_last n n u) (at_last-before n n p j s) ∙ at_last-before n n u (p j) (b j s) ∙ t j s
-      | inr g ↦ (let e : j ≡ n = omega arith in ap (λ j. at_last n n u (at_last n n p j)) e ∙ ap (at_last n n u) (at_last-own n n p)
-          ∙ at_last-own n n u ∙ sym e)
-    ]
-
-kept_below : (n : ℕ) (p : ℕ → ℕ) → ((j : ℕ) → j < n → p j < n) → (j : ℕ) → j < suc n → at_last n n p j < suc n
-kept_below n p b j l =
-    elim (cases_lt j n) [
-      | inl s ↦ (let k : p j < n = b j s in subst (λ (x : ℕ). x < suc n) (sym (at_last-before n n p j s)) (omega arith))
-      | inr g ↦ (let e : j ≡ n = omega arith in subst (λ (x : ℕ). x < suc n) (sym (ap (at_last n n p) e ∙ at_last-own n n p)) (omega arith))
-    ]
+use Rattle.matroid_theory.proofs.Prefix.{at_last, at_last-before, at_last-own, kept, kept_below}
 
 -- the columns v and u follow P, and u is v raised, multiplied by the move's matrix and scaled
 module _ (mode : Mode) (P : Rep) (m : Move) (shaped : IsShaped P) (valid : IsMove mode (shape P) m) (takes : TakesTo P m P)

@@ -7,7 +7,7 @@ ghost use Rattle.symmetry.specs.Images.{code_at, AreLeadScalars};
 
 use arrayvec::ArrayVec;
 use field_tables::Field;
-use product_rep::{Factors, ProductColumn};
+use product_rep::{Factors, ProductColumn, raised_code};
 
 /// The sum of the products of the codes of the row and the raised codes of the column in the factor.
 pub(crate) fn mapped_code(
@@ -35,19 +35,6 @@ pub(crate) fn mapped_code(
         sum = field.add(sum, field.mul(row[k], code));
     }
     sum
-}
-
-/// The code raised so many times to the power of the characteristic.
-fn raised_code(field: Field, power: u8, code: u8) -> u8
-    requires { code < field }
-    ensures value { result ≡ raised_by field power code }
-    ensures code { result < field }
-{
-    let mut image = code;
-    for _ in 0..power {
-        image = field.frobenius(image);
-    }
-    image
 }
 
 /// For each factor the code that makes the first code of the column that isn't 0 a 1; 1 where all are 0.

@@ -1,8 +1,7 @@
 // A move whose powers and matrices can be read.
-ghost use Rattle.std.specs.Prelude.{◌≡◌, ◌<◌, ◌≤◌, ◌+◌, ◌*◌, ℕ, length, replicate, slice_index, IsTrue};
+ghost use Rattle.std.specs.Prelude.{◌≡◌, ◌<◌, ◌+◌, ◌*◌, ℕ, length, slice_index, IsTrue};
 ghost use Rattle.matroid_theory.specs.declared.Mode.{Mode};
 ghost use Rattle.matroid_theory.specs.declared.Mode.TheVariants.{Semilinear as semilinear};
-ghost use Rattle.matroid_theory.specs.Matrix.{unit};
 ghost use Rattle.matroid_theory.specs.Field.{degree};
 ghost use Rattle.matroid_theory.specs.Rep.{shape, IsProductColumn};
 ghost use Rattle.matroid_theory.specs.Move.{AreEquivalent, IsMove, TakesTo, move_of, row_place};
@@ -13,7 +12,7 @@ ghost use Rattle.symmetry.specs.Symmetric.{IsSymmetry};
 use crate::images::{lead_scalars, mapped_code, multiplied};
 use arrayvec::ArrayVec;
 use matroid_theory::Mode;
-use product_rep::{Factors, Move, ProductColumn, Rep, act, compare};
+use product_rep::{Factors, Move, ProductColumn, Rep, act, compare, unit_rows, zeros};
 use std::cmp::Ordering;
 use std::marker::Model;
 
@@ -188,31 +187,4 @@ fn stays(rep: &Rep, step: &Move) -> bool
         Ordering::Equal => true,
         Ordering::Less | Ordering::Greater => false,
     }
-}
-
-/// The identity matrix of that rank, row by row, `count` times.
-fn unit_rows(count: usize, rank: usize) -> ArrayVec<u8, 108>
-    requires count { count ≤ 3 }
-    requires rank { rank ≤ 6 }
-    requires positive { 0 < rank }
-    ensures length { length result.items ≡ count * rank * rank }
-    ensures codes { (f i k : ℕ) → f < count → i < rank → k < rank → slice_index result.items ((f * rank + i) * rank + k) ≡ unit i k }
-{
-    let mut rows = ArrayVec::new();
-    for place in 0..count * rank * rank {
-        rows.push(u8::from(place / rank % rank == place % rank));
-    }
-    rows
-}
-
-/// The code 0 that many times.
-fn zeros(length: usize) -> ArrayVec<u8, 3>
-    requires { length ≤ 3 }
-    ensures { result.items ≡ replicate length 0 }
-{
-    let mut list = ArrayVec::new();
-    for _ in 0..length {
-        list.push(0);
-    }
-    list
 }

@@ -1,14 +1,11 @@
 use Rattle.std.proofs.Common.{◌≡◌, ◌+◌, ◌*◌, ◌<◌, ◌≤◌, ℕ, List, [], ◌∷◌, ◌++◌, length, sym, ◌∙◌, ap, arith, map, lit<}
 use Rattle.std.specs.List.{slice_index, range_with_len}
-use Rattle.std.proofs.lemmas.List.FromFn.{length-map-range_with_len, map-range_with_len_more}
+use Rattle.std.proofs.lemmas.List.FromFn.{map-range_with_len_more}
 use Rattle.matroid_theory.specs.Rep.{Rep, size, count, matrix}
 use Rattle.matroid_theory.specs.Level.{followed_by}
 use Rattle.matroid_theory.proofs.Followed.{matrix_last}
+use Rattle.product_rep.proofs.PiecesLemmas.{room}
 use Rattle.extension.proofs.admissible.part.Goals as goal
-
--- there is room for one more code
-room : (f : ℕ → ℕ) (i r : ℕ) (part : List ℕ) → part ≡ map f (range_with_len 0 i) → i < r → r ≤ 6 → length part < 6
-room f i r part e l m = let n : length part ≡ i = ap (λ (xs : List ℕ). length xs) e ∙ length-map-range_with_len f 0 i in omega arith
 
 pub push-requires : goal.push-requires
 push-requires c = (

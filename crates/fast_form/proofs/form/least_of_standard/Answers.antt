@@ -1,15 +1,10 @@
 use Rattle.std.proofs.Common.{sym, subst}
 use Rattle.matroid_theory.specs.declared.Mode.TheVariants.{Linear}
-use Rattle.matroid_theory.specs.Rep.{Rep, KeepsLimits}
-use Rattle.matroid_theory.specs.Matroid.{Agrees, IsRepresentation}
 use Rattle.matroid_theory.specs.Order.{IsForm}
 use Rattle.matroid_theory.proofs.Equivalence.{equivalent-reflexive}
 use Rattle.form_search.proofs.Finish.{found_form, some_form}
-use Rattle.form_states.proofs.Shapes.{shaped}
+use Rattle.form_states.proofs.Shapes.{shaped, whole}
 use Rattle.fast_form.proofs.form.least_of_standard.Goals as goal
-
-whole : (M : Rep) → KeepsLimits M → Agrees M → IsRepresentation M
-whole M k a = record { some = (let f = k.fields in f.some); shaped = k.shaped; agrees = a }
 
 pub unreachable-requires : goal.unreachable-requires
 unreachable-requires c =

@@ -14,7 +14,7 @@ width_is M fields factors rank total h = λ t. h.rank_is t * h.factors_are t
 
 pub loop-j-init : goal.loop-j-init
 loop-j-init c =
-    unit_part c.args.rep.now c.args.numbers.now (some _ _ _ _ _ c.requires.shape) c.unit-form.result c.requires.class c.size.ensures.is_rep.shaped
+    unit_part c.args.rep.now c.args.numbers.now (some _ _ _ _ _ c.requires.shape) c.unit-form.result c.requires.class c.laws.ensures.shaped
     c.unit-form.ensures.standard
     (c.unit-form.ensures.shape ∙ (λ t. record { factors = c.factors.ensures t; rank = c.rank.ensures t; size = c.rank.ensures t }))
 

@@ -1,29 +1,11 @@
-use Rattle.std.proofs.Common.{◌≡◌, ◌≢◌, ◌+◌, ◌<◌, ◌≤◌, ℕ, Bool, true, false, List, length, slice_index, refl, sym, ◌∙◌, ap, subst, arith, rules}
-use Rattle.std.specs.Bool.{◌==◌}
-use Rattle.std.specs.Ordering.{ordering_index}
-use Rattle.std.specs.declared.cmp.Ordering.{Ordering}
-use Rattle.std.specs.declared.cmp.Ordering.TheVariants.{Less, Equal, Greater}
+use Rattle.std.proofs.Common.{◌≡◌, ◌+◌, ◌<◌, ℕ, true, false, List, length, sym, ◌∙◌, ap, subst, arith, rules}
 use Rattle.matroid_theory.specs.Field.{degree}
 use Rattle.matroid_theory.specs.Rep.{Shape, count, order}
 use Rattle.matroid_theory.proofs.Compared.{below_not_above, not_below_reversed}
-use Rattle.matroid_theory.proofs.Semilinear.{IsLeastBelow, raised_agrees, least_linear, least_first, least_kept, least_replaced}
+use Rattle.matroid_theory.proofs.Semilinear.{IsLeastBelow, raised_agrees, least_linear, least_first, least_kept, least_replaced, factor_below, power_below}
+use Rattle.matroid_theory.proofs.Orderings.{is_less, is_not_less}
 use Rattle.fast_form.proofs.modes.+least_from.Goals as goal
 use Rattle.fast_form.proofs.modes.+least_from.Goals.{then-eq, else-eq}
-
--- the test that one is below the other
-is_less : (r : Ordering) → (ordering_index r == 0) ≡ true → r ≡ Less
-is_less Less e = refl
-is_less Equal e = cc
-is_less Greater e = cc
-
-is_not_less : (r : Ordering) → (ordering_index r == 0) ≡ false → r ≢ Less
-is_not_less Less e h = cc
-is_not_less Equal e h = cc
-is_not_less Greater e h = cc
-
--- there is such a factor
-factor_below : (f n m : ℕ) → f ≤ m → n ≡ m → f ≢ n → f < m
-factor_below f n m b e d = omega arith
 
 pub returns-then-factor-count : goal.returns-then-factor-count
 returns-then-factor-count t c =
@@ -41,13 +23,12 @@ pub least_from-other-requires : goal.least_from-other-requires
 least_from-other-requires t c =
     let n : c.count.result ≡ count c.args.rep.now = c.count.ensures.count ∙ ap (λ (fs : List ℕ). length fs) c.factors-factors.ensures in
     let l : c.args.factor < count c.args.rep.now = factor_below _ _ _ c.requires.factor n c.if-factor-count.false in
-    let d : c.degree-power-end.result ≡ degree (order c.args.rep.now c.args.factor) =
-    c.degree-power-end.ensures ∙ ap degree (c.field-field.ensures ∙ ap (λ (fs : List ℕ). slice_index fs c.args.factor) c.factors-factors.ensures) in
     let e : count c.raised.result ≡ count c.args.rep.now = ap (λ (S : Shape). length S.factors) c.raised.ensures.same_shape in (
       first_of (omega arith, search rules),
       (
         raised_agrees c.args.rep.now c.args.factor c.loop-power.power c.raised.result c.laws.ensures.shaped l c.raised.ensures
-            (subst (λ (x : ℕ). c.loop-power.power < x) d c.loop-power-test.true) c.requires.agrees,
+            (power_below c.args.rep.now c.args.factor c.loop-power.power c.field-field.result c.degree-power-end.result c.factors-factors.result
+            c.degree-power-end.ensures c.field-field.ensures c.factors-factors.ensures c.loop-power-test.true) c.requires.agrees,
         omega arith,
       ),
     )
@@ -56,9 +37,9 @@ pub loop-power-preserved : goal.loop-power-preserved
 loop-power-preserved t c =
     let n : c.count.result ≡ count c.args.rep.now = c.count.ensures.count ∙ ap (λ (fs : List ℕ). length fs) c.factors-factors.ensures in
     let l : c.args.factor < count c.args.rep.now = factor_below _ _ _ c.requires.factor n c.if-factor-count.false in
-    let e : c.degree-power-end.result ≡ degree (order c.args.rep.now c.args.factor) =
-    c.degree-power-end.ensures ∙ ap degree (c.field-field.ensures ∙ ap (λ (fs : List ℕ). slice_index fs c.args.factor) c.factors-factors.ensures) in
-    let d : c.loop-power.power < degree (order c.args.rep.now c.args.factor) = subst (λ (x : ℕ). c.loop-power.power < x) e c.loop-power-test.true in
+    let d : c.loop-power.power < degree (order c.args.rep.now c.args.factor) =
+    power_below c.args.rep.now c.args.factor c.loop-power.power c.field-field.result c.degree-power-end.result c.factors-factors.result
+    c.degree-power-end.ensures c.field-field.ensures c.factors-factors.ensures c.loop-power-test.true in
     elim c.if-eq.branch [
       | then-eq w ↦
           subst (IsLeastBelow c.args.factor (c.loop-power.power + 1) c.args.rep.now) (sym w.best-is)

@@ -1,18 +1,10 @@
-use Rattle.std.proofs.Common.{◌≡◌, ◌≢◌, ◌<◌, ◌≤◌, ℕ, true, List, length, slice_index, sym, ◌∙◌, ap, subst, arith, rules}
+use Rattle.std.proofs.Common.{◌≡◌, ◌≢◌, ◌<◌, ℕ, true, List, length, sym, ◌∙◌, ap, arith, rules}
 use mathlib.Core.Bool.{true≢false}
 use Rattle.matroid_theory.specs.Field.{degree}
-use Rattle.matroid_theory.specs.Rep.{Rep, Shape, count, order}
-use Rattle.matroid_theory.proofs.Semilinear.{raised_agrees, raised_standard}
+use Rattle.matroid_theory.specs.Rep.{Shape, count, order}
+use Rattle.matroid_theory.proofs.Semilinear.{raised_agrees, raised_standard, factor_below, power_below}
 use Rattle.fast_form.proofs.OwnForms.{one_power, not_one_power}
 use Rattle.fast_form.proofs.own.+is_least_from.Goals as goal
-
--- there is such a factor
-factor_below : (f n m : ℕ) → f ≤ m → n ≡ m → f ≢ n → f < m
-factor_below f n m b e d = omega arith
-
--- the power is below the degree
-power_below : (M : Rep) (f t q n : ℕ) (factors : List ℕ) → n ≡ degree q → q ≡ slice_index factors f → factors ≡ M.factors → t < n → t < degree (order M f)
-power_below M f t q n factors d e fs l = subst (λ (x : ℕ). t < x) (d ∙ ap degree (e ∙ ap (λ (fs : List ℕ). slice_index fs f) fs)) l
 
 pub is_least_from-requires : goal.is_least_from-requires
 is_least_from-requires t c =

@@ -1,12 +1,8 @@
 use Rattle.std.proofs.Common.{◌≢◌, ◌↔◌, true, false, sym, ◌∙◌}
 use mathlib.Core.Bool.{true≢false}
-use Rattle.matroid_theory.specs.Rep.{Rep, KeepsLimits}
-use Rattle.matroid_theory.specs.Matroid.{Agrees, IsRepresentation}
 use Rattle.fast_form.proofs.OwnForms.{form_enough, equal_own, above_own}
+use Rattle.form_states.proofs.Shapes.{whole}
 use Rattle.fast_form.proofs.own.is_least_of.Goals as goal
-
-whole : (M : Rep) → KeepsLimits M → Agrees M → IsRepresentation M
-whole M k a = record { some = (let f = k.fields in f.some); shaped = k.shaped; agrees = a }
 
 both : {P Q R : Type 0} → P ↔ Q → Q ↔ R → P ↔ R
 both a b = (λ p. b.0 (a.0 p), λ r. a.1 (b.1 r))

@@ -1,14 +1,9 @@
-use Rattle.std.proofs.Common.{◌≡◌, ◌<◌, ◌≤◌, ◌∷◌, [], ℕ, zero, suc, List, length, slice_index, sym, ◌∙◌, ap, subst, arith}
+use Rattle.std.proofs.Common.{◌≡◌, ◌<◌, ◌≤◌, ◌∷◌, [], ℕ, List, length, slice_index, sym, ◌∙◌, ap, subst, arith}
 use Rattle.matroid_theory.specs.Field.{IsOrder}
 use Rattle.matroid_theory.specs.Rep.{count, order}
 use Rattle.matroid_theory.proofs.FieldLaws.{field_laws, order_most}
+use Rattle.form_states.proofs.Shapes.{by_three}
 use Rattle.fast_form.proofs.start.shape_of.Goals as goal
-
-by_three : (P : ℕ → Type 0) → P 0 → P 1 → P 2 → (f : ℕ) → f < 3 → P f
-by_three P a b c zero l = a
-by_three P a b c (suc zero) l = b
-by_three P a b c (suc (suc zero)) l = c
-by_three P a b c (suc (suc (suc f))) l = absurd (omega arith)
 
 more_than_one : (q : ℕ) → IsOrder q → 1 < q
 more_than_one q o = let F = field_laws q o in F.two

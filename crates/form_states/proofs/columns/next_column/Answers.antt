@@ -1,6 +1,6 @@
 use Rattle.std.proofs.Common.{◌≡◌, ◌<◌, ◌≤◌, ℕ, List, slice_index, sym, ◌∙◌, ap, arith}
 use Rattle.matroid_theory.specs.Field.{times}
-use Rattle.form_trails.specs.Pivot.{exchange}
+use Rattle.matroid_theory.specs.Exchange.{exchange}
 use Rattle.form_states.specs.Codes.{code, cleared_code, IsNormalisedFrom}
 use Rattle.form_states.proofs.columns.next_column.Goals as goal
 

@@ -1,7 +1,8 @@
-use Rattle.std.proofs.Common.{◌≡◌, ◌≢◌, inl, inr, ◌<◌, ℕ, [], ◌∷◌, refl, slice_index, sym, ◌∙◌, ap, subst, arith}
+use Rattle.std.proofs.Common.{◌≡◌, ◌≢◌, inl, inr, ◌<◌, ℕ, [], ◌∷◌, refl, slice_index, sym, ◌∙◌, ap, arith}
 use Rattle.std.proofs.lemmas.Bool.{cases_lt}
 use Rattle.matroid_theory.specs.Field.{times}
 use Rattle.form_states.specs.Codes.{code}
+use Rattle.form_states.proofs.Shapes.{by_three}
 use Rattle.form_states.proofs.columns.normalised_column.Goals as goal
 
 -- the first row that isn't 0 is one
@@ -11,19 +12,13 @@ same_lead c p q zp np zq nq = elim (cases_lt p q) [
   | inr g ↦ elim (cases_lt q p) [ inl l ↦ absurd (nq (zp q l)) | inr g' ↦ omega arith ]
 ]
 
-three : (P : ℕ → Type 0) → P 0 → P 1 → P 2 → (f : ℕ) → f < 3 → P f
-three P a b c f l = elim (cases_lt f 1) [
-  | inl q ↦ (let e : 0 ≡ f = omega arith in subst P e a)
-  | inr q ↦ elim (cases_lt f 2) [ inl r ↦ (let e : 1 ≡ f = omega arith in subst P e b) | inr r ↦ (let e : 2 ≡ f = omega arith in subst P e c) ]
-]
-
 pub returns-then-p-shape-clause-normalised : goal.returns-then-p-shape-clause-normalised
 returns-then-p-shape-clause-normalised c = record {
   multiple = λ _. 1;
   multiple_code = λ f l. c.requires.limits.scalars f l;
   multiple_nonzero = λ f l e. absurd (omega arith);
   multiples = λ f i l b. c.multiplied_column.ensures.products f i l b
-      ∙ three (λ f. times (slice_index c.args.shape.now.fields f) (slice_index (1 ∷ (1 ∷ (1 ∷ []))) f) (code c.args.column.now f i) ≡ times
+      ∙ by_three (λ f. times (slice_index c.args.shape.now.fields f) (slice_index (1 ∷ (1 ∷ (1 ∷ []))) f) (code c.args.column.now f i) ≡ times
       (slice_index c.args.shape.now.fields f) 1 (code c.args.column.now f i)) refl refl refl
       f (omega (arith, c.requires.limits.few));
   leads = λ p b z n. absurd (n (c.lead-p.ensures.zeros p (omega (arith, c.if-p-shape.true))));

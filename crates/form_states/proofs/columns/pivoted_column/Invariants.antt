@@ -1,6 +1,6 @@
 use Rattle.std.proofs.Common.{◌≡◌, ◌<◌, ℕ, length}
 use Rattle.form_states.specs.Codes.{AreColumnCodes, code, cleared_code}
-use Rattle.form_trails.specs.Pivot.{exchange}
+use Rattle.matroid_theory.specs.Exchange.{exchange}
 use Rattle.form_states.proofs.columns.pivoted_column.Given as goal
 
 abbrev pub invariant-loop-i : goal.invariant-loop-i

@@ -1,6 +1,6 @@
 use Rattle.std.proofs.Common.{◌≡◌, ◌<◌, ℕ, [], true, false, length, slice_index, slice_index_or}
 use Rattle.matroid_theory.specs.Field.{times}
-use Rattle.form_trails.specs.Pivot.{exchange}
+use Rattle.matroid_theory.specs.Exchange.{exchange}
 use Rattle.form_states.specs.Codes.{code, cleared_code, IsNormalisedFrom}
 use Rattle.form_states.specs.States.{AreColumns}
 use Rattle.form_states.proofs.lists.next_columns.Given as goal

@@ -1,5 +1,5 @@
 use Rattle.std.proofs.Common.{◌≡◌, ◌<◌, ℕ, [], true, false, length, slice_index_or}
-use Rattle.form_trails.specs.Pivot.{exchange}
+use Rattle.matroid_theory.specs.Exchange.{exchange}
 use Rattle.form_states.specs.Codes.{code, cleared_code}
 use Rattle.form_states.specs.States.{AreColumns}
 use Rattle.form_states.proofs.lists.pivoted_columns.Given as goal

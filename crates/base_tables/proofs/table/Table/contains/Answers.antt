@@ -3,7 +3,7 @@ use Rattle.std.specs.Bool.{◌==◌}
 use Rattle.std.specs.Int.{bit_at}
 use Rattle.std.specs.List.{Contains}
 use Rattle.std.proofs.lemmas.Nat.Bits.{shr_and_one}
-use Rattle.base_tables.specs.Tables.{has}
+use Rattle.matroid_theory.specs.Tables.{has}
 use Rattle.base_tables.proofs.TableMasks.{contains_masks}
 use Rattle.base_tables.proofs.table.Table.contains.Goals as goal
 

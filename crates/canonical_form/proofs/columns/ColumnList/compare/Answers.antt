@@ -1,6 +1,6 @@
 use Rattle.std.proofs.Common.{◌∙◌}
+use Rattle.small_lists.proofs.Orders.{lists_cmp}
 use Rattle.canonical_form.specs.Search.{columns_cmp}
-use Rattle.canonical_form.proofs.Orders.{lists_cmp}
 use Rattle.canonical_form.proofs.columns.ColumnList.compare.Goals as goal
 
 pub returns : goal.returns

@@ -1,10 +1,9 @@
 use Rattle.std.proofs.Common.{◌≡◌, ◌<◌, ◌≤◌, ◌+◌, ◌*◌, ℕ, [], ◌++◌, length, List, ◌∷◌, sym, ◌∙◌, ap, subst, arith, map, lit<}
 use Rattle.std.specs.List.{slice_index, range_with_len}
-use Rattle.std.proofs.lemmas.List.FromFn.{length-map-range_with_len}
 use Rattle.matroid_theory.specs.Rep.{Rep, size, count, matrix}
 use Rattle.product_rep.specs.declared.rep.Rep.TheInside.{Inside}
 use Rattle.product_rep.specs.Pieces.{matrices, KeepsRep}
-use Rattle.product_rep.proofs.PiecesLemmas.{column_below, place_within, place_below, factor_column-step}
+use Rattle.product_rep.proofs.PiecesLemmas.{column_below, place_within, place_below, factor_column-step, room}
 use Rattle.product_rep.proofs.rep.Rep.factor_column.Goals as goal
 
 -- the number of factors, as the function reads it
@@ -26,10 +25,6 @@ bounds-deref-j c =
     c.count-count.ensures.count c.deref.ensures.0 c.requires.column c.loop-i-test.true in
     let n : count c.args.self.now ≡ c.count-count.result = count_is _ _ _ c.self.view_is c.count-count.ensures.count in
     omega arith
-
--- there is room for one more code
-room : (f : ℕ → ℕ) (i r : ℕ) (column : List ℕ) → column ≡ map f (range_with_len 0 i) → i < r → r ≤ 6 → length column < 6
-room f i r column e l m = let n : length column ≡ i = ap (λ (xs : List ℕ). length xs) e ∙ length-map-range_with_len f 0 i in omega arith
 
 pub push-requires : goal.push-requires
 push-requires c = (lit< tt, room _ c.loop-i.i c.from-rank.result c.loop-i.column.items c.loop-i.invariant c.loop-i-test.true (omega arith))
