@@ -14,14 +14,14 @@ use Rattle.extension.proofs.Followers.{rep_followed}
 use Rattle.extension.proofs.Multiples.{multiple_dependent, apart_independent}
 
 -- a column of one factor, in a list
-column_at : (M : Rep) (f j i : ℕ) (w : List ℕ) → w ≡ column_of M f j → i < M.rank → slice_index w i ≡ matrix M f i j
+pub column_at : (M : Rep) (f j i : ℕ) (w : List ℕ) → w ≡ column_of M f j → i < M.rank → slice_index w i ≡ matrix M f i j
 column_at M f j i w e l = ap (λ (xs : List ℕ). slice_index xs i) e
     ∙ get_or-map-range_with_len (λ i. matrix M f i j) 0 M.rank i i 0 l (let e : 0 + i ≡ i = omega arith in e)
 
-column_rows : (M : Rep) (f j : ℕ) (w : List ℕ) → w ≡ column_of M f j → length w ≡ M.rank
+pub column_rows : (M : Rep) (f j : ℕ) (w : List ℕ) → w ≡ column_of M f j → length w ≡ M.rank
 column_rows M f j w e = ap (λ (xs : List ℕ). length xs) e ∙ length-map-range_with_len (λ i. matrix M f i j) 0 M.rank
 
-column_is : (M : Rep) → KeepsLimits M → (f j : ℕ) → f < count M → j < size M → (q : ℕ) → q ≡ order M f → (w : List ℕ) →
+pub column_is : (M : Rep) → KeepsLimits M → (f j : ℕ) → f < count M → j < size M → (q : ℕ) → q ≡ order M f → (w : List ℕ) →
     w ≡ column_of M f j → IsColumn q M.rank w
 column_is M r f j l m q d w e = record {
   rows = column_rows M f j w e;
