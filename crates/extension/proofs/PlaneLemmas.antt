@@ -1,5 +1,6 @@
 -- A new column extends an independent set to a basis where it doesn't lie on the plane of the set.
-use Rattle.std.proofs.Common.{◌≡◌, ◌≢◌, ◌↔◌, ℕ, suc, ◌+◌, ◌^◌, ◌<◌, ◌≤◌, refl, sym, ◌∙◌, ap, subst, arith, cond, List, Bool, true, false, ◌||◌, inl, inr, [], ◌∷◌, ◌++◌, ◌*◌, ◌%◌, length, length-append, slice_index, slice_index_or, bit_or, w16}
+use Rattle.std.proofs.Common.{◌≡◌, ◌≢◌, ◌↔◌, ℕ, suc, ◌+◌, ◌^◌, ◌<◌, ◌≤◌, refl, sym, ◌∙◌, ap, subst, arith, cond, List}
+use Rattle.std.proofs.Common.{Bool, true, false, ◌||◌, inl, inr, [], ◌∷◌, ◌++◌, ◌*◌, ◌%◌, length, length-append, slice_index, slice_index_or, bit_or, w16}
 use Rattle.std.specs.Bool.{◌==◌}
 use Rattle.std.specs.Int.{bit_at}
 use Rattle.std.specs.List.{All}
@@ -24,7 +25,8 @@ use Rattle.matroid_theory.proofs.Invertible.{combination_zero}
 use Rattle.matroid_theory.proofs.Masks.{size-same, IsIndependent-same}
 use Rattle.matroid_theory.proofs.Picked.{size_more}
 use Rattle.matroid_theory.proofs.Ranks.{without_last, with_last, last_before, combination_last, last_coefficients, IsIndependent-codes, but, but_own, but_other}
-use Rattle.matroid_theory.proofs.Sums.{zero_below, sum_same, plus_zero_right, sum_one, sum_below-code, combination-product, times_zero, zero_times, same_number, other_number}
+use Rattle.matroid_theory.proofs.Sums.{zero_below, sum_same, plus_zero_right, sum_one, sum_below-code, combination-product}
+use Rattle.matroid_theory.proofs.Sums.{times_zero, zero_times, same_number, other_number}
 use Rattle.elimination.specs.Columns.{column, IsColumn, AreColumns}
 use Rattle.elimination.proofs.Lists.{column_before, column_last}
 use Rattle.extension.specs.declared.planes.Plane.{Plane}

@@ -8,7 +8,10 @@ use Rattle.extension.proofs.PlaneLemmas.{last_below, read_column, part_rows, row
 use Rattle.extension.proofs.agreement.lies_on.Goals as goal
 
 pub sum_of_products-requires-clause-count : goal.sum_of_products-requires-clause-count
-sum_of_products-requires-clause-count c = part_rows (followed_by c.args.rep.now c.args.new.now.items) (rep_followed c.args.rep.now c.args.new.now.items c.requires.is_rep c.requires.room c.requires.column) c.args.factor (size c.args.rep.now) c.requires.factor (last_below c.args.rep.now c.args.new.now.items)
+sum_of_products-requires-clause-count c =
+    part_rows (followed_by c.args.rep.now c.args.new.now.items)
+    (rep_followed c.args.rep.now c.args.new.now.items c.requires.is_rep c.requires.room c.requires.column)
+    c.args.factor (size c.args.rep.now) c.requires.factor (last_below c.args.rep.now c.args.new.now.items)
     c.field.result (c.field.ensures ∙ ap (λ (fs : List ℕ). slice_index fs c.args.factor) c.requires.factors)
     c.as_slice-2.result.now (read_column c.args.parts.now c.args.parts.now refl c.args.factor
     (let n : length c.args.parts.now ≡ count c.args.rep.now = c.requires.count in let l = c.requires.factor in omega arith)
@@ -20,7 +23,10 @@ sum_of_products-requires-clause-count c = part_rows (followed_by c.args.rep.now 
     c.index-deref-factor.result c.index-deref-factor.is c.as_slice.result.now c.as_slice.ensures.value)
 
 pub sum_of_products-requires-clause-left_codes : goal.sum_of_products-requires-clause-left_codes
-sum_of_products-requires-clause-left_codes c = row_codes (followed_by c.args.rep.now c.args.new.now.items) (rep_followed c.args.rep.now c.args.new.now.items c.requires.is_rep c.requires.room c.requires.column) c.args.factor (size c.args.rep.now) c.requires.factor (last_below c.args.rep.now c.args.new.now.items)
+sum_of_products-requires-clause-left_codes c =
+    row_codes (followed_by c.args.rep.now c.args.new.now.items)
+    (rep_followed c.args.rep.now c.args.new.now.items c.requires.is_rep c.requires.room c.requires.column)
+    c.args.factor (size c.args.rep.now) c.requires.factor (last_below c.args.rep.now c.args.new.now.items)
     c.field.result (c.field.ensures ∙ ap (λ (fs : List ℕ). slice_index fs c.args.factor) c.requires.factors)
     c.as_slice-2.result.now (read_column c.args.parts.now c.args.parts.now refl c.args.factor
     (let n : length c.args.parts.now ≡ count c.args.rep.now = c.requires.count in let l = c.requires.factor in omega arith)
@@ -32,7 +38,10 @@ sum_of_products-requires-clause-left_codes c = row_codes (followed_by c.args.rep
     c.index-deref-factor.result c.index-deref-factor.is c.as_slice.result.now c.as_slice.ensures.value)
 
 pub sum_of_products-requires-clause-right_codes : goal.sum_of_products-requires-clause-right_codes
-sum_of_products-requires-clause-right_codes c = part_codes (followed_by c.args.rep.now c.args.new.now.items) (rep_followed c.args.rep.now c.args.new.now.items c.requires.is_rep c.requires.room c.requires.column) c.args.factor (size c.args.rep.now) c.requires.factor (last_below c.args.rep.now c.args.new.now.items)
+sum_of_products-requires-clause-right_codes c =
+    part_codes (followed_by c.args.rep.now c.args.new.now.items)
+    (rep_followed c.args.rep.now c.args.new.now.items c.requires.is_rep c.requires.room c.requires.column)
+    c.args.factor (size c.args.rep.now) c.requires.factor (last_below c.args.rep.now c.args.new.now.items)
     c.field.result (c.field.ensures ∙ ap (λ (fs : List ℕ). slice_index fs c.args.factor) c.requires.factors)
     c.as_slice-2.result.now (read_column c.args.parts.now c.args.parts.now refl c.args.factor
     (let n : length c.args.parts.now ≡ count c.args.rep.now = c.requires.count in let l = c.requires.factor in omega arith)
@@ -47,7 +56,9 @@ pub returns : goal.returns
 returns c =
     let e : c.sum_of_products.result ≡ product (order c.args.rep.now c.args.factor) c.args.rep.now.rank
     (column c.args.plane.now.normals.items c.args.factor) (matrix (followed_by c.args.rep.now c.args.new.now.items) c.args.factor) (size c.args.rep.now) =
-    c.sum_of_products.ensures.sum ∙ product_is (followed_by c.args.rep.now c.args.new.now.items) (rep_followed c.args.rep.now c.args.new.now.items c.requires.is_rep c.requires.room c.requires.column) c.args.factor (size c.args.rep.now) c.requires.factor (last_below c.args.rep.now c.args.new.now.items)
+    c.sum_of_products.ensures.sum ∙ product_is (followed_by c.args.rep.now c.args.new.now.items)
+    (rep_followed c.args.rep.now c.args.new.now.items c.requires.is_rep c.requires.room c.requires.column)
+    c.args.factor (size c.args.rep.now) c.requires.factor (last_below c.args.rep.now c.args.new.now.items)
     c.field.result (c.field.ensures ∙ ap (λ (fs : List ℕ). slice_index fs c.args.factor) c.requires.factors)
     c.as_slice-2.result.now (read_column c.args.parts.now c.args.parts.now refl c.args.factor
     (let n : length c.args.parts.now ≡ count c.args.rep.now = c.requires.count in let l = c.requires.factor in omega arith)

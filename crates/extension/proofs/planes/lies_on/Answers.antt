@@ -7,7 +7,10 @@ use Rattle.extension.proofs.PlaneLemmas.{read_column, part_rows, row_codes, part
 use Rattle.extension.proofs.planes.lies_on.Goals as goal
 
 pub sum_of_products-requires-clause-count : goal.sum_of_products-requires-clause-count
-sum_of_products-requires-clause-count c = part_rows c.args.rep.now c.laws.ensures c.loop-factor.factor c.args.j (let n : c.count-factor-end.result ≡ count c.args.rep.now = c.count-factor-end.ensures.count ∙ ap (λ (fs : List ℕ). length fs) c.factors-factors.ensures in
+sum_of_products-requires-clause-count c =
+    part_rows c.args.rep.now c.laws.ensures c.loop-factor.factor c.args.j
+    (let n : c.count-factor-end.result ≡ count c.args.rep.now = c.count-factor-end.ensures.count
+    ∙ ap (λ (fs : List ℕ). length fs) c.factors-factors.ensures in
     omega arith) c.requires.column
     c.field.result (c.field.ensures ∙ ap (λ (fs : List ℕ). slice_index fs c.loop-factor.factor) c.factors-factors.ensures)
     c.as_slice-in-loop-factor.result.now (c.as_slice-in-loop-factor.ensures.value ∙ c.factor_column-part.ensures)
@@ -20,7 +23,10 @@ sum_of_products-requires-clause-count c = part_rows c.args.rep.now c.laws.ensure
     c.index-normals-factor.result c.index-normals-factor.is c.as_slice.result.now c.as_slice.ensures.value)
 
 pub sum_of_products-requires-clause-left_codes : goal.sum_of_products-requires-clause-left_codes
-sum_of_products-requires-clause-left_codes c = row_codes c.args.rep.now c.laws.ensures c.loop-factor.factor c.args.j (let n : c.count-factor-end.result ≡ count c.args.rep.now = c.count-factor-end.ensures.count ∙ ap (λ (fs : List ℕ). length fs) c.factors-factors.ensures in
+sum_of_products-requires-clause-left_codes c =
+    row_codes c.args.rep.now c.laws.ensures c.loop-factor.factor c.args.j
+    (let n : c.count-factor-end.result ≡ count c.args.rep.now = c.count-factor-end.ensures.count
+    ∙ ap (λ (fs : List ℕ). length fs) c.factors-factors.ensures in
     omega arith) c.requires.column
     c.field.result (c.field.ensures ∙ ap (λ (fs : List ℕ). slice_index fs c.loop-factor.factor) c.factors-factors.ensures)
     c.as_slice-in-loop-factor.result.now (c.as_slice-in-loop-factor.ensures.value ∙ c.factor_column-part.ensures)
@@ -33,7 +39,10 @@ sum_of_products-requires-clause-left_codes c = row_codes c.args.rep.now c.laws.e
     c.index-normals-factor.result c.index-normals-factor.is c.as_slice.result.now c.as_slice.ensures.value)
 
 pub sum_of_products-requires-clause-right_codes : goal.sum_of_products-requires-clause-right_codes
-sum_of_products-requires-clause-right_codes c = part_codes c.args.rep.now c.laws.ensures c.loop-factor.factor c.args.j (let n : c.count-factor-end.result ≡ count c.args.rep.now = c.count-factor-end.ensures.count ∙ ap (λ (fs : List ℕ). length fs) c.factors-factors.ensures in
+sum_of_products-requires-clause-right_codes c =
+    part_codes c.args.rep.now c.laws.ensures c.loop-factor.factor c.args.j
+    (let n : c.count-factor-end.result ≡ count c.args.rep.now = c.count-factor-end.ensures.count
+    ∙ ap (λ (fs : List ℕ). length fs) c.factors-factors.ensures in
     omega arith) c.requires.column
     c.field.result (c.field.ensures ∙ ap (λ (fs : List ℕ). slice_index fs c.loop-factor.factor) c.factors-factors.ensures)
     c.as_slice-in-loop-factor.result.now (c.as_slice-in-loop-factor.ensures.value ∙ c.factor_column-part.ensures)
@@ -47,7 +56,9 @@ sum_of_products-requires-clause-right_codes c = part_codes c.args.rep.now c.laws
 
 pub loop-factor-preserved : goal.loop-factor-preserved
 loop-factor-preserved c = one_more c.loop-factor.factor (LiesOnIn c.args.rep.now c.args.normals.now c.args.j) c.loop-factor.invariant
-    (sym (c.sum_of_products.ensures.sum ∙ product_is c.args.rep.now c.laws.ensures c.loop-factor.factor c.args.j (let n : c.count-factor-end.result ≡ count c.args.rep.now = c.count-factor-end.ensures.count ∙ ap (λ (fs : List ℕ). length fs) c.factors-factors.ensures in
+    (sym (c.sum_of_products.ensures.sum ∙ product_is c.args.rep.now c.laws.ensures c.loop-factor.factor c.args.j
+    (let n : c.count-factor-end.result ≡ count c.args.rep.now = c.count-factor-end.ensures.count
+    ∙ ap (λ (fs : List ℕ). length fs) c.factors-factors.ensures in
     omega arith) c.requires.column
     c.field.result (c.field.ensures ∙ ap (λ (fs : List ℕ). slice_index fs c.loop-factor.factor) c.factors-factors.ensures)
     c.as_slice-in-loop-factor.result.now (c.as_slice-in-loop-factor.ensures.value ∙ c.factor_column-part.ensures)
