@@ -37,7 +37,7 @@ module _ (M : Rep) (v : List ℕ) where
   new_before : (S : ℕ → Bool) (j : ℕ) → j < size M → with_new M S j ≡ S j
   new_before S j l = with_other (size M) S j (λ e. absurd (omega arith))
 
-  size_new : (S : ℕ → Bool) → size_below (size (followed_by M v)) (with_new M S) ≡ size_below (size M) S + 1
+  pub size_new : (S : ℕ → Bool) → size_below (size (followed_by M v)) (with_new M S) ≡ size_below (size M) S + 1
   size_new S =
       let a : size_below (suc (size M)) (with_new M S) ≡ suc (size_below (size M) (with_new M S)) = size_more (size M) (with_new M S) (new_last S) in
       let b : size_below (size M) (with_new M S) ≡ size_below (size M) S = size-same (size M) (with_new M S) S (new_before S) in
@@ -51,7 +51,7 @@ module _ (M : Rep) (v : List ℕ) where
 
   module _ (shaped : IsShaped M) where
     -- a set without the new column
-    in_whole : (f : ℕ) → f < count M → (T : ℕ → Bool) → T (size M) ≡ false → IsIndependentIn M f T → IsIndependentIn (followed_by M v) f T
+    pub in_whole : (f : ℕ) → f < count M → (T : ℕ → Bool) → T (size M) ≡ false → IsIndependentIn M f T → IsIndependentIn (followed_by M v) f T
     in_whole f l T e d = subst (λ n. IsIndependent (order M f) M.rank n (matrix (followed_by M v) f) T) (sym (size_followed M v))
         (without_last (order M f) (field_laws (order M f) (shaped.orders f l)) M.rank (size M) (matrix (followed_by M v) f) T e
         (IsIndependent-codes (order M f) M.rank (size M) (matrix M f) (matrix (followed_by M v) f) T (λ i j _ m. sym (matrix_before M v f i j m)) d))

@@ -13,7 +13,7 @@ use Rattle.product_rep.proofs.MoveLemmas.{column-entry, column-length}
 use Rattle.extension.proofs.Followers.{rep_followed}
 use Rattle.extension.proofs.Multiples.{multiple_dependent, apart_independent}
 
-column_is : (M : Rep) → KeepsLimits M → (f j : ℕ) → f < count M → j < size M → (q : ℕ) → q ≡ order M f → (w : List ℕ) →
+pub column_is : (M : Rep) → KeepsLimits M → (f j : ℕ) → f < count M → j < size M → (q : ℕ) → q ≡ order M f → (w : List ℕ) →
     w ≡ column_of M f j → IsColumn q M.rank w
 column_is M r f j l m q d w e = record {
   rows = column-length M f j w e;

@@ -1,2 +1,3 @@
 pub mod Admissible
+pub mod Planes
 pub mod Steps

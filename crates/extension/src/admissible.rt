@@ -1,4 +1,4 @@
-ghost use Rattle.std.specs.Prelude.{◌≡◌, ◌<◌, ◌+◌, ◌*◌, ◌^◌, ◌↔◌, ◌==◌, ◌||◌, ℕ, IsTrue, IsFalse, length, slice_index};
+ghost use Rattle.std.specs.Prelude.{◌≡◌, ◌<◌, ◌≤◌, ◌+◌, ◌*◌, ◌^◌, ◌↔◌, ◌==◌, ◌||◌, ℕ, IsTrue, IsFalse, length, slice_index};
 ghost use Rattle.elimination.specs.Columns.{IsColumn};
 ghost use Rattle.matroid_theory.specs.Field.{times};
 ghost use Rattle.matroid_theory.specs.Rep.{size, count, column_of, KeepsLimits, IsStandard, IsProductColumn};
@@ -7,27 +7,30 @@ ghost use Rattle.matroid_theory.specs.Matroid.{members, IsIndependentIn, IsSimpl
 ghost use Rattle.matroid_theory.specs.Level.{followed_by, IsNormalised};
 ghost use Rattle.column_sets.specs.Picked.{IsIndependentSet};
 ghost use Rattle.extension.specs.Admissible.{IsAdmissible};
+ghost use Rattle.extension.specs.Planes.{ArePlanes};
 ghost use Rattle.extension.specs.Steps.{with_new};
 
+use crate::agreement::is_alike_on;
 use crate::normalised::lead;
+use crate::planes::Planes;
 use arrayvec::ArrayVec;
 use bases::FactorColumns;
-use column_sets::first_of_size;
+use column_sets::{first_of_size, set_count};
 use field_tables::{Column, Field, Mask};
 use product_rep::{ProductColumn, Rep};
 
 /// Whether the representation followed by a normalised column is simple and its factors agree.
-pub fn is_admissible(rep: &Rep, column: &ProductColumn) -> bool
+pub fn is_admissible(rep: &Rep, planes: &Planes, column: &ProductColumn) -> bool
     requires standard { IsStandard rep.now }
     requires simple { IsSimple rep.now }
     requires agrees { Agrees rep.now }
     requires room { size rep.now < 16 }
+    requires planes { ArePlanes rep.now planes.now.list.items planes.now.from }
     requires normalised { IsNormalised rep.now.factors rep.now.rank column.now.items }
     ensures { IsTrue result ↔ IsAdmissible rep.now column.now.items }
 {
     rep.laws();
-    let count = rep.factors().count();
-    is_apart(rep, column) && (count == 1 || is_alike(rep, column))
+    is_alike(rep, planes, column) && is_apart(rep, column)
 }
 
 /// Whether in every factor the column is parallel to none of the representation.
@@ -91,7 +94,7 @@ fn is_multiple(field: Field, column: &[u8], of: &[u8], lead: usize) -> bool
 }
 
 /// One factor of the column.
-fn part(rep: &Rep, column: &ProductColumn, factor: usize) -> Column
+pub fn part(rep: &Rep, column: &ProductColumn, factor: usize) -> Column
     requires is_rep { KeepsLimits rep.now }
     requires factor { factor < count rep.now }
     requires column { IsProductColumn rep.now.factors rep.now.rank column.now.items }
@@ -106,8 +109,46 @@ fn part(rep: &Rep, column: &ProductColumn, factor: usize) -> Column
     part
 }
 
-/// Whether each set of one column fewer than the rank is, together with the column, independent in every factor or in none.
-fn is_alike(rep: &Rep, column: &ProductColumn) -> bool
+/// Whether each set of one column fewer than the rank is, together with the column, independent in every factor or in none:
+/// the planes tell, and where they don't cover all sets, these are tested one by one.
+fn is_alike(rep: &Rep, planes: &Planes, column: &ProductColumn) -> bool
+    requires agrees { Agrees rep.now }
+    requires room { size rep.now < 16 }
+    requires planes { ArePlanes rep.now planes.now.list.items planes.now.from }
+    requires column { IsProductColumn rep.now.factors rep.now.rank column.now.items }
+    ensures { IsTrue result ↔ ((X f : ℕ) → X < 2 ^ size rep.now → size_below (size rep.now) (members X) + 1 ≡ rep.now.rank →
+        f < count rep.now →
+        (IsIndependentIn (followed_by rep.now column.now.items) 0 (with_new rep.now (members X)) ↔
+        IsIndependentIn (followed_by rep.now column.now.items) f (with_new rep.now (members X)))) }
+{
+    rep.laws();
+    if rep.factors().count() == 1 {
+        return true;
+    }
+    is_alike_on(rep, planes.list.as_slice(), column) && is_alike_from(rep, planes.from, column)
+}
+
+/// Whether the sets whose masks aren't below `from` are so: none are left where the planes tell of all.
+fn is_alike_from(rep: &Rep, from: u32, column: &ProductColumn) -> bool
+    requires room { size rep.now < 16 }
+    requires column { IsProductColumn rep.now.factors rep.now.rank column.now.items }
+    ensures yes { IsTrue result → (X f : ℕ) → from ≤ X → X < 2 ^ size rep.now →
+        size_below (size rep.now) (members X) + 1 ≡ rep.now.rank → f < count rep.now →
+        (IsIndependentIn (followed_by rep.now column.now.items) 0 (with_new rep.now (members X)) ↔
+        IsIndependentIn (followed_by rep.now column.now.items) f (with_new rep.now (members X))) }
+    ensures all { ((X f : ℕ) → X < 2 ^ size rep.now → size_below (size rep.now) (members X) + 1 ≡ rep.now.rank →
+        f < count rep.now →
+        (IsIndependentIn (followed_by rep.now column.now.items) 0 (with_new rep.now (members X)) ↔
+        IsIndependentIn (followed_by rep.now column.now.items) f (with_new rep.now (members X)))) → IsTrue result }
+{
+    if from >= set_count(rep.size()) {
+        return true;
+    }
+    is_alike_one_by_one(rep, column)
+}
+
+/// The same of all sets, one by one.
+fn is_alike_one_by_one(rep: &Rep, column: &ProductColumn) -> bool
     requires room { size rep.now < 16 }
     requires column { IsProductColumn rep.now.factors rep.now.rank column.now.items }
     ensures { IsTrue result ↔ ((X f : ℕ) → X < 2 ^ size rep.now → size_below (size rep.now) (members X) + 1 ≡ rep.now.rank →

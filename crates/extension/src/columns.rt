@@ -3,10 +3,12 @@ ghost use Rattle.std.specs.Iterator.{at_most};
 ghost use Rattle.matroid_theory.specs.Rep.{size, KeepsLimits, IsStandard};
 ghost use Rattle.matroid_theory.specs.Matroid.{Agrees, IsSimple};
 ghost use Rattle.extension.specs.Admissible.{IsNextColumn, IsLastColumn, GivesNext, value, above_values};
+ghost use Rattle.extension.specs.Planes.{ArePlanes};
 ghost use Rattle.extension.specs.Steps.{IsStart, KeepsColumns};
 
 use crate::admissible::is_admissible;
 use crate::normalised::following;
+use crate::planes::{Planes, planes_of};
 use product_rep::{ProductColumn, Rep};
 use small_lists::list_of;
 use std::marker::Model;
@@ -17,18 +19,21 @@ use std::marker::Model;
 #[derive(Drop)]
 pub struct Columns {
     rep: Rep,
+    planes: Planes,
     last: ProductColumn,
 }
 
 impl Model for Columns {
     ghost use Rattle.extension.specs.Admissible.{ColumnsAfter};
+    ghost use Rattle.extension.specs.Planes.{ArePlanes};
     ghost use Rattle.extension.specs.Steps.{KeepsColumns};
 
     ghost Value = { ColumnsAfter };
 
     ghost view = { λ columns. record { parent = columns.rep; last = columns.last.items } };
 
-    ghost invariant = { λ columns. KeepsColumns (record { parent = columns.rep; last = columns.last.items }) };
+    ghost invariant = { λ columns. KeepsColumns (record { parent = columns.rep; last = columns.last.items })
+        × ArePlanes columns.rep columns.planes.list.items columns.planes.from };
 }
 
 impl Columns {
@@ -43,6 +48,7 @@ impl Columns {
         rep.laws();
         Columns {
             rep: rep.copy(),
+            planes: planes_of(rep),
             last: ProductColumn::new(),
         }
     }
@@ -56,15 +62,16 @@ impl Iterator for Columns {
     ghost remaining = { λ columns. at_most (above_values - value columns.last) };
 
     fn next(&mut self) -> Option<ProductColumn> {
-        let column = next_column(&self.rep, &self.last)?;
+        let column = next_column(&self.rep, &self.planes, &self.last)?;
         self.last = list_of(column.as_slice());
         Some(column)
     }
 }
 
 /// The first admissible column after the last one.
-fn next_column(rep: &Rep, last: &ProductColumn) -> Option<ProductColumn>
-    requires { KeepsColumns (record { parent = rep.now; last = last.now.items }) }
+fn next_column(rep: &Rep, planes: &Planes, last: &ProductColumn) -> Option<ProductColumn>
+    requires keeps { KeepsColumns (record { parent = rep.now; last = last.now.items }) }
+    requires planes { ArePlanes rep.now planes.now.list.items planes.now.from }
     ensures { MatchOption result (IsLastColumn (record { parent = rep.now; last = last.now.items }))
         (λ v. IsNextColumn (record { parent = rep.now; last = last.now.items }) v.items) }
 {
@@ -72,7 +79,7 @@ fn next_column(rep: &Rep, last: &ProductColumn) -> Option<ProductColumn>
     let rank = rep.rank();
     let mut before: ProductColumn = list_of(last.as_slice());
     while let Some(column) = following(&factors, rank, before.as_slice()) {
-        if is_admissible(rep, &column) {
+        if is_admissible(rep, planes, &column) {
             return Some(column);
         }
         before = column;

@@ -6,8 +6,11 @@
 #![tactic(auto)]
 
 mod admissible;
+mod agreement;
 mod columns;
 pub mod laws;
 mod normalised;
+mod normals;
+mod planes;
 
 pub use columns::Columns;

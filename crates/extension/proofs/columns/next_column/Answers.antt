@@ -23,7 +23,7 @@ next_one c = step _ _ _ _ c.loop-column.before.items c.as_slice-in-loop-column.r
 pub loop-column-smaller : goal.loop-column-smaller
 loop-column-smaller c =
     let n = next_one ((goal.at.loop-column-smaller c).In-Some) in
-    let r = c.requires.is_rep in
+    let r = c.requires.keeps.is_rep in
     nearer c.args.rep.now.factors r.fields c.args.rep.now.rank r.rank_most c.loop-column.before.items c.in-Some.column.items
     c.loop-column.invariant.start n.normalised n.after
 

@@ -16,7 +16,7 @@ progress columns now v last e d k n =
 
 pub returns-clause-goes : goal.returns-clause-goes
 returns-clause-goes c = record {
-  on = λ _. (tt, tt, progress _ _ _ _ c.self.view_is (c.list_of-self-inside.ensures ∙ c.as_slice.ensures.value) c.self.invariant c.in_ok-column.ensures);
+  on = λ _. (tt, tt, progress _ _ _ _ c.self.view_is (c.list_of-self-inside.ensures ∙ c.as_slice.ensures.value) c.self.invariant.0 c.in_ok-column.ensures);
   keeps = tt;
   rests = λ _. tt;
 }
