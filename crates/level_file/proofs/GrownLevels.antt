@@ -1,5 +1,5 @@
 -- What the listing tells of a level that was grown, where there is no filter and forms are printed.
-use Rattle.std.proofs.Common.{◌≡◌, ◌∙◌, ℕ, ◌+◌, List, [], ◌∷◌, ◌++◌, map, length, false, Bool, Option, None, Some, refl, ap}
+use Rattle.std.proofs.Common.{◌≡◌, ◌∙◌, ℕ, List, [], ◌∷◌, ◌++◌, map, length, false, Bool, Option, None, Some, refl, ap}
 use Rattle.std.specs.Prelude.{option_to_list, IsTrue, IfSome}
 use Rattle.std.specs.List.{concat}
 use Rattle.std.proofs.lemmas.List.{length-map}

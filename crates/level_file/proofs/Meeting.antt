@@ -1,11 +1,10 @@
 -- From the bytes that two texts have in common to pieces, and from pieces to those behind them.
 use mathlib.Core.Bool.{true≢false}
-use Rattle.std.proofs.Common.{Bool, true, false, ◌==◌, inl, inr, eqb-true, eq-eqb, ◌≡◌, ◌≢◌, ◌∙◌, ℕ, ◌+◌, ◌<◌, List, [], ◌∷◌, ◌++◌, length, take, drop, get_or, refl, sym, ap, subst, arith, append_assoc, length-append, length-drop, take-append-drop}
-use Rattle.std.proofs.lemmas.List.{append-nil, take_all, drop_more, nil_from_length}
+use Rattle.std.proofs.Common.{Bool, true, false, ◌==◌, inl, inr, eqb-true, eq-eqb, ◌≡◌, ◌≢◌, ◌∙◌, ℕ, ◌+◌, ◌<◌, List, [], ◌∷◌, ◌++◌, length, take, drop, get_or, sym, ap, subst, arith, append_assoc, length-append, take-append-drop}
+use Rattle.std.proofs.lemmas.List.{append-nil, drop_more}
 use Rattle.std.proofs.lemmas.Bool.{cases_eq}
 use Rattle.formats.specs.Listing.{end_text}
-use Rattle.formats.specs.Levels.{IsProperFront}
-use Rattle.resume_formats.specs.Fronts.{BeginsWith, PartHere}
+use Rattle.resume_formats.specs.Fronts.{PartHere}
 use Rattle.level_file.specs.declared.compare.Unmet.{Unmet}
 use Rattle.level_file.specs.declared.compare.Unmet.TheVariants.{Ends, Parts}
 use Rattle.level_file.specs.Compared.{PartsWith, IsUnmet}
@@ -21,23 +20,6 @@ nothing_left b n e t = eqb-true n 0 (sym e ∙ t)
 -- ---- two texts with so many bytes in common
 
 module _ (rest piece : List ℕ) (k : ℕ) (same : take k rest ≡ take k piece) where
-  begins : (rest ≡ take k piece ++ drop k rest)
-  begins = sym (take-append-drop k rest) ∙ ap (λ (t : List ℕ). t ++ drop k rest) same
-
-  -- the piece is there
-  pub met_whole : k ≡ length piece → rest ≡ piece ++ drop k rest
-  met_whole all = begins ∙ ap (λ (t : List ℕ). t ++ drop k rest) (take_all k piece (omega arith))
-
-  -- it ends within the piece
-  pub met_end : k < length piece → length (drop k rest) ≡ 0 → IsProperFront rest piece
-  met_end short none = record {
-    rest = drop k piece;
-    split = sym (take-append-drop k piece)
-        ∙ ap (λ (t : List ℕ). t ++ drop k piece)
-        (sym (begins ∙ ap (λ (t : List ℕ). take k piece ++ t) (nil_from_length (drop k rest) none) ∙ append-nil (take k piece)));
-    proper = omega (arith, length-drop k piece);
-  }
-
   -- they part
   pub met_parts : (left : ℕ) → k < length rest → k < length piece → get_or rest k 0 ≢ get_or piece k 0 → left ≡ length (drop k rest)
       → (more : List ℕ) → PartsWith left rest (piece ++ more)
@@ -86,26 +68,6 @@ unmet_after rest a after piece (Parts left) is unmet =
     λ more. subst (λ (t : List ℕ). PartsWith left rest t) (sym (append_assoc a piece more)) (parts_after left rest a after (piece ++ more) is (unmet more))
 
 -- ---- the end line
-
-parts_past : (after : List ℕ) → 0 < length after → PartHere after []
-parts_past [] some = omega arith
-parts_past (x ∷ after) some = tt
-
--- what goes on behind it
-pub past_end : (rest after : List ℕ) → 0 < length after → rest ≡ end_text ++ after → PartsWith (length after) rest end_text
-past_end rest after some is = record {
-  common = end_text;
-  mine = after;
-  others = [];
-  text_is = is;
-  other_is = sym (append-nil end_text);
-  parts = parts_past after some;
-  left_is = refl;
-}
-
-pub at_end : (rest after : List ℕ) → length after ≡ 0 → rest ≡ end_text ++ after → BeginsWith end_text rest
-at_end rest after none is =
-    ([], sym (append-nil end_text) ∙ sym (is ∙ ap (λ (t : List ℕ). end_text ++ t) (nil_from_length after none)) ∙ sym (append-nil rest))
 
 pub parts_from_end : (rest : List ℕ) (left : ℕ) → IsUnmet rest end_text (Parts left) → PartsWith left rest end_text
 parts_from_end rest left unmet = subst (λ (t : List ℕ). PartsWith left rest t) (append-nil end_text) (unmet [])

@@ -1,5 +1,5 @@
 // Levels in a list.
-ghost use Rattle.std.specs.Prelude.{◌≡◌, [], ◌∷◌, ◌++◌, length, slice_get, OnOk, OnErr};
+ghost use Rattle.std.specs.Prelude.{◌≡◌, [], ◌∷◌, ◌++◌, length, slice_get, MatchOption, OnOk, OnErr};
 ghost use Rattle.std.specs.Option.{option_copied};
 
 use level_driver::Level;
@@ -43,6 +43,16 @@ impl LevelList {
         ensures { option_copied result ≡ slice_get self.now i }
     {
         self.levels.get(i)
+    }
+
+    /// Takes the first level out, where there is one.
+    pub fn take_first(&mut self) -> Option<Level>
+        ensures { MatchOption result ((self.old ≡ []) × (self.new ≡ [])) (λ level. self.old ≡ level ∷ self.new) }
+    {
+        if self.levels.is_empty() {
+            return None;
+        }
+        Some(self.levels.remove(0))
     }
 
     /// Adds a level at the end. Where there was no memory, the list is as it was, and the level is dropped.

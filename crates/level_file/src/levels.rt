@@ -8,8 +8,9 @@ ghost use Rattle.level_file.specs.Started.{AreWholeLevels, IsBroken};
 
 use crate::LevelList;
 use crate::compare::{Unmet, meet, parts_at_end};
-use level_driver::{FormList, Level, first_level, grow_alone};
+use level_driver::{FormList, Level, first_level};
 use lister::{form_text, head_text, level_text};
+use orderly::next_level;
 use request_reader::Request;
 use std::alloc::{AllocError, Global};
 
@@ -22,8 +23,8 @@ pub(crate) enum Broken {
     NoMemory,
 }
 
-/// The level of a request after those from its rank up.
-fn next_level(alloc: Global, request: &Request, levels: &LevelList) -> Result<Level, AllocError>
+/// The level of a request after those from its rank up, by orderly generation.
+fn level_after(alloc: Global, request: &Request, levels: &LevelList) -> Result<Level, AllocError>
     requires grown { AreGrown request.now request.now.rank levels.now }
     requires room { length levels.now < level_count request.now }
     ensures { IfOk result (λ level. IsGrown request.now (request.now.rank + length levels.now) level) }
@@ -34,7 +35,7 @@ fn next_level(alloc: Global, request: &Request, levels: &LevelList) -> Result<Le
         return first_level(alloc, request);
     }
     match levels.get(count - 1) {
-        Some(last) => grow_alone(alloc, request, &last.forms),
+        Some(last) => next_level(alloc, request, &last.forms),
         None => unreachable!(),
     }
 }
@@ -88,7 +89,7 @@ pub(crate) fn read_levels(
         if rest.is_empty() {
             return Ok(levels);
         }
-        let Ok(level) = next_level(alloc, request, &levels) else {
+        let Ok(level) = level_after(alloc, request, &levels) else {
             return Err(Broken::NoMemory);
         };
         match meet_level(rest, size, &level) {

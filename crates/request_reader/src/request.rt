@@ -3,7 +3,7 @@ ghost use Rattle.matroid_theory.specs.Minor.{Matroid};
 ghost use Rattle.matroid_theory.specs.Field.{IsFactors};
 ghost use Rattle.formats.specs.Levels.{AreGivenBy};
 ghost use Rattle.formats.specs.Minors.{given_as};
-ghost use Rattle.formats.specs.Request.{IsWithinLimits};
+ghost use Rattle.formats.specs.Request.{IsWithinLimits, IsSizeInRange};
 ghost use Rattle.request_reader.specs.Filters.{wanted_of, wanted_matroid, IsWantedGiven};
 ghost use Rattle.request_reader.specs.Requested.{asked_request, counting_request, minors_of, AreGiven, AreNames, IsRequestOfVersion};
 ghost use Rattle.request_reader.specs.Limits.{IsLate};
@@ -128,6 +128,15 @@ impl Request {
             filters: Filters::new(),
             print: PrintMode::Counts,
         }
+    }
+
+    /// The same request up to another last size, from its rank to 16.
+    pub fn with_size(mut self, size: u8) -> Request
+        requires { IsSizeInRange self.rank size }
+        ensures { result ≡ record self { size = size } }
+    {
+        self.size = size;
+        self
     }
 
     /// What is printed of a level beside its numbers.

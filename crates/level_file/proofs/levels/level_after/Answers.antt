@@ -7,7 +7,7 @@ use Rattle.level_driver.specs.Grown.{IsParentLevel}
 use Rattle.formats.specs.Listing.{level_count}
 use Rattle.level_file.specs.Grown.{AreGrown}
 use Rattle.level_file.proofs.KnownLevels.{grown_at, not_past, next_grown}
-use Rattle.level_file.proofs.levels.next_level.Goals as goal
+use Rattle.level_file.proofs.levels.level_after.Goals as goal
 
 -- the last level is one before the last of the request
 is_parent : (q : Request) (levels : List Level) (count : ℕ) (last : Level) → AreGrown q q.rank levels → length levels < level_count q → count ≡ length levels
@@ -18,8 +18,8 @@ is_parent q levels count last grown room is some at = record {
   level = (let g = grown_at q q.rank levels last grown (count - 1) at in g.forms);
 }
 
-pub grow_alone-requires : goal.grow_alone-requires
-grow_alone-requires c =
+pub next_level-requires : goal.next_level-requires
+next_level-requires c =
     let q = c.args.request.now in
     let count = c.len-count.result in (
       q.rank + (count - 1),
@@ -37,7 +37,7 @@ pub returns : goal.returns
 returns c =
     let q = c.args.request.now in
     let count = c.len-count.result in
-    next_grown q (q.rank + (count - 1)) (q.rank + length c.args.levels.now) c.in-Some.last.now.forms c.grow_alone.result
+    next_grown q (q.rank + (count - 1)) (q.rank + length c.args.levels.now) c.in-Some.last.now.forms c.next_level.result
     (is_parent q c.args.levels.now count c.in-Some.last.now c.requires.grown c.requires.room c.len-count.ensures c.if-count-eq0.false
     (sym c.get.ensures ∙ ap option_copied c.in-Some.is))
-    (omega (arith, c.len-count.ensures, c.if-count-eq0.false)) c.grow_alone.ensures.forms c.grow_alone.ensures.tried
+    (omega (arith, c.len-count.ensures, c.if-count-eq0.false)) c.next_level.ensures.forms c.next_level.ensures.tried
