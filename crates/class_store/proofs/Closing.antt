@@ -1,8 +1,9 @@
 -- A level while it is closed.
 use Rattle.std.proofs.Common.{◌≡◌, ℕ, zero, suc, ◌<◌, List, [], ◌∷◌, ◌++◌, map, length, take, drop, slice_get, slice_set, slice_index_or, refl, ap, sym, ◌∙◌, subst, arith, Some, Contains, append_assoc}
 use Rattle.std.specs.List.{AllByRecursion}
-use Rattle.std.proofs.lemmas.List.{map-set}
+use Rattle.std.proofs.lemmas.List.{map-set, length-map}
 use Rattle.std.proofs.Math.Seq.{map-set_same}
+use Rattle.list_lemmas.proofs.Lists.{all_push}
 use Rattle.atomic_table.specs.Seated.{TableId}
 use Rattle.stripe_book.specs.declared.view.Phase.TheVariants.{Idle}
 use Rattle.stripe_book.specs.Seen.{BookSide, CallerSide, TableSide}
@@ -44,38 +45,12 @@ one_more_taken tables taken more n m s is e here next = ap tables_in e
     snoc (y ∷ ys) x = ap (λ l. y.book.table ∷ l) (snoc ys x)
 
 -- ---- lists
-pub all_snoc : {A : Type 0} (P : A → Type 0) (xs : List A) (x : A) → AllByRecursion P xs → P x → AllByRecursion P (xs ++ x ∷ [])
-all_snoc P [] x all p = (p, tt)
-all_snoc P (y ∷ ys) x all p = (all.0, all_snoc P ys x all.1 p)
-
-all_mid : {A : Type 0} (P : A → Type 0) (xs ys : List A) (x : A) → AllByRecursion P (xs ++ x ∷ ys) → P x
-all_mid P [] ys x all = all.0
-all_mid P (z ∷ zs) ys x all = all_mid P zs ys x all.1
-
-all_at : {A : Type 0} (P : A → Type 0) (xs : List A) (k : ℕ) (x : A) → AllByRecursion P xs → slice_get xs k ≡ Some x → P x
-all_at P [] k x all e = absurd (cc e)
-all_at P (y ∷ ys) zero x all e = let same : y ≡ x = cc e in subst P same all.0
-all_at P (y ∷ ys) (suc k) x all e = all_at P ys k x all.1 e
-
-all_of : {A : Type 0} (P : A → Type 0) (xs : List A) (k : ℕ) (x : A) → AllByRecursion P xs → k < length xs → slice_index_or xs k x ≡ x → P x
-all_of P [] k x all lt e = absurd (omega arith)
-all_of P (y ∷ ys) zero x all lt e = subst P e all.0
-all_of P (y ∷ ys) (suc k) x all lt e = all_of P ys k x all.1 (omega arith) e
-
-all_map : {A : Type 0} (P Q : A → Type 0) (xs : List A) → ((x : A) → P x → Q x) → AllByRecursion P xs → AllByRecursion Q xs
-all_map P Q [] f all = tt
-all_map P Q (x ∷ xs) f all = (f x all.0, all_map P Q xs f all.1)
-
 pub one_at : {A B C : Type 0} (f : A → C) (g : B → C) (xs : List A) (ys : List B) (k : ℕ) (x : A) (y : B) → map f xs ≡ map g ys → k < length xs
     → f (slice_index_or xs k x) ≡ g (slice_index_or ys k y)
 one_at f g [] ys k x y e lt = absurd (omega arith)
 one_at f g (a ∷ xs) [] k x y e lt = absurd (cc e)
 one_at f g (a ∷ xs) (b ∷ ys) zero x y e lt = cc e
 one_at f g (a ∷ xs) (b ∷ ys) (suc k) x y e lt = one_at f g xs ys k x y (cc e) (omega arith)
-
-drop_length : {A : Type 0} (xs : List A) (n : ℕ) → drop (length xs) xs ≡ []
-drop_length [] n = refl
-drop_length (x ∷ xs) n = drop_length xs n
 
 -- ---- each caller leaves
 pub may_next : (ts : List TableId) (at m : ℕ) (cs : List CallerSide) (c : CallerSide) (rest : List CallerSide) (d : TableId)
@@ -96,14 +71,6 @@ leaves_next (x ∷ xs) zero m b d c rest lt e more = ap (λ z. z ∷ left_all xs
 leaves_next (x ∷ xs) (suc at) m b d c rest lt e more = ap (λ l. x ∷ l) (leaves_next xs at (suc at) b d c rest (omega arith) e refl)
     ∙ ap (λ k. take k (x ∷ slice_set xs at b) ++ left_all (drop k (x ∷ slice_set xs at b)) rest) (sym more)
 
-books_length : (ys : List Stripe) → length (books_in ys) ≡ length ys
-books_length [] = refl
-books_length (y ∷ ys) = ap suc (books_length ys)
-
-pub tables_count : (ys : List Stripe) → length (tables_in ys) ≡ length ys
-tables_count [] = refl
-tables_count (y ∷ ys) = ap suc (tables_count ys)
-
 book_at : (ys : List Stripe) (k : ℕ) (y : Stripe) (d : BookSide) → k < length ys → slice_index_or (books_in ys) k d ≡ (slice_index_or ys k y).book
 book_at [] k y d lt = absurd (omega arith)
 book_at (z ∷ zs) zero y d lt = refl
@@ -114,7 +81,7 @@ pub books_next : (all : List BookSide) (ys : List Stripe) (at m : ℕ) (y y' : S
     → at < length ys → y'.book ≡ left_by (slice_index_or ys at y).book c → m ≡ suc at
     → all ≡ take m (books_in (slice_set ys at y')) ++ left_all (drop m (books_in (slice_set ys at y'))) rest
 books_next all ys at m y y' cs c rest is e lt left more =
-    let below : at < length (books_in ys) = subst (λ (n : ℕ). at < n) (sym (books_length ys)) lt in
+    let below : at < length (books_in ys) = subst (λ (n : ℕ). at < n) (sym (length-map ys (λ (s : Stripe). s.book))) lt in
     is ∙ (ap (λ l. take at (books_in ys) ++ left_all (drop at (books_in ys)) l) e
     ∙ (leaves_next (books_in ys) at m y'.book y'.book c rest below (left ∙ ap (λ b. left_by b c) (sym (book_at ys at y y'.book lt))) more
     ∙ ap (λ l. take m l ++ left_all (drop m l) rest) (sym (map-set (λ (s : Stripe). s.book) ys at y'))))
@@ -152,7 +119,7 @@ pub settled_next : (all ts ts' : List TableSide) (t : TableSide) (room room' : L
 settled_next all ts ts' t room room' k is e f good n each =
     let r = is n each in let s : AllByRecursion (λ (t : TableSide). t.callers ≡ n) (t ∷ ts') = subst
     (AllByRecursion (λ (t : TableSide). t.callers ≡ n)) e r.1 in
-    (subst (AllByRecursion (IsSettled n)) (sym f) (all_snoc (IsSettled n) room k r.0 (subst (λ m. IsSettled m k) s.0 good)), s.1)
+    (subst (AllByRecursion (IsSettled n)) (sym f) (all_push (IsSettled n) room k r.0 (subst (λ m. IsSettled m k) s.0 good)), s.1)
 
 pub map_at : {A B : Type 0} (f : A → B) (xs : List A) (k : ℕ) (x : A) → slice_index_or (map f xs) k (f x) ≡ f (slice_index_or xs k x)
 map_at f [] k x = refl

@@ -5,6 +5,7 @@ use Rattle.std.proofs.lemmas.Bool.{cases_lt}
 use Rattle.std.proofs.lemmas.List.{length-map}
 use Rattle.std.proofs.lemmas.List.Sums.{sum_by-cons}
 use Rattle.std.proofs.lemmas.Option.{slice_get-map, slice_get-get_or, slice_get_within}
+use Rattle.list_lemmas.proofs.Lists.{all_got, all_at, all_between, all_weaker}
 use Rattle.atomic_table.specs.Seated.{TableId}
 use Rattle.histories.specs.declared.entry.Entry.{Entry}
 use Rattle.histories.specs.History.{calls_by}
@@ -21,24 +22,6 @@ use Rattle.class_store.specs.declared.closed.ClosedStripe.{ClosedStripe}
 use Rattle.class_store.specs.Seen.{LevelSide, PassSide, Track, IsOpen, IsPass, AreItsPasses, IsDoneBy, IsClosedBy, calls_with, Names, blank, track_of, pass_side}
 use Rattle.class_store.specs.Closed.{IsReplayed, IsSettled, IsClosed, histories_of}
 use Rattle.class_store.specs.Closing.{books_in, left_by, left_all, MayLeave, MayEnd, trace_at, IsWhole, HaveLeft}
-
-all_at : {A : Type 0} (P : A → Type 0) (xs : List A) (k : ℕ) (x : A) → AllByRecursion P xs → slice_get xs k ≡ Some x → P x
-all_at P [] k x all e = absurd (cc e)
-all_at P (y ∷ ys) zero x all e = let same : y ≡ x = cc e in subst P same all.0
-all_at P (y ∷ ys) (suc k) x all e = all_at P ys k x all.1 e
-
-all_of : {A : Type 0} (P : A → Type 0) (xs : List A) (k : ℕ) (x : A) → AllByRecursion P xs → k < length xs → slice_index_or xs k x ≡ x → P x
-all_of P [] k x all lt e = absurd (omega arith)
-all_of P (y ∷ ys) zero x all lt e = subst P e all.0
-all_of P (y ∷ ys) (suc k) x all lt e = all_of P ys k x all.1 (omega arith) e
-
-pub all_mid : {A : Type 0} (P : A → Type 0) (xs ys : List A) (x : A) → AllByRecursion P (xs ++ x ∷ ys) → P x
-all_mid P [] ys x all = all.0
-all_mid P (z ∷ zs) ys x all = all_mid P zs ys x all.1
-
-all_map : {A : Type 0} (P Q : A → Type 0) (xs : List A) → ((x : A) → P x → Q x) → AllByRecursion P xs → AllByRecursion Q xs
-all_map P Q [] f all = tt
-all_map P Q (x ∷ xs) f all = (f x all.0, all_map P Q xs f all.1)
 
 -- ---- the passes leave
 may_leave_by : (ts : List TableId) (cs : List CallerSide) → length cs ≡ length ts
@@ -179,7 +162,7 @@ pub closed_by : (level : LevelSide) (passes : List PassSide) (bs : List BookSide
     → map (λ (k : ClosedStripe). k.ended) stripes ≡ bs → AllByRecursion (IsSettled level.passes) stripes → slice_get stripes s ≡ Some c
     → IsClosedBy level passes s c.ended.history
 closed_by level passes bs stripes s c its h e all g =
-    let settled : IsSettled level.passes c = all_at (IsSettled level.passes) stripes s c all g in
+    let settled : IsSettled level.passes c = all_got (IsSettled level.passes) stripes s c all g in
     let book = history_at stripes bs s c e g in
     let left = h.each s c.ended book in
     let n : ℕ = length level.level.tables in
@@ -189,8 +172,8 @@ closed_by level passes bs stripes s c its h e all g =
     let mine : (k : ℕ) → Names n s (calls_by k c.ended.history) = λ k. ⊎_elim
     (λ (below : k < level.passes).
     let p = pass_of k passes (its.once k below) in
-    let done : IsDoneBy s c.ended.history p.0 = all_of (IsDoneBy s c.ended.history) passes p.1.0 p.0 calls p.1.1 p.1.2 in
-    let one : IsWhole n p.0 = all_of (IsWhole n) passes p.1.0 p.0 h.whole p.1.1 p.1.2 in
+    let done : IsDoneBy s c.ended.history p.0 = all_at (IsDoneBy s c.ended.history) passes p.1.0 p.0 calls p.1.1 p.1.2 in
+    let one : IsWhole n p.0 = all_at (IsWhole n) passes p.1.0 p.0 h.whole p.1.1 p.1.2 in
     subst (Names n s) (sym done.2 ∙ ap (λ m. calls_by m c.ended.history) p.2) (one.names s done.0 done.1))
     (λ (above : level.passes ≤ k). subst (Names n s) (sym (settled.below k above)) tt)
     (cases_lt k level.passes) in
@@ -205,12 +188,12 @@ pub is_closed : (level : LevelSide) (passes : List PassSide) (bs : List BookSide
     → HaveLeft passes level.level.tables bs
     → map (λ (k : ClosedStripe). k.ended) stripes ≡ bs → AllByRecursion (IsSettled level.passes) stripes → IsClosed stripes
 is_closed level passes bs stripes its h e all = record {
-  replayed = all_map (IsSettled level.passes) IsReplayed stripes (λ c s. s.replayed) all;
+  replayed = all_weaker (IsSettled level.passes) IsReplayed stripes (λ c s. s.replayed) all;
   names = λ s c g. subst (λ n. Names n s c.ended.history) (sym (closed_width level passes bs stripes h e))
       (closed_by level passes bs stripes s c its h e all g).names;
 }
 
-history_from : (stripes : List ClosedStripe) (s : ℕ) (h : List Entry) → slice_get (histories_of stripes) s ≡ Some h
+pub history_from : (stripes : List ClosedStripe) (s : ℕ) (h : List Entry) → slice_get (histories_of stripes) s ≡ Some h
     → (c : ClosedStripe) × (slice_get stripes s ≡ Some c) × (c.ended.history ≡ h)
 history_from [] s h e = absurd (cc e)
 history_from (c ∷ cs) zero h e = (c, refl, cc e)
@@ -233,7 +216,7 @@ written len new old e f = ap (λ n. take n (new ++ drop (length new) old)) (e �
 
 pub of_level : (level : LevelSide) (passes front back : List PassSide) (p : PassSide) → AreItsPasses level passes → passes ≡ front ++ p ∷ back
     → p.level ≡ level.level
-of_level level passes front back p its e = all_mid (λ (p : PassSide). p.level ≡ level.level) front back p
+of_level level passes front back p its e = all_between (λ (p : PassSide). p.level ≡ level.level) front back p
     (subst (AllByRecursion (λ (p : PassSide). p.level ≡ level.level)) e its.each)
 
 pub one_less : (passes now front gone : List PassSide) (p : PassSide) → passes ≡ now ++ gone → now ≡ front ++ p ∷ [] → passes ≡ front ++ p ∷ gone
@@ -327,13 +310,13 @@ entries_from : (key : List ℕ) (level : LevelSide) (passes : List PassSide) (k 
     → ((s : ℕ) (h : List Entry) → slice_get hs s ≡ Some h → IsClosedBy level passes (k + s) h)
     → AllByRecursion (λ (p : PassSide). length p.tracks ≤ k + length hs) passes → sum_by (entries_with key) hs ≡ sum_by (calls_from key k) passes
 entries_from key level passes k [] its closed wide = sym
-    (none_from key k passes (all_map (λ (p : PassSide). length p.tracks ≤ k + 0) (λ (p : PassSide). length p.tracks ≤ k) passes
+    (none_from key k passes (all_weaker (λ (p : PassSide). length p.tracks ≤ k + 0) (λ (p : PassSide). length p.tracks ≤ k) passes
     (λ p le. omega arith) wide))
 entries_from key level passes k (h ∷ hs) its closed wide =
     let first : IsClosedBy level passes k h = subst (λ (n : ℕ). IsClosedBy level passes n h) (omega arith) (closed 0 h refl) in
     let rest : sum_by (entries_with key) hs ≡ sum_by (calls_from key (suc k)) passes =
     entries_from key level passes (suc k) hs its (λ s g e. subst (λ (n : ℕ). IsClosedBy level passes n g) (omega arith) (closed (suc s) g e))
-    (all_map (λ (p : PassSide). length p.tracks ≤ k + suc (length hs)) (λ (p : PassSide). length p.tracks ≤ suc k + length hs) passes
+    (all_weaker (λ (p : PassSide). length p.tracks ≤ k + suc (length hs)) (λ (p : PassSide). length p.tracks ≤ suc k + length hs) passes
     (λ p le. omega arith) wide) in
     let here = one_history key level passes h its first.others in
     let step = one_stripe key k h passes first.calls in
@@ -348,5 +331,5 @@ entries_are_calls level passes bs stripes its hl e all key =
     let width : length (histories_of stripes) ≡ n = length-map stripes (λ (c : ClosedStripe). c.ended.history) ∙ closed_width level passes bs stripes hl e in
     entries_from key level passes 0 (histories_of stripes) its
     (λ s h g. subst (λ (n : ℕ). IsClosedBy level passes n h) (omega arith) (histories_closed level passes bs stripes its hl e all s h g))
-    (all_map (IsWhole n) (λ (p : PassSide). length p.tracks ≤ 0 + length (histories_of stripes)) passes
+    (all_weaker (IsWhole n) (λ (p : PassSide). length p.tracks ≤ 0 + length (histories_of stripes)) passes
     (λ p w. let wide : length p.tracks ≡ n = w.wide in omega arith) hl.whole)

@@ -6,6 +6,7 @@ use Rattle.std.proofs.lemmas.Option.{slice_get-map, slice_get-get_or}
 use mathlib.Core.List.{IsPrefix}
 use Rattle.std.specs.List.{AllByRecursion}
 use Rattle.std.proofs.lemmas.Bool.{cases_eq}
+use Rattle.list_lemmas.proofs.Lists.{all_push}
 use Rattle.atomic_table.specs.Seated.{TableId}
 use Rattle.histories.specs.declared.entry.Entry.{Entry}
 use Rattle.histories.specs.declared.entry.Reply.{Reply}
@@ -108,10 +109,6 @@ stands number passes s tables turns callers turn t c o p level below is_t is_c =
           (subst (λ l. slice_get l s ≡ Some c.table) (level ∙ sym o.same) ready.here);
     }
 
-all_snoc : (P : Entry → Type 0) (xs : List Entry) (x : Entry) → AllByRecursion P xs → P x → AllByRecursion P (xs ++ x ∷ [])
-all_snoc P [] x all p = (p, tt)
-all_snoc P (y ∷ ys) x all p = (all.0, all_snoc P ys x all.1 p)
-
 -- what an offer does to the caller
 abbrev pub Told : CallerSide → CallerSide → List ℕ → Reply → Type 0
 Told c d key reply = IsOffer c.number key reply (track_of c) (track_of d) × (calls_by d.number d.seen ≡ d.mine)
@@ -128,7 +125,7 @@ ready_after number s tables c d key (Ok reply) ready same names told none = reco
   idle = same.2;
   calls = ap (λ n. calls_by n d.seen) (sym (same.1 ∙ ready.named)) ∙ told.1;
   names = subst (λ l. AllByRecursion (λ (e : Entry). stripe_of (length tables) e.key ≡ s) l) (sym told.0.mine)
-      (all_snoc (λ (e : Entry). stripe_of (length tables) e.key ≡ s) c.mine _ ready.names names);
+      (all_push (λ (e : Entry). stripe_of (length tables) e.key ≡ s) c.mine _ ready.names names);
 }
 ready_after number s tables c d key (Err b) ready same names told none = subst (IsReady number tables s) (sym none) ready
 

@@ -1,7 +1,8 @@
 -- A level as it is opened.
 use Rattle.std.proofs.Common.{◌≡◌, ℕ, zero, suc, ◌+◌, List, [], ◌∷◌, ◌++◌, map, length, replicate, slice_get, refl, ap, ap₂, sym, ◌∙◌, subst, arith, Some}
 use Rattle.std.specs.List.{AllByRecursion}
-use Rattle.std.proofs.lemmas.List.{length-map}
+use Rattle.std.proofs.lemmas.List.{length-map, map_push, length-replicate}
+use Rattle.list_lemmas.proofs.Lists.{all_push}
 use Rattle.atomic_table.specs.Seated.{TableId}
 use Rattle.stripe_book.specs.Seen.{CallerSide, TableSide, fresh_callers}
 use Rattle.stripe_turn.specs.declared.stripe.Stripe.{Stripe}
@@ -10,10 +11,6 @@ use Rattle.stripe_turn.specs.Seen.{TurnSide}
 use Rattle.class_store.specs.Seen.{LevelId, IsPass, IsReady, blank, track_of, pass_side, fresh_caller, fresh_row, fresh_rows, fresh_passes}
 use Rattle.class_store.specs.Rows.{add_column, passes_from, ArePasses}
 
-map_snoc : {A B : Type 0} (f : A → B) (xs : List A) (x : A) → map f (xs ++ x ∷ []) ≡ map f xs ++ f x ∷ []
-map_snoc f [] x = refl
-map_snoc f (y ∷ ys) x = ap (λ l. f y ∷ l) (map_snoc f ys x)
-
 snoc_length : {A : Type 0} (xs : List A) (x : A) → length (xs ++ x ∷ []) ≡ suc (length xs)
 snoc_length [] x = refl
 snoc_length (y ∷ ys) x = ap suc (snoc_length ys x)
@@ -21,10 +18,6 @@ snoc_length (y ∷ ys) x = ap suc (snoc_length ys x)
 replicate_snoc : {A : Type 0} (n : ℕ) (x : A) → replicate (suc n) x ≡ replicate n x ++ x ∷ []
 replicate_snoc zero x = refl
 replicate_snoc (suc n) x = ap (λ l. x ∷ l) (replicate_snoc n x)
-
-pub replicate_length : {A : Type 0} (n : ℕ) (x : A) → length (replicate n x) ≡ n
-replicate_length zero x = refl
-replicate_length (suc n) x = ap suc (replicate_length n x)
 
 -- ---- one more stripe
 column_snoc : (rs : List (List CallerSide)) (cs : List CallerSide) (r : List CallerSide) (c : CallerSide) → length rs ≡ length cs
@@ -46,7 +39,7 @@ rows_more : (ts : List TableId) (t : TableId) (n : ℕ) → add_column (fresh_ro
 rows_more ts t zero = refl
 rows_more ts t (suc n) =
     column_snoc (fresh_rows ts n) (fresh_callers t n) (fresh_row ts n) (fresh_caller n t) (rows_length ts n ∙ sym (callers_length t n))
-    ∙ ap₂ (λ l r. l ++ r ∷ []) (rows_more ts t n) (sym (map_snoc (fresh_caller n) ts t))
+    ∙ ap₂ (λ l r. l ++ r ∷ []) (rows_more ts t n) (sym (map_push (fresh_caller n) ts t))
 
 -- what is so while the stripes are opened
 pub record IsOpening (passes count : ℕ) (tables : List TableSide) (locked : List Stripe) (rows : List (List CallerSide)) : Type 0 where
@@ -55,19 +48,15 @@ pub record IsOpening (passes count : ℕ) (tables : List TableSide) (locked : Li
   pub filled : rows ≡ fresh_rows (map (λ (t : TableSide). t.table) tables) passes
   pub number : length tables ≡ count
 
-all_more : {A : Type 0} (P : A → Type 0) (xs : List A) (x : A) → AllByRecursion P xs → P x → AllByRecursion P (xs ++ x ∷ [])
-all_more P [] x all p = (p, tt)
-all_more P (y ∷ ys) x all p = (all.0, all_more P ys x all.1 p)
-
 pub opening_more : (passes count : ℕ) (tables : List TableSide) (locked : List Stripe) (rows : List (List CallerSide)) (t : TableSide) (y : Stripe)
     (column : List CallerSide) → IsOpening passes count tables locked rows
     → t.callers ≡ passes → y.book.table ≡ t.table → column ≡ fresh_callers t.table passes
     → IsOpening passes (count + 1) (tables ++ t ∷ []) (locked ++ y ∷ []) (add_column rows column)
 opening_more passes count tables locked rows t y column o callers table is = record {
-  same = map_snoc (λ (s : Stripe). s.book.table) locked y ∙ (ap₂ (λ l k. l ++ k ∷ []) o.same table ∙ sym (map_snoc (λ (t : TableSide). t.table) tables t));
-  callers = all_more (λ (t : TableSide). t.callers ≡ passes) tables t o.callers callers;
+  same = map_push (λ (s : Stripe). s.book.table) locked y ∙ (ap₂ (λ l k. l ++ k ∷ []) o.same table ∙ sym (map_push (λ (t : TableSide). t.table) tables t));
+  callers = all_push (λ (t : TableSide). t.callers ≡ passes) tables t o.callers callers;
   filled = ap₂ add_column o.filled is ∙ (rows_more (map (λ (t : TableSide). t.table) tables) t.table passes
-      ∙ ap (λ l. fresh_rows l passes) (sym (map_snoc (λ (t : TableSide). t.table) tables t)));
+      ∙ ap (λ l. fresh_rows l passes) (sym (map_push (λ (t : TableSide). t.table) tables t)));
   number = snoc_length tables t ∙ (ap suc o.number ∙ omega arith);
 }
 
@@ -117,7 +106,7 @@ from_snoc (q ∷ rs) (u ∷ ts) r t k m e f = ap (λ l. pass_side k q u ∷ l) (
 pub all_passes : (ts : List TableId) (turn : TurnSide) (n : ℕ) → turn.tables ≡ ts → turn.held ≡ [] → ArePasses (fresh_rows ts n) (replicate n turn) 0
 all_passes ts turn zero is free = tt
 all_passes ts turn (suc n) is free = subst (λ l. ArePasses (fresh_rows ts n ++ fresh_row ts n ∷ []) l 0) (sym (replicate_snoc n turn))
-    (are_snoc (fresh_rows ts n) (replicate n turn) (fresh_row ts n) turn 0 n (rows_length ts n ∙ sym (replicate_length n turn))
+    (are_snoc (fresh_rows ts n) (replicate n turn) (fresh_row ts n) turn 0 n (rows_length ts n ∙ sym (length-replicate n turn))
     (sym (rows_length ts n) ∙ omega arith) (all_passes ts turn n is free) (fresh_pass n ts turn is free))
 
 pub passes_are : (ts : List TableId) (turn : TurnSide) (level : LevelId) (n : ℕ) → turn.tables ≡ ts
@@ -131,6 +120,6 @@ passes_are ts turn level (suc n) is l =
       tracks = (row_tracks n ts ∙ ap (λ (t : List TableId). replicate (length t) blank) (sym is ∙ ap (λ (v : LevelId). v.tables) (sym l))) i;
     } in
     ap (λ ts'. passes_from (fresh_rows ts n ++ fresh_row ts n ∷ []) ts' 0) (replicate_snoc n turn)
-    ∙ (from_snoc (fresh_rows ts n) (replicate n turn) (fresh_row ts n) turn 0 n (rows_length ts n ∙ sym (replicate_length n turn))
+    ∙ (from_snoc (fresh_rows ts n) (replicate n turn) (fresh_row ts n) turn 0 n (rows_length ts n ∙ sym (length-replicate n turn))
     (sym (rows_length ts n) ∙ omega arith)
     ∙ ap₂ (λ ps p. ps ++ p ∷ []) (passes_are ts turn level n is l) one)

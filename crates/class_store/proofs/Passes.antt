@@ -3,16 +3,22 @@ use Rattle.std.proofs.Common.{◌≡◌, ℕ, zero, suc, ◌+◌, ◌<◌, ◌�
 use Rattle.std.specs.List.{AllByRecursion, count_by}
 use Rattle.std.proofs.lemmas.Bool.{cases_eq}
 use Rattle.std.proofs.lemmas.List.Sums.{sum_by-cons, sum_by_push}
+use Rattle.std.proofs.lemmas.List.{length_push}
+use Rattle.list_lemmas.proofs.Lists.{all_push}
 use Rattle.class_store.specs.Seen.{LevelId, LevelSide, PassSide, AreItsPasses, blank, fresh_passes}
-use Rattle.class_store.proofs.Closing.{all_snoc}
 
 -- what no call changes of a pass
 abbrev pub name_of : PassSide → LevelId × ℕ
 name_of p = (p.level, p.number)
 
+pub fresh_count : (level : LevelId) (n : ℕ) → length (fresh_passes level n) ≡ n
+fresh_count level zero = refl
+fresh_count level (suc n) = let before : length (fresh_passes level n) ≡ n = fresh_count level n in
+    length_push (fresh_passes level n) record { level = level; number = n; tracks = replicate (length level.tables) blank } ∙ omega arith
+
 all_levels : (level : LevelId) (n : ℕ) → AllByRecursion (λ (p : PassSide). p.level ≡ level) (fresh_passes level n)
 all_levels level zero = tt
-all_levels level (suc n) = all_snoc (λ (p : PassSide). p.level ≡ level) (fresh_passes level n) _ (all_levels level n) refl
+all_levels level (suc n) = all_push (λ (p : PassSide). p.level ≡ level) (fresh_passes level n) _ (all_levels level n) refl
 
 one_if : (c n : ℕ) → c ≡ n → cond (c == n) (suc zero) zero ≡ suc zero
 one_if c n e = ap (λ b. cond b (suc zero) zero) (eq-eqb c n e)

@@ -14,7 +14,7 @@ use Rattle.std.proofs.lemmas.List.Kept.{IsStrictlySortedBy-dedup, Contains-dedup
 use Rattle.std.proofs.lemmas.List.Sorted.{Contains-permutation}
 use Rattle.std.proofs.lemmas.Option.{slice_get-map}
 use Rattle.std.proofs.lemmas.Slice.Eq.{bytes_eq-Decides}
-use Rattle.histories.specs.declared.entry.Entry.{Entry}
+use Rattle.list_lemmas.proofs.Lists.{all_got}
 use Rattle.histories.specs.SetObject.{has_key}
 use Rattle.histories.specs.Counts.{new_keys}
 use Rattle.histories.proofs.Keys.{has_from_contains, contains_from_has}
@@ -22,6 +22,7 @@ use Rattle.histories.proofs.News.{kept_keys}
 use Rattle.class_store.specs.declared.closed.ClosedStripe.{ClosedStripe}
 use Rattle.class_store.specs.Closed.{IsReplayed, histories_of}
 use Rattle.class_store.specs.Seen.{IsNewIn}
+use Rattle.class_store.proofs.Ends.{history_from}
 
 -- ---- sorted, and each once
 nat_ties : (x y : ℕ) → (x == y) ≡ eq_by_cmp nat_cmp x y
@@ -62,24 +63,13 @@ in_all_sets (d ∷ ds) key (suc s) c e h =
     list_any-append (bytes_eq key) d.set.keys (flat_map (λ (c : ClosedStripe). c.set.keys) ds)
     ∙ or_right (has_key d.set.keys key) (has_key (flat_map (λ (c : ClosedStripe). c.set.keys) ds) key) (in_all_sets ds key s c e h)
 
-all_at : {A : Type 0} (P : A → Type 0) (xs : List A) (k : ℕ) (x : A) → AllByRecursion P xs → slice_get xs k ≡ Some x → P x
-all_at P [] k x all e = absurd (cc e)
-all_at P (y ∷ ys) zero x all e = let same : y ≡ x = cc e in subst P same all.0
-all_at P (y ∷ ys) (suc k) x all e = all_at P ys k x all.1 e
-
-history_from : (stripes : List ClosedStripe) (s : ℕ) (h : List Entry) → slice_get (histories_of stripes) s ≡ Some h
-    → (c : ClosedStripe) × (slice_get stripes s ≡ Some c) × (c.ended.history ≡ h)
-history_from [] s h e = absurd (cc e)
-history_from (c ∷ cs) zero h e = (c, refl, cc e)
-history_from (c ∷ cs) (suc s) h e = history_from cs s h e
-
 pub new_in : (stripes : List ClosedStripe) (key : List ℕ) → AllByRecursion IsReplayed stripes
     → Contains (flat_map (λ (c : ClosedStripe). c.set.keys) stripes) key ↔ IsNewIn (histories_of stripes) key
 new_in stripes key all = (
   (λ there.
       let r = in_a_set stripes key (has_from_contains (flat_map (λ (c : ClosedStripe). c.set.keys) stripes) key there) in
       let c : ClosedStripe = r.1 in
-      let p : IsReplayed c = all_at IsReplayed stripes r.0 c all r.2 in (
+      let p : IsReplayed c = all_got IsReplayed stripes r.0 c all r.2 in (
         r.0,
         c.ended.history,
         slice_get-map (λ (c : ClosedStripe). c.ended.history) stripes r.0 ∙ ap (option_map (λ (c : ClosedStripe). c.ended.history)) r.2,
@@ -88,7 +78,7 @@ new_in stripes key all = (
   (λ new.
       let at = history_from stripes new.0 new.1 new.2 in
       let c : ClosedStripe = at.0 in
-      let p : IsReplayed c = all_at IsReplayed stripes new.0 c all at.1 in
+      let p : IsReplayed c = all_got IsReplayed stripes new.0 c all at.1 in
       contains_from_has (flat_map (λ (c : ClosedStripe). c.set.keys) stripes) key
       (in_all_sets stripes key new.0 c at.1 (has_from_contains c.set.keys key
       (subst (λ l. Contains l key) (ap new_keys (sym at.2) ∙ sym (p.keys ∙ kept_keys c.ended.history p.legal)) new.3)))),

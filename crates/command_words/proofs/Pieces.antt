@@ -7,7 +7,7 @@ use Rattle.std.specs.Str.{bytes_eq}
 use Rattle.std.proofs.lemmas.Fmt.{decimal_by_steps, decimal_injective}
 use Rattle.std.proofs.lemmas.List.Sums.{sum_by-cons}
 use Rattle.std.proofs.lemmas.Bool.Decides.{nat_tests}
-use Rattle.std.proofs.lemmas.Bool.{cases_eq}
+use Rattle.std.proofs.lemmas.Bool.{cases_eq, or_parts}
 use Rattle.clap.specs.Lexer.{long_of_rest, short_of_rest, strip_byte}
 use Rattle.clap.specs.Walk.{Row, Text, first_of, one_of}
 use Rattle.clap.specs.declared.parser.matches.ValueSource.{ValueSource}
@@ -16,7 +16,6 @@ use Rattle.formats.specs.Words.{Piece, Workers, Sample, Orderly, spellings, Spel
 use Rattle.command_words.specs.Asking.{StandsAtEither, workers_in}
 use Rattle.command_words.proofs.Uses.{Valued, Wide, Sampled, Which, Takes, Flag, Use, Given, Flagged, name_of, same, option_of, text_of}
 use Rattle.command_words.proofs.Uses.{has, text_in, AreOnce, IsUse, SpellsUses, row_for, rest_for, rows_for}
-use Rattle.command_words.proofs.Walked.{both_false}
 use Rattle.command_words.proofs.Whole.{IsGood, AreGood, has_dashes}
 
 -- ---- the text of a number can stand alone
@@ -208,7 +207,7 @@ module _ (w k : ℕ) where
   count_none : (i : Which) (us : List Use) → has i us ≡ false → count (kind_of i) (pieces_for us) ≡ 0
   count_none i [] none = refl
   count_none i (u ∷ us) none =
-      let both = both_false (same (option_of u) i) (has i us) none in
+      let both = or_parts (same (option_of u) i) (has i us) none in
       let test : (piece_kind (piece_for u) == kind_of i) ≡ false = ap (λ (n : ℕ). n == kind_of i) (use_kind u) ∙ kinds_same (option_of u) i ∙ both.0 in
       count_cons (kind_of i) (piece_for u) (pieces_for us) ∙ ap₂ (λ (b : Bool) (n : ℕ). cond b 1 0 + n) test (count_none i us both.1)
 
@@ -294,7 +293,7 @@ flag_piece w k us = (there us, back us)
 text_has : (i : Which) (us : List Use) → has i us ≡ false → text_in i us ≡ None
 text_has i [] none = refl
 text_has i (u ∷ us) none =
-    let both = both_false (same (option_of u) i) (has i us) none in
+    let both = or_parts (same (option_of u) i) (has i us) none in
     ap (λ (b : Bool). if b then Some (text_of u) else text_in i us) both.0 ∙ text_has i us both.1
 
 pub are_numbers : (w k : ℕ) (us : List Use) → AreOnce us → ((t : Text) → text_in (Takes Wide) us ≡ Some t → t ≡ decimal w)

@@ -7,10 +7,11 @@ use Rattle.std.specs.List.{position_or_len}
 use Rattle.std.specs.Str.{bytes_eq}
 use Rattle.std.proofs.lemmas.Slice.Eq.{bytes_eq-Decides}
 use Rattle.std.proofs.lemmas.Bool.Decides.{nat_tests}
+use Rattle.std.proofs.lemmas.Bool.{or_parts}
 use Rattle.clap.specs.Lexer.{long_of, long_of_rest, strip_byte, name_and_value, has_byte}
 use Rattle.clap.specs.Walk.{Text}
 use Rattle.command_words.proofs.Uses.{Wide, Sampled, Which, Takes, Flag, Use, name_of, same, option_of, has, AreOnce}
-use Rattle.command_words.proofs.Walked.{which, both_false}
+use Rattle.command_words.proofs.Walked.{which}
 
 abbrev pub value_part : Option Text → Text
 value_part None = []
@@ -96,7 +97,7 @@ has_last u j (x ∷ us) none apart = go (same (option_of x) j) none (λ h. has_l
 pub once_last : (u : Use) (us : List Use) → AreOnce us → has (option_of u) us ≡ false → AreOnce (us ++ u ∷ [])
 once_last u [] once none = (refl, tt)
 once_last u (x ∷ us) once none =
-    let both = both_false (same (option_of x) (option_of u)) (has (option_of u) us) none in
+    let both = or_parts (same (option_of x) (option_of u)) (has (option_of u) us) none in
     (has_last u (option_of x) us once.0 (same_back (option_of u) (option_of x) ∙ both.0), once_last u us once.1 both.1)
 
 has_mid : (u : Use) (j : Which) (us more : List Use) → same (option_of u) j ≡ true → has j (us ++ u ∷ more) ≡ true

@@ -6,6 +6,7 @@ use Rattle.std.specs.Option.{option_map_or}
 use Rattle.std.proofs.lemmas.List.{map-append}
 use Rattle.clap.specs.declared.parser.matches.ValueSource.TheVariants.{CommandLine}
 use Rattle.std.specs.Str.{bytes_eq, chars}
+use Rattle.std.proofs.lemmas.Bool.{or_parts}
 use Rattle.clap.specs.Lexer.{long_of, short_of}
 use Rattle.clap.specs.Walk.{Row, Rule, Text, Held, Walk, Waiting, idle, option, trailing, Step, at_row, more_values, has_row, settled, used, arg_by_long}
 use Rattle.clap.specs.Walk.{walked, after_step, after_flag, long_met, long_or_other, plain_word, short_or_plain, bundle_step, bundle_met, plain}
@@ -25,10 +26,6 @@ rules = rule_for (Takes Wide) ∷ rule_for (Takes Sampled) ∷ rule_for Flag ∷
 
 rules_are : shape.rules ≡ rules
 rules_are = refl
-
-pub both_false : (a b : Bool) → (a || b) ≡ false → (a ≡ false) × (b ≡ false)
-both_false true b e = let bad : ◌≡◌ {A = Bool} true false = e in absurd (cc)
-both_false false b e = (refl, e)
 
 -- the names tell the options apart
 pub names_same : (i j : Which) → bytes_eq (name_of i) (name_of j) ≡ same i j
@@ -51,7 +48,7 @@ pub absent_at : (i : Which) (change : Row → List Row) (missing : List Row) (us
     → at_row (name_of i) change missing (map row_for us) ≡ map row_for us ++ missing
 absent_at i change missing [] none = refl
 absent_at i change missing (u ∷ us) none =
-    let both = both_false (same (option_of u) i) (has i us) none in
+    let both = or_parts (same (option_of u) i) (has i us) none in
     let other : bytes_eq (name_of (option_of u)) (name_of i) ≡ false = names_same (option_of u) i ∙ both.0 in
     ap (λ b. if b then change (row_for u) ++ map row_for us else row_for u ∷ at_row (name_of i) change missing (map row_for us)) other
     ∙ ap (λ rs. row_for u ∷ rs) (absent_at i change missing us both.1)

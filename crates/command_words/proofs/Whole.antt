@@ -4,6 +4,7 @@ use Rattle.std.proofs.Common.{append-nil, append_assoc}
 use Rattle.std.specs.Prelude.{if◌then◌else◌, is_some}
 use Rattle.std.specs.List.{fold, list_any}
 use Rattle.std.specs.Str.{bytes_eq}
+use Rattle.std.proofs.lemmas.Bool.{or_parts}
 use Rattle.clap.specs.Lexer.{long_of, short_of}
 use Rattle.clap.specs.Walk.{Row, Text, Held, Walk, at_row, has_row, more_values, settled, walked, finished, with_default}
 use Rattle.clap.specs.declared.parser.matches.ValueSource.TheVariants.{DefaultValue}
@@ -15,7 +16,7 @@ use Rattle.command_words.specs.Command.{macek_app}
 use Rattle.command_words.proofs.Uses.{Valued, Wide, Sampled, Which, Takes, Flag, Use, Given, Flagged, Pend, Resting, Asking, Holding}
 use Rattle.command_words.proofs.Uses.{name_of, rule_for, option_of, text_of, has, AreOnce, IsUse, SpellsUses, row_for, unused_row, rest_for, rows_for, held, stands}
 use Rattle.command_words.proofs.Walked.{shape, rules, which, settle_kinds, settle_uses, settle_is, settled_is, no_clash, clash, or_first, or_second}
-use Rattle.command_words.proofs.Walked.{both_false, has_row_is, absent_at}
+use Rattle.command_words.proofs.Walked.{has_row_is, absent_at}
 use Rattle.command_words.proofs.Walked.{Turns, Names, Texts, turn_back, names_on, text_on}
 use Rattle.command_words.proofs.Texts.{word_is, once_last, once_mid}
 
@@ -153,7 +154,7 @@ walk_back [] us pend plain none = record {
   );
 }
 walk_back (word ∷ words) us pend plain none =
-    let words_plain = both_false (bytes_eq word (codes "--")) (has_dashes words) plain in
+    let words_plain = or_parts (bytes_eq word (codes "--")) (has_dashes words) plain in
     let turn = turn_back us pend word words_plain.0 (or_first (turn_fault shape [] (stands us pend) word) _ none) in
     end_turn us pend word words (λ us' pend' h. walk_back words us' pend' words_plain.1 h) (or_second (turn_fault shape [] (stands us pend) word) _ none) turn
 

@@ -1,12 +1,13 @@
 -- What is written of a listing is a front of it.
-use Rattle.std.proofs.Common.{◌≡◌, ◌∙◌, ℕ, ◌<◌, ◌≤◌, List, [], ◌∷◌, ◌++◌, map, length, sym, ap, subst, arith, append_assoc, length-append, inl, inr}
-use Rattle.std.specs.List.{concat}
-use Rattle.std.proofs.lemmas.List.{append-nil, map-append}
+use Rattle.std.proofs.Common.{◌≡◌, ◌∙◌, ℕ, ◌<◌, ◌≤◌, List, [], ◌∷◌, ◌++◌, map, length, sym, ap, subst, arith, append_assoc, length-append, inl, inr, ◌+◌, refl}
+use Rattle.std.specs.List.{concat, range_with_len}
+use Rattle.std.proofs.lemmas.List.{append-nil, map-append, map_push, length_push}
 use Rattle.std.proofs.lemmas.Grind.{flat_map-append}
 use Rattle.std.proofs.lemmas.Bool.{cases_eq, eq-eqb, ne_eqb}
+use Rattle.list_lemmas.proofs.Lists.{all_push, range_more}
 use Rattle.formats.specs.Request.{Request}
 use Rattle.formats.specs.Listing.{LevelEntry, level_count, level_pieces, head_text, end_text, with_front, end_blocks, listing_blocks, text_of_blocks, IsCutOff}
-use Rattle.formats.specs.Levels.{AreFirstLevels, AreLevels, IsListing, IsListingUpTo, IsListingCutOff, IsProperFront}
+use Rattle.formats.specs.Levels.{AreFirstLevels, AreLevels, IsListing, IsListingUpTo, IsListingCutOff, IsProperFront, IsLevelEntry}
 use Rattle.formats.proofs.OneListing.{first_of_levels}
 
 abbrev Block : Type 0
@@ -15,6 +16,22 @@ Block = List (List ℕ)
 -- the blocks of some levels, without the end
 abbrev pub level_blocks : Request → List LevelEntry → List Block
 level_blocks q levels = with_front (head_text q) (map (level_pieces q.print) levels)
+
+pub no_levels : (q : Request) → AreFirstLevels q []
+no_levels q = record { sizes = refl; at_most = omega arith; each = tt }
+
+-- one more level after the first ones
+pub one_more_level : (q : Request) (levels : List LevelEntry) (next : LevelEntry) → AreFirstLevels q levels → IsLevelEntry q next
+    → next.size ≡ q.rank + length levels → length levels < level_count q → AreFirstLevels q (levels ++ next ∷ [])
+one_more_level q levels next are entry at room = record {
+  sizes = map_push (λ l. l.size) levels next
+      ∙ ap (λ (ns : List ℕ). ns ++ next.size ∷ []) are.sizes
+      ∙ ap (λ k. range_with_len q.rank (length levels) ++ k ∷ []) at
+      ∙ sym (range_more q.rank (length levels))
+      ∙ ap (range_with_len q.rank) (sym (length_push levels next));
+  at_most = omega (arith, length_push levels next);
+  each = all_push (IsLevelEntry q) levels next are.each entry;
+}
 
 -- the texts of blocks after others
 pub text-append : (xs ys : List Block) → text_of_blocks (xs ++ ys) ≡ text_of_blocks xs ++ text_of_blocks ys

@@ -1,12 +1,13 @@
 -- Which texts of entries stand for a request.
-use Rattle.std.proofs.Common.{◌≡◌, ◌∙◌, ◌⊎◌, inl, inr, ℕ, zero, suc, ◌+◌, ◌<◌, ◌≤◌, ◌==◌, ◌||◌, Bool, true, cond, List, [], ◌∷◌, ◌++◌, map, length, Option, None, Some, false, refl, sym, ap, subst, arith, append_assoc, lit≤, length-append}
+use Rattle.std.proofs.Common.{◌≡◌, ◌∙◌, ◌⊎◌, inl, inr, ℕ, zero, suc, ◌+◌, ◌<◌, ◌≤◌, ◌==◌, ◌||◌, Bool, true, cond, List, [], ◌∷◌, ◌++◌, map, length, Option, None, Some, false, refl, sym, ap, subst, arith, append_assoc, lit≤, length-append, lit<}
 use Rattle.std.specs.Fmt.{digits}
 use Rattle.std.specs.List.{AllByRecursion, list_any, cons_option}
-use Rattle.std.specs.Prelude.{filter_map, option_to_list, if◌then◌else◌}
+use Rattle.std.specs.Prelude.{filter_map, option_to_list, if◌then◌else◌, slice_index}
 use Rattle.std.proofs.lemmas.Bool.Decides.{nat_tests}
 use Rattle.std.proofs.lemmas.List.Sums.{count_by-le-length, sum_by-append}
 use Rattle.std.proofs.lemmas.List.{length-map}
-use Rattle.matroid_theory.specs.Field.{IsFactors}
+use Rattle.list_lemmas.proofs.Lists.{all_append}
+use Rattle.matroid_theory.specs.Field.{IsFactors, IsOrder}
 use Rattle.matroid_theory.specs.declared.Mode.{Mode}
 use Rattle.matroid_theory.specs.declared.Mode.TheVariants.{Linear, Semilinear}
 use Rattle.formats.specs.declared.refusal.PrintMode.{PrintMode}
@@ -146,16 +147,11 @@ head_parts q = VersionIs q.version ∷ FieldIs q.factors ∷ RankIs q.rank ∷ S
 parts_are : (q : Request) → head_parts q ≡ head_statements q
 parts_are q = simp append_assoc
 
--- what holds of all entries of the parts
-all_append : {X : Type 0} (P : X → Type 0) (xs ys : List X) → AllByRecursion P xs → AllByRecursion P ys → AllByRecursion P (xs ++ ys)
-all_append P [] ys p q = q
-all_append P (x ∷ xs) ys p q = (p.0, all_append P xs ys p.1 q)
-
 all_map : {X Y : Type 0} (P : Y → Type 0) (f : X → Y) → ((x : X) → P (f x)) → (xs : List X) → AllByRecursion P (map f xs)
 all_map P f each [] = tt
 all_map P f each (x ∷ xs) = (each x, all_map P f each xs)
 
-all_where : (P : Statement → Type 0) (b : Bool) (e : Statement) → P e → AllByRecursion P (where_set b e)
+pub all_where : (P : Statement → Type 0) (b : Bool) (e : Statement) → P e → AllByRecursion P (where_set b e)
 all_where P true e p = (p, tt)
 all_where P false e p = tt
 
@@ -537,6 +533,12 @@ head_kept P entries q version mode connected three cosimple distinct print all a
     let minors = all_append P (map Forbids q.forbid) (connected_part q) forbids (all_filters P q connected three cosimple distinct (all_has P q has print)) in
     (version, (fields.0, (ranks.0, (sizes.0, all_mode P q mode minors))))
 
+-- what statements may name, their values may name
+pub forbidden_may : (es : List Statement) → AllByRecursion IsStatement es → AllByRecursion IsMinorName (filter_map forbidden_in es)
+forbidden_may [] all = tt
+forbidden_may (Forbids m ∷ es) all = (all.0, forbidden_may es all.1)
+forbidden_may (_ ∷ es) all = forbidden_may es all.1
+
 -- at most eight minors are forbidden
 few_forbidden : (entries : List Statement) (q : Request) → AreInOrder entries → AskFor entries q → length q.forbid ≤ 8
 few_forbidden entries q in_order asked = omega (arith, forbidden_count entries, in_order.not_often forbid_kind, ap length asked.forbid)
@@ -574,6 +576,11 @@ head_stands text q s =
     let of_version = head_kept (IsOfVersion q.version) s.entries q refl tt tt tt tt tt tt entries_of s.asked in
     subst (λ (es : List Statement). StandsFor (text_of_statements es) q) (parts_are q)
     (parts_stand q is (few_forbidden s.entries q s.in_order s.asked) small of_version s.limits)
+
+-- 2 alone is a list of orders
+pub binary_field : (f : ℕ) → f < 1 → IsOrder (slice_index (2 ∷ []) f)
+binary_field zero l = record { listed = (0, lit< tt, refl) }
+binary_field (suc f) l = absurd (omega arith)
 
 -- what a request for counts of version 1 says, with minors forbidden and nothing else
 abbrev pub counts_statements : List ℕ → ℕ → ℕ → List MinorName → List Statement

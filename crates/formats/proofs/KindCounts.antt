@@ -2,12 +2,13 @@
 use Rattle.std.proofs.Common.{◌≡◌, ◌∙◌, ℕ, ◌+◌, ◌<◌, ◌≤◌, ◌==◌, ◌||◌, inl, inr, Bool, true, false, cond, List, [], ◌∷◌, ◌++◌, length, Option, None, Some, refl, ap, subst, arith, not}
 use Rattle.std.specs.Option.{is_some}
 use Rattle.std.specs.Prelude.{filter_map, option_to_list}
-use Rattle.std.specs.List.{AllByRecursion, list_any, cons_option}
+use Rattle.std.specs.List.{list_any, cons_option}
 use Rattle.std.proofs.lemmas.Bool.{cases_Bool}
 use Rattle.std.proofs.lemmas.Bool.Decides.{nat_tests}
 use Rattle.std.proofs.lemmas.List.{append-nil}
 use Rattle.std.proofs.lemmas.List.Sums.{sum_by-append, sum_by-cons}
 use Rattle.std.proofs.lemmas.List.Elements.{filter_map-append}
+use Rattle.list_lemmas.proofs.Lists.{all_push}
 use Rattle.formats.specs.Statement.{Statement, RankIs, FieldIs, SizeIs, Forbids, ListsWith, kind_number, most_of_kind, named_elements}
 use Rattle.formats.specs.Request.{AreInOrder, count_of_kind, rank_in, field_in, size_in, forbidden_in, wanted_in}
 
@@ -27,16 +28,12 @@ count_end kind es e = sum_by-append (of_kind kind) es (e ∷ []) ∙ ap (λ (n :
     add : of_kind kind e + 0 ≡ of_kind kind e
     add = omega arith
 
-pub all_end : (P : Statement → Type 0) (es : List Statement) (e : Statement) → AllByRecursion P es → P e → AllByRecursion P (es ++ e ∷ [])
-all_end P [] e all p = (p, tt)
-all_end P (x ∷ es) e all p = (all.0, all_end P es e all.1 p)
-
 -- the entries stay in order by one of a kind of which there were fewer than may be
 pub order_end : (es : List Statement) (e : Statement) → AreInOrder es → named_elements e ≤ 10 →
     count_of_kind (kind_number e) es < most_of_kind (kind_number e) → AreInOrder (es ++ e ∷ [])
 order_end es e order small fewer = record {
   not_often = λ kind. often kind;
-  not_big = all_end (λ x. named_elements x ≤ 10) es e order.not_big small;
+  not_big = all_push (λ x. named_elements x ≤ 10) es e order.not_big small;
 }
   where
     often : (kind : ℕ) → count_of_kind kind (es ++ e ∷ []) ≤ most_of_kind kind

@@ -9,6 +9,7 @@ use Rattle.std.proofs.lemmas.List.Elements.{All-from_recursion}
 use Rattle.std.proofs.lemmas.List.Splits.{slice_split_none, slice_split_at, length-slice_split}
 use Rattle.std.proofs.lemmas.Fmt.{decimal_is_IsNumeral}
 use Rattle.std.proofs.lemmas.Str.Parse.{digit_from_value}
+use Rattle.std.proofs.lemmas.Bool.{and_parts}
 use Rattle.matroid_theory.specs.Field.{IsOrder}
 use Rattle.matroid_theory.specs.declared.Mode.{Mode}
 use Rattle.matroid_theory.specs.declared.Mode.TheVariants.{Linear, Semilinear}
@@ -48,18 +49,13 @@ is_word (b ∷ bytes) = nat_lt 35 b && are_bytes bytes
 byte_tested : (b : ℕ) → nat_lt 35 b ≡ true → 36 ≤ b
 byte_tested b e = grind (arith, nat_tests)
 
-both : (a b : Bool) → (a && b) ≡ true → (a ≡ true) × (b ≡ true)
-both true true e = (refl, refl)
-both true false e = cc (e)
-both false b e = cc (e)
-
 bytes_tested : (bytes : List ℕ) → are_bytes bytes ≡ true → AreBytes bytes
 bytes_tested [] e = tt
-bytes_tested (b ∷ bytes) e = let h = both (nat_lt 35 b) (are_bytes bytes) e in (byte_tested b h.0, bytes_tested bytes h.1)
+bytes_tested (b ∷ bytes) e = let h = and_parts (nat_lt 35 b) (are_bytes bytes) e in (byte_tested b h.0, bytes_tested bytes h.1)
 
 word_tested : (word : List ℕ) → is_word word ≡ true → IsWord word
 word_tested [] e = cc (e)
-word_tested (b ∷ bytes) e = let h = both (nat_lt 35 b) (are_bytes bytes) e in (byte_tested b h.0, bytes_tested bytes h.1)
+word_tested (b ∷ bytes) e = let h = and_parts (nat_lt 35 b) (are_bytes bytes) e in (byte_tested b h.0, bytes_tested bytes h.1)
 
 -- numbers and columns are words
 digits_bytes : (bytes : List ℕ) → AllDigits 10 bytes → AreBytes bytes

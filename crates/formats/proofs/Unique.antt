@@ -56,6 +56,10 @@ pub order_small : (order : ℕ) → IsOrder order → order < 14
 order_small =
     by_order (λ order. order < 14) (lit< tt) (lit< tt) (lit< tt) (lit< tt) (lit< tt) (lit< tt) (lit< tt) (lit< tt) (lit< tt)
 
+-- the number that a word spells is the order that it spells
+pub same_order : (n q : ℕ) (word : List ℕ) → IsNumber n → word ≡ decimal n → IsOrder q → word ≡ decimal q → n ≡ q
+same_order n q word is e of_q f = let small = order_small q of_q in same_decimal n q is (omega (arith, small)) (sym e ∙ f)
+
 -- a letter from 48 up, and below 97 exactly where the code is below 10
 pub letter_from : (code : ℕ) → 48 ≤ entry_letter code
 letter_from code = grind (arith, nat_tests)

@@ -1,48 +1,18 @@
 -- The levels of a listing that were written so far, and what is then written of it.
-use Rattle.std.proofs.Common.{◌≡◌, ◌∙◌, ℕ, zero, suc, ◌+◌, ◌-◌, ◌<◌, ◌≤◌, List, [], ◌∷◌, ◌++◌, length, Option, refl, sym, ap, subst, arith, append_assoc, length-append}
-use Rattle.std.specs.List.{AllByRecursion, range_with_len, concat}
-use Rattle.std.proofs.lemmas.List.{append-nil, append_cancel_right, map-append, length-map}
+use Rattle.std.proofs.Common.{◌≡◌, ◌∙◌, ℕ, ◌+◌, ◌-◌, ◌<◌, ◌≤◌, List, [], ◌∷◌, ◌++◌, length, Option, refl, sym, ap, subst, arith, append_assoc, length-append}
+use Rattle.std.specs.List.{concat}
+use Rattle.std.proofs.lemmas.List.{append-nil, append_cancel_right, length-map}
 use Rattle.std.specs.Io.KnownBytes.{Appends}
 use Rattle.outside.specs.Bytes.{AppendsFront}
 use Rattle.outside.proofs.Known.{appends_none, appends_more}
 use Rattle.formats.specs.Request.{Request}
 use Rattle.formats.specs.Listing.{LevelEntry, level_count, level_pieces, head_text, end_text, listing_blocks, text_of_blocks, end_blocks}
-use Rattle.formats.specs.Levels.{IsLevelEntry, AreFirstLevels, AreLevels, IsListing, IsListingUpTo, IsListingCutOff}
+use Rattle.formats.specs.Levels.{AreFirstLevels, AreLevels, IsListing, IsListingUpTo, IsListingCutOff}
 use Rattle.formats.specs.Run.{Gains}
-use Rattle.formats.proofs.Fronts.{level_blocks, text-append, more_levels, blocks_of_some, blocks_of_all}
+use Rattle.formats.proofs.Fronts.{level_blocks, text-append, more_levels, blocks_of_some, blocks_of_all, no_levels, one_more_level}
 use Rattle.macek_run.specs.declared.write.Stop.{Stop}
 use Rattle.macek_run.specs.declared.write.Stop.TheVariants.{Failed, NoMemory}
 use Rattle.macek_run.specs.Steps.{TellsLevel, IsLess}
-
-all_more : {X : Type 0} (P : X → Type 0) (xs : List X) (y : X) → AllByRecursion P xs → P y → AllByRecursion P (xs ++ y ∷ [])
-all_more P [] y all holds = (holds, tt)
-all_more P (x ∷ xs) y all holds = (all.0, all_more P xs y all.1 holds)
-
-range_more : (a n : ℕ) → range_with_len a (n + 1) ≡ range_with_len a n ++ (a + n) ∷ []
-range_more a zero = ap (λ k. k ∷ []) (let e : a ≡ a + 0 = omega arith in e)
-range_more a (suc n) =
-    let e : a + 1 + n ≡ a + suc n = omega arith in
-    ap (range_with_len a) (let f : suc n + 1 ≡ suc (n + 1) = omega arith in f)
-    ∙ ap (λ (ns : List ℕ). a ∷ ns) (range_more (a + 1) n ∙ ap (λ k. range_with_len (a + 1) n ++ k ∷ []) e)
-
--- one more level after the first ones
-more_first_levels : (q : Request) (levels : List LevelEntry) (next : LevelEntry) → AreFirstLevels q levels → IsLevelEntry q next →
-    next.size ≡ q.rank + length levels → length levels < level_count q → AreFirstLevels q (levels ++ next ∷ [])
-more_first_levels q levels next are entry at room = record {
-  sizes = map-append (λ l. l.size) levels (next ∷ [])
-      ∙ ap (λ (ns : List ℕ). ns ++ next.size ∷ []) are.sizes
-      ∙ ap (λ k. range_with_len q.rank (length levels) ++ k ∷ []) at
-      ∙ sym (range_more q.rank (length levels))
-      ∙ ap (range_with_len q.rank) count;
-  at_most = omega (arith, count);
-  each = all_more (IsLevelEntry q) levels next are.each entry;
-}
-  where
-    count : length levels + 1 ≡ length (levels ++ next ∷ [])
-    count = omega (arith, length-append levels (next ∷ []))
-
-no_levels : (q : Request) → AreFirstLevels q []
-no_levels q = record { sizes = refl; at_most = omega arith; each = tt }
 
 -- there is a block for each level
 count_blocks : (q : Request) (levels : List LevelEntry) → length levels ≡ length (level_blocks q levels)
@@ -83,7 +53,7 @@ module _ (q : Request) (old new : Option (List ℕ)) (room : 0 < level_count q) 
   }
 
   first_levels : (Part : List ℕ → Type 0) (told : TellsLevel q q.rank (head_text q) Part) → AreFirstLevels q (told.entry ∷ [])
-  first_levels Part told = more_first_levels q [] told.entry (no_levels q) told.is_entry (told.at ∙ (let e : q.rank ≡ q.rank + 0 = omega arith in e)) room
+  first_levels Part told = one_more_level q [] told.entry (no_levels q) told.is_entry (told.at ∙ (let e : q.rank ≡ q.rank + 0 = omega arith in e)) room
 
   first_cut : TellsLevel q q.rank (head_text q) (AppendsFront old new) → Gains old new (IsListingCutOff q 0)
   first_cut told = record {
@@ -146,7 +116,7 @@ module _ (q : Request) (size : ℕ) (old mid : Option (List ℕ)) (begun : HaveB
       }
 
       next_levels : (Part : List ℕ → Type 0) (told : TellsLevel q (size + 1) [] Part) → AreFirstLevels q (begun.levels ++ told.entry ∷ [])
-      next_levels Part told = more_first_levels q begun.levels told.entry begun.are told.is_entry (told.at ∙ begun.last) (omega (arith, begun.last))
+      next_levels Part told = one_more_level q begun.levels told.entry begun.are told.is_entry (told.at ∙ begun.last) (omega (arith, begun.last))
 
       next_blocks : (levels : List LevelEntry) (next : LevelEntry) → 0 < length levels →
           level_blocks q (levels ++ next ∷ []) ≡ level_blocks q levels ++ level_pieces q.print next ∷ []

@@ -18,9 +18,9 @@ use std::alloc::Global;
 
 /// A listing that ends early: why, and after how many whole levels.
 #[derive(Clone, Copy, Debug, PartialEq, Eq)]
-struct Cut {
-    why: Stop,
-    whole: u64,
+pub struct Cut {
+    pub why: Stop,
+    pub whole: u64,
 }
 
 /// Grows the levels of a request one from the other, in one of the ways, and writes each as soon as it is grown: all of the listing but its end

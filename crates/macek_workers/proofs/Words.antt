@@ -1,6 +1,6 @@
 -- From the words that were read to what they ask for.
 use Rattle.std.proofs.Common.{◌≡◌, ◌≢◌, ◌∙◌, ℕ, false, List, [], ◌∷◌, Option, None, Some, refl, ap, subst}
-use Rattle.std.specs.Prelude.{filter_map, option_to_list, MatchOption}
+use Rattle.std.specs.Prelude.{filter_map, MatchOption}
 use Rattle.formats.specs.declared.refusal.Refusal.{Refusal}
 use Rattle.formats.specs.Request.{Request, StandsFor}
 use Rattle.formats.specs.Words.{Piece, IsCommand, StandsAtMacek, AsksForKnownText, sample_in, sample_text}

@@ -11,20 +11,13 @@ use class_store::ClassStore;
 use formats::Status;
 use level_driver::first_level;
 use lister::{end_text, head_text};
-use macek_run::{Report, Stop, write_level};
+use macek_run::{Cut, Report, Stop, write_level};
 use outside::{Gate, Sink, put};
 use request_reader::Request;
 use std::alloc::Global;
 use std::sync::Wait;
 use std::thread::Threads;
 use workers::grow;
-
-/// A listing that ends early: why, and after how many whole levels.
-#[derive(Clone, Copy, Debug, PartialEq, Eq)]
-struct Cut {
-    why: Stop,
-    whole: u64,
-}
 
 /// Grows the levels of a request one from the other by workers and writes each as soon as it is grown: all of the listing but
 /// its end line.

@@ -27,13 +27,6 @@ use std::thread::Threads;
 // One byte more than the longest text that is read.
 const MOST_TAKEN: usize = 65_537;
 
-/// The report of a run that wrote nothing.
-fn nothing(status: Status) -> Report
-    ensures { result ≡ record { status = status; levels = 0 } }
-{
-    Report { status, levels: 0 }
-}
-
 /// The number of workers: 4 where the words name none.
 fn workers_of(named: Option<u32>) -> usize
     requires { IfSome named (λ n. (1 ≤ n) × (n ≤ 64)) }
@@ -118,8 +111,8 @@ pub fn macek<R: Threads + Wait + Sync, S: Source, K: Sink, G: Gate + Sync>(
                 None => list_source(rt, alloc, workers, source, sink, store, gate),
             }
         }
-        Ok(None) => nothing(Status::Usage),
-        Err(_) => nothing(Status::NoMemory),
+        Ok(None) => Report::nothing(Status::Usage),
+        Err(_) => Report::nothing(Status::NoMemory),
     }
 }
 
@@ -173,12 +166,12 @@ fn list_source<R: Threads + Wait + Sync, S: Source, K: Sink, G: Gate + Sync>(
 {
     let text = match take(alloc, source, MOST_TAKEN) {
         Ok(text) => text,
-        Err(TakeFault::Failed) => return nothing(Status::ReadFault),
-        Err(TakeFault::NoMemory) => return nothing(Status::NoMemory),
+        Err(TakeFault::Failed) => return Report::nothing(Status::ReadFault),
+        Err(TakeFault::NoMemory) => return Report::nothing(Status::NoMemory),
     };
     let request = match read_request(&text) {
         Ok(request) => request,
-        Err(refusal) => return nothing(Status::Refused(refusal)),
+        Err(refusal) => return Report::nothing(Status::Refused(refusal)),
     };
     write_listing(rt, alloc, &request, workers, sink, store, gate)
 }

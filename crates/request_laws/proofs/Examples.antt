@@ -1,10 +1,9 @@
 -- Worked examples: the laws at a small request, and at a text that isn't one.
-use Rattle.std.proofs.Common.{◌≡◌, ℕ, zero, suc, ◌<◌, ◌≤◌, refl, arith, slice_index, List, [], ◌∷◌, inl, inr, ◌⊎◌, None, false, lit<, lit≤}
+use Rattle.std.proofs.Common.{◌≡◌, ℕ, ◌<◌, ◌≤◌, refl, arith, List, [], ◌∷◌, inl, inr, ◌⊎◌, None, false, lit<, lit≤}
 use Rattle.std.specs.Prelude.{codes}
 use Rattle.std.specs.Fmt.{digits}
 use Rattle.std.proofs.lemmas.Bool.Decides.{nat_tests}
 use Rattle.matroid_theory.specs.declared.Mode.TheVariants.{Linear}
-use Rattle.matroid_theory.specs.Field.{IsOrder}
 use Rattle.matroid_theory.specs.Level.{Filters, IsListed}
 use Rattle.formats.specs.declared.refusal.PrintMode.TheVariants.{Forms}
 use Rattle.formats.specs.declared.refusal.Word.TheVariants.{Field}
@@ -15,7 +14,7 @@ use Rattle.formats.specs.Statement.{most_of_kind}
 use Rattle.formats.specs.Refusal.{HasRefusal}
 use Rattle.formats.specs.Listing.{LevelEntry, text_of_statements, head_text, level_text, form_text, end_text}
 use Rattle.formats.specs.Levels.{IsLevelEntry, IsListing, columns_of}
-use Rattle.formats.proofs.Heads.{small_stands}
+use Rattle.formats.proofs.Heads.{small_stands, binary_field}
 use Rattle.formats.proofs.OneListing.{listing_same}
 use Rattle.formats.proofs.Unique.{not_both, refusal_same}
 use Rattle.existence.proofs.Examples.{unit3, binary3, level3}
@@ -50,15 +49,11 @@ small_text-spelled = refl
 small_often : (kind : ℕ) → count_of_kind kind (FieldIs (2 ∷ []) ∷ RankIs 3 ∷ SizeIs 3 ∷ []) ≤ most_of_kind kind
 small_often kind = grind (arith, nat_tests)
 
-factor : (f : ℕ) → f < 1 → IsOrder (slice_index (2 ∷ []) f)
-factor zero l = record { listed = (0, omega arith, refl) }
-factor (suc f) l = absurd (omega arith)
-
 stands : StandsFor small_text small
 unfolding small_text digits
 stands =
     small_stands (FieldIs (2 ∷ []) ∷ RankIs 3 ∷ SizeIs 3 ∷ []) small refl (
-      record { may = record { some = lit< tt; few = lit≤ tt; fields = factor }; not_big = lit≤ tt },
+      record { may = record { some = lit< tt; few = lit≤ tt; fields = binary_field }; not_big = lit≤ tt },
       (record { may = lit< tt; not_big = lit≤ tt }, (record { may = lit< tt; not_big = lit≤ tt }, tt)),
     )
     ((lit≤ tt, tt), (tt, (tt, tt))) (lit≤ tt) small_often

@@ -5,8 +5,8 @@ use Rattle.std.specs.List.{AllByRecursion, range_with_len}
 use Rattle.std.proofs.lemmas.Bool.{cases_lt}
 use Rattle.matroid_theory.specs.Minor.{Matroid}
 use Rattle.matroid_theory.specs.Level.{Family, Filters}
-use Rattle.formats.specs.Statement.{MinorName, Statement, Forbids, ListsWith, IsMinorName, IsStatement}
-use Rattle.formats.specs.Request.{Request, StandsFor, forbidden_in, wanted_in}
+use Rattle.formats.specs.Statement.{MinorName, Statement, ListsWith, IsMinorName, IsStatement}
+use Rattle.formats.specs.Request.{Request, StandsFor, wanted_in}
 use Rattle.formats.specs.Minors.{given_as}
 use Rattle.formats.specs.Listing.{LevelEntry, level_count, listing_blocks, text_of_blocks}
 use Rattle.formats.specs.Levels.{AreGivenBy, Grows, Keeps, HasTries, IsLevelEntry, AreLevels, IsListing, IsListingUpTo, IsListingCutOff, columns_of}
@@ -16,14 +16,9 @@ use Rattle.existence.proofs.Filters.{listed_exists}
 use Rattle.existence.proofs.Tries.{tries_exist}
 use Rattle.request_laws.specs.Answered.{NamesMinors, IsFrontOfListing}
 use Rattle.request_laws.proofs.Minors.{minor_exists}
+use Rattle.formats.proofs.Heads.{forbidden_may}
 
 -- ---- the minors of a request
-
--- what a statement may name, its values may name
-forbidden_may : (es : List Statement) → AllByRecursion IsStatement es → AllByRecursion IsMinorName (filter_map forbidden_in es)
-forbidden_may [] all = tt
-forbidden_may (Forbids m ∷ es) all = (all.0, forbidden_may es all.1)
-forbidden_may (_ ∷ es) all = forbidden_may es all.1
 
 wanted_may : (es : List Statement) → AllByRecursion IsStatement es → AllByRecursion IsMinorName (filter_map wanted_in es)
 wanted_may [] all = tt

@@ -5,12 +5,13 @@ use Rattle.std.specs.Prelude.{filter}
 use Rattle.std.proofs.lemmas.Bool.{cases_lt, cases_eq, cases_Bool}
 use Rattle.std.proofs.lemmas.List.{map-append, append-nil}
 use Rattle.std.proofs.lemmas.List.Elements.{filter-append}
+use Rattle.list_lemmas.proofs.Lists.{all_push}
 use Rattle.formats.specs.Lines.{words_of, is_skipped, statements_of}
 use Rattle.formats.specs.Statement.{Statement, IsStatement, IsOfVersion, spelling, Says, kind_number, forbid_kind, most_of_kind, named_elements}
 use Rattle.formats.specs.Request.{SayInTurn, AreInOrder, count_of_kind}
 use Rattle.formats.specs.Refusal.{Fault, NoForm, Again, NinthForbid, TooBig, HasFault}
 use Rattle.formats.proofs.Unique.{statements_split}
-use Rattle.formats.proofs.KindCounts.{all_end, order_end}
+use Rattle.formats.proofs.KindCounts.{order_end}
 use Rattle.existence.proofs.Deciding.{less, at_most}
 use Rattle.request_laws.proofs.Said.{said_decided}
 
@@ -39,8 +40,8 @@ module _ (version : ℕ) where
   says_more : (before : List (List ℕ)) (line : List ℕ) (said : List Statement) (e : Statement) → is_skipped (words_of line) ≡ false
       → SayInTurn version before said → Says version (words_of line) e → SayInTurn version (before ++ line ∷ []) (said ++ e ∷ [])
   says_more before line said e s t w = record {
-    may = all_end IsStatement said e t.may w.may;
-    of_version = all_end (IsOfVersion version) said e t.of_version w.of_version;
+    may = all_push IsStatement said e t.may w.may;
+    of_version = all_push (IsOfVersion version) said e t.of_version w.of_version;
     spelled = statements_split before line [] s ∙ (λ i. t.spelled i ++ w.spelled i ∷ []) ∙ sym (map-append spelling said (e ∷ []));
   }
 

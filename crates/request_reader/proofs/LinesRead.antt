@@ -1,12 +1,12 @@
 -- The lines of a text that were read so far, and one line more.
 use Rattle.std.proofs.Common.{◌≡◌, ◌∙◌, ℕ, ◌+◌, ◌<◌, ◌≤◌, Bool, true, false, not, cond, List, [], ◌∷◌, ◌++◌, length, refl, sym, ap, subst, arith, append_assoc, length-append}
 use Rattle.std.proofs.lemmas.List.{append-nil, map-append}
+use Rattle.list_lemmas.proofs.Lists.{all_push}
 use Rattle.formats.specs.Lines.{lines_of, words_of, is_skipped, statements_of}
 use Rattle.formats.specs.Statement.{Statement, Says, IsStatement, IsOfVersion, spelling}
 use Rattle.formats.specs.Request.{version_of, SayInTurn}
 use Rattle.formats.specs.Refusal.{Fault, Again, NinthForbid, TooBig, HasFault, FirstFault, HasRefusal}
 use Rattle.formats.proofs.Unique.{statements_split}
-use Rattle.formats.proofs.KindCounts.{all_end}
 use Rattle.request_reader.specs.declared.values.Values.{Values}
 use Rattle.request_reader.specs.declared.values.Wrong.{Wrong}
 use Rattle.request_reader.specs.declared.values.Wrong.TheVariants as wrong
@@ -86,8 +86,8 @@ say_line version text values more number rest line after e h n counts says with_
   entries = h.entries ++ e ∷ [];
   split = split_next text h.before rest line after h.split n.lines;
   says = record {
-    may = all_end IsStatement h.entries e h.says.may says.may;
-    of_version = all_end (IsOfVersion version) h.entries e h.says.of_version says.of_version;
+    may = all_push IsStatement h.entries e h.says.may says.may;
+    of_version = all_push (IsOfVersion version) h.entries e h.says.of_version says.of_version;
     spelled = statements_split h.before line [] counts ∙ (λ i. h.says.spelled i ++ says.spelled i ∷ []) ∙ sym (map-append spelling h.entries (e ∷ []));
   };
   holds = with_it h.entries h.holds;

@@ -6,13 +6,9 @@ use Rattle.std.proofs.lemmas.List.{length-map, map-append}
 use Rattle.matroid_theory.specs.Field.{IsOrder}
 use Rattle.formats.specs.Statement.{column_word, entry_letter, IsMatrix}
 use Rattle.std.proofs.lemmas.Fmt.{decimal_injective}
+use Rattle.list_lemmas.proofs.Lists.{all_push}
 use Rattle.formats.proofs.Unique.{order_small}
 use Rattle.request_reader.specs.Matrices.{AreCodes, AreColumns, column_words, matrix_words}
-
--- one more that has a property
-pub all_push : {X : Type 0} (P : X → Type 0) (xs : List X) (x : X) → AllByRecursion P xs → P x → AllByRecursion P (xs ++ x ∷ [])
-all_push P [] x all p = (p, tt)
-all_push P (y ∷ ys) x all p = (all.0, all_push P ys x all.1 p)
 
 -- the letter at a place of a word of a column is that of an entry
 pub letter_at : (order : ℕ) (column word : List ℕ) (i d : ℕ) → AllByRecursion (λ code. code < order) column → word ≡ column_word column → i < length word

@@ -1,15 +1,14 @@
 -- The requests of the samples, and their texts.
-use Rattle.std.proofs.Common.{◌≡◌, ◌∙◌, ℕ, zero, suc, ◌+◌, ◌≤◌, ◌<◌, ◌/◌, ◌%◌, ◌==◌, Bool, true, false, List, [], ◌∷◌, ◌++◌, map, length, refl, ap, subst, arith, lit≤, lit<, slice_index}
+use Rattle.std.proofs.Common.{◌≡◌, ◌∙◌, ℕ, ◌+◌, ◌≤◌, ◌<◌, ◌/◌, ◌%◌, ◌==◌, Bool, true, false, List, [], ◌∷◌, ◌++◌, map, length, refl, ap, subst, arith, lit≤, lit<}
 use Rattle.std.specs.List.{AllByRecursion}
-use Rattle.matroid_theory.specs.Field.{IsOrder}
 use Rattle.formats.specs.declared.refusal.PrintMode.TheVariants.{Counts}
 use Rattle.formats.specs.Statement.{Statement, MinorName, Fano, FanoDual, KFour, KFive, VersionIs, RankIs, FieldIs, SizeIs, Forbids, Prints, IsMinorName, elements_of, order_of_minor}
 use Rattle.formats.specs.Request.{Request, IsWithinLimits, StandsFor}
 use Rattle.formats.specs.Listing.{where_set, text_of_statements}
 use Rattle.formats.specs.Words.{sample_text}
-use Rattle.formats.proofs.Heads.{counts_stand}
+use Rattle.formats.proofs.Heads.{counts_stand, binary_field}
 use Rattle.named_matroids.specs.Names.{IsSmallName}
-use Rattle.request_reader.specs.Requested.{counting_request, IsRequestOfVersion, AreNames}
+use Rattle.request_reader.specs.Requested.{IsRequestOfVersion, AreNames, counting_request}
 use Rattle.request_reader.specs.Samples.{where_named}
 
 -- the minors of four bits
@@ -67,10 +66,6 @@ sample_names a b c d = record {
   has = tt;
 }
 
-binary : (f : ℕ) → f < 1 → IsOrder (slice_index (2 ∷ []) f)
-binary zero l = record { listed = (0, lit< tt, refl) }
-binary (suc f) l = absurd (omega arith)
-
 -- ---- its text
 
 first_said : (b : Bool) (m : MinorName) → map Forbids (where_named b m) ≡ where_set b (Forbids m)
@@ -99,6 +94,6 @@ sample_stands k =
     let d = k / 8 % 2 == 1 in
     let q = sample_of (sample_minors a b c d) in
     subst (λ (es : List Statement). StandsFor (text_of_statements (VersionIs 1 ∷ FieldIs (2 ∷ []) ∷ RankIs 4 ∷ SizeIs 15 ∷ es)) q) (all_said a b c d)
-    (counts_stand (2 ∷ []) 4 15 (sample_minors a b c d) (record { some = lit< tt; few = lit≤ tt; fields = binary }) (lit≤ tt, tt) (few_minors a b c d)
+    (counts_stand (2 ∷ []) 4 15 (sample_minors a b c d) (record { some = lit< tt; few = lit≤ tt; fields = binary_field }) (lit≤ tt, tt) (few_minors a b c d)
     (all_minors (λ m. IsMinorName m × (elements_of m ≤ 10) × (order_of_minor m ≤ 9)) a b c d (tt, lit≤ tt, lit≤ tt) (tt, lit≤ tt, lit≤ tt)
     (tt, lit≤ tt, lit≤ tt) (tt, lit≤ tt, lit≤ tt)) (sample_limits (sample_minors a b c d)))

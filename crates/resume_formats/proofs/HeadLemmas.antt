@@ -1,19 +1,20 @@
 -- A text begins with the head of one request, among those without filter that print forms.
-use Rattle.std.proofs.Common.{◌≡◌, ◌∙◌, ◌⊎◌, inl, inr, ℕ, Bool, true, false, List, [], ◌∷◌, ◌++◌, map, length, refl, sym, ap, subst, arith, append_assoc, length-append}
+use Rattle.std.proofs.Common.{◌≡◌, ◌∙◌, ◌⊎◌, inl, inr, ℕ, List, [], ◌∷◌, ◌++◌, map, length, refl, sym, ap, subst, arith, append_assoc, length-append}
 use Rattle.std.specs.Prelude.{filter_map, option_to_list, slice_index, codes}
 use Rattle.std.specs.List.{AllByRecursion}
 use Rattle.std.proofs.lemmas.List.{append-nil, append_cancel_left, map-append}
 use Rattle.std.proofs.lemmas.Grind.{flat_map-append}
+use Rattle.list_lemmas.proofs.Lists.{all_append}
 use Rattle.matroid_theory.specs.Field.{IsFactors}
 use Rattle.matroid_theory.specs.declared.Mode.TheVariants.{Semilinear}
 use Rattle.formats.specs.declared.refusal.PrintMode.TheVariants.{Forms}
 use Rattle.formats.specs.Lines.{lines_of, statements_of, line_of_words}
 use Rattle.formats.specs.Statement.{MinorName, Statement, VersionIs, RankIs, FieldIs, SizeIs, EquivalenceIs, Forbids, ListsConnected, ListsThreeConnected, ListsCosimple, ListsDistinct, ListsWith, Prints, IsNumber, IsMinorName, IsStatement, spelling}
-use Rattle.formats.specs.Request.{Request, StandsFor, field_in, forbidden_in}
+use Rattle.formats.specs.Request.{Request, StandsFor, field_in}
 use Rattle.formats.specs.Listing.{where_set, is_semilinear, head_statements, text_of_statements, head_text}
 use Rattle.formats.proofs.Unique.{entries_same, request_same}
 use Rattle.formats.proofs.Spelled.{entry_line, first_statement, spelled}
-use Rattle.formats.proofs.Heads.{version_is, head_stands}
+use Rattle.formats.proofs.Heads.{version_is, head_stands, all_where, forbidden_may}
 use Rattle.resume_formats.specs.Cut.{ListsAllForms, BeginsWithHead, IsCutListing}
 use Rattle.resume_formats.proofs.FrontLemmas.{fronts_ordered}
 
@@ -52,27 +53,14 @@ head_ends q all =
 
 -- ---- it may be said
 
-all_append : {X : Type 0} (P : X → Type 0) (xs ys : List X) → AllByRecursion P xs → AllByRecursion P ys → AllByRecursion P (xs ++ ys)
-all_append P [] ys p q = q
-all_append P (x ∷ xs) ys p q = (p.0, all_append P xs ys p.1 q)
-
 all_map : {X Y : Type 0} (P : Y → Type 0) (f : X → Y) (xs : List X) → AllByRecursion (λ x. P (f x)) xs → AllByRecursion P (map f xs)
 all_map P f [] all = tt
 all_map P f (x ∷ xs) all = (all.0, all_map P f xs all.1)
-
-all_where : (P : Statement → Type 0) (b : Bool) (e : Statement) → P e → AllByRecursion P (where_set b e)
-all_where P true e p = (p, tt)
-all_where P false e p = tt
 
 fields_may : (es : List Statement) → AllByRecursion IsStatement es → AllByRecursion IsFactors (filter_map field_in es)
 fields_may [] all = tt
 fields_may (FieldIs factors ∷ es) all = (all.0, fields_may es all.1)
 fields_may (_ ∷ es) all = fields_may es all.1
-
-forbidden_may : (es : List Statement) → AllByRecursion IsStatement es → AllByRecursion IsMinorName (filter_map forbidden_in es)
-forbidden_may [] all = tt
-forbidden_may (Forbids m ∷ es) all = (all.0, forbidden_may es all.1)
-forbidden_may (_ ∷ es) all = forbidden_may es all.1
 
 version_small : (n : ℕ) → (n ≡ 1) ⊎ (n ≡ 2) → IsNumber n
 version_small n (inl one) = omega arith

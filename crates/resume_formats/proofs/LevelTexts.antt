@@ -1,7 +1,8 @@
 -- The text of a listing, level by level.
-use Rattle.std.proofs.Common.{◌≡◌, ◌∙◌, ℕ, zero, suc, ◌+◌, ◌-◌, ◌<◌, List, [], ◌∷◌, ◌++◌, map, length, refl, sym, ap, arith, append_assoc, length-append}
+use Rattle.std.proofs.Common.{◌≡◌, ◌∙◌, ℕ, ◌+◌, ◌-◌, ◌<◌, List, [], ◌∷◌, ◌++◌, map, length, refl, sym, ap, arith, append_assoc, length-append}
 use Rattle.std.specs.List.{AllByRecursion, range_with_len, concat}
 use Rattle.std.proofs.lemmas.List.{append-nil, map-append, nil_from_length}
+use Rattle.list_lemmas.proofs.Lists.{all_between}
 use Rattle.formats.specs.Request.{Request}
 use Rattle.formats.specs.Listing.{LevelEntry, level_count, level_pieces, head_text, end_text, listing_blocks, text_of_blocks}
 use Rattle.formats.specs.Levels.{IsLevelEntry, AreFirstLevels, IsListing}
@@ -61,36 +62,6 @@ behind_all q levels listing behind b all =
 
 -- ---- more levels, and fewer
 
-all_more : {X : Type 0} (P : X → Type 0) (xs : List X) (y : X) → AllByRecursion P xs → P y → AllByRecursion P (xs ++ y ∷ [])
-all_more P [] y all holds = (holds, tt)
-all_more P (x ∷ xs) y all holds = (all.0, all_more P xs y all.1 holds)
-
-range_more : (a n : ℕ) → range_with_len a (n + 1) ≡ range_with_len a n ++ (a + n) ∷ []
-range_more a zero = ap (λ k. k ∷ []) (let e : a ≡ a + 0 = omega arith in e)
-range_more a (suc n) =
-    let e : a + 1 + n ≡ a + suc n = omega arith in
-    ap (range_with_len a) (let f : suc n + 1 ≡ suc (n + 1) = omega arith in f)
-    ∙ ap (λ (ns : List ℕ). a ∷ ns) (range_more (a + 1) n ∙ ap (λ k. range_with_len (a + 1) n ++ k ∷ []) e)
-
-pub no_levels : (q : Request) → AreFirstLevels q []
-no_levels q = record { sizes = refl; at_most = omega arith; each = tt }
-
--- one more level after the first ones
-pub one_more_level : (q : Request) (levels : List LevelEntry) (next : LevelEntry) → AreFirstLevels q levels → IsLevelEntry q next
-    → next.size ≡ q.rank + length levels → length levels < level_count q → AreFirstLevels q (levels ++ next ∷ [])
-one_more_level q levels next are entry at room = record {
-  sizes = map-append (λ l. l.size) levels (next ∷ [])
-      ∙ ap (λ (ns : List ℕ). ns ++ next.size ∷ []) are.sizes
-      ∙ ap (λ k. range_with_len q.rank (length levels) ++ k ∷ []) at
-      ∙ sym (range_more q.rank (length levels))
-      ∙ ap (range_with_len q.rank) count;
-  at_most = omega (arith, count);
-  each = all_more (IsLevelEntry q) levels next are.each entry;
-}
-  where
-    count : length levels + 1 ≡ length (levels ++ next ∷ [])
-    count = omega (arith, length-append levels (next ∷ []))
-
 all_front : {X : Type 0} (P : X → Type 0) (xs ys : List X) → AllByRecursion P (xs ++ ys) → AllByRecursion P xs
 all_front P [] ys all = tt
 all_front P (x ∷ xs) ys all = (all.0, all_front P xs ys all.1)
@@ -118,11 +89,7 @@ next_size a (y ∷ xs) x ys e =
     let more : map (λ l. l.size) (xs ++ x ∷ ys) ≡ range_with_len (a + 1) (length (xs ++ x ∷ ys)) = cc (e) in
     omega (arith, next_size (a + 1) xs x ys more)
 
-next_holds : {X : Type 0} (P : X → Type 0) (xs : List X) (x : X) (ys : List X) → AllByRecursion P (xs ++ x ∷ ys) → P x
-next_holds P [] x ys all = all.0
-next_holds P (y ∷ xs) x ys all = next_holds P xs x ys all.1
-
 -- what the first levels have behind others of them is the next level
 pub next_of_levels : (q : Request) (xs : List LevelEntry) (x : LevelEntry) (ys : List LevelEntry) → AreFirstLevels q (xs ++ x ∷ ys)
     → IsLevelEntry q x × (x.size ≡ q.rank + length xs)
-next_of_levels q xs x ys are = (next_holds (IsLevelEntry q) xs x ys are.each, next_size q.rank xs x ys are.sizes)
+next_of_levels q xs x ys are = (all_between (IsLevelEntry q) xs x ys are.each, next_size q.rank xs x ys are.sizes)

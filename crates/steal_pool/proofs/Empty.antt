@@ -8,6 +8,7 @@ use Rattle.steal_pool.specs.Ring.{ring}
 use mathlib.Core.List.{IsPrefix}
 use Rattle.steal_pool.specs.Shift.{visited}
 use Rattle.steal_pool.proofs.Steps.{times_same}
+use Rattle.steal_pool.proofs.Filled.{ring_below}
 
 visited_more : (deques number old more : ℕ) → IsPrefix (visited deques number old) (visited deques number (old + more))
 visited_more deques number old zero = ([], append-nil (visited deques number old) ∙ (let e : old ≡ old + zero = omega arith in ap (visited deques number) e))
@@ -63,9 +64,6 @@ visited_lack deques number (suc n) j a b c h =
     (λ (new : ring deques number n ≡ ring deques number j). ring_one deques number n j a (omega arith) c new)
     (Contains-push_cases (visited deques number n) (ring deques number n) (ring deques number j) h)
 
-ring_under : (deques number j : ℕ) → number < deques → j < deques → ring deques number j < deques
-ring_under deques number j a b = grind (arith, nat_tests)
-
 abbrev pub HasAll : ℕ → ℕ → ℕ → Type 0
 HasAll deques number done = (d : ℕ) → d < deques → Contains (visited deques number done) d
 
@@ -73,7 +71,7 @@ pub ended_from : (deques number done : ℕ) (r : Option ℕ) → number < deques
     → MatchOption r (HasAll deques number done) (λ _. HasAll deques number done → ⊥)
 ended_from deques number done None own h = subst (λ (n : ℕ). HasAll deques number n) (sym h) (λ d l. visited_all deques number d own l)
 ended_from deques number done (Some p) own h = λ all. visited_lack deques number done done own (omega arith) h
-    (all (ring deques number done) (ring_under deques number done own h))
+    (all (ring deques number done) (ring_below deques number done own h))
 
 -- a number that stands nowhere in a list
 pub not_among : (x : ℕ) (xs : List ℕ) → times x xs ≡ 0 → ¬ (Contains xs x)

@@ -3,6 +3,7 @@ use Rattle.std.proofs.Common.{◌≡◌, ℕ, zero, suc, ◌+◌, ◌-◌, ◌<�
 use Rattle.std.specs.Global.{Global, Vec}
 use Rattle.std.specs.List.{slice_get}
 use Rattle.std.proofs.lemmas.Bool.Decides.{nat_tests}
+use Rattle.std.proofs.lemmas.List.{length-map, map_push}
 use Rattle.crossbeam_deque.specs.declared.handles.Worker.{Worker}
 use Rattle.crossbeam_deque.specs.Handles.{view, worker_view, worker_flavor}
 use Rattle.steal_pool.specs.declared.deque.Knowledge.{Knowledge}
@@ -11,7 +12,7 @@ use Rattle.steal_pool.specs.Deque.{share, IsFilled}
 use Rattle.steal_pool.specs.Ring.{ring, view_at}
 use Rattle.steal_pool.specs.SeatViews.{seat_views}
 use Rattle.steal_pool.specs.Rows.{owner_views, owner_deques, owner_flavors, seat_deques, AreCut, others_of, IsRow, IsAround, AreOwners, served, AreFifo, IsNewRow, AreRows}
-use Rattle.steal_pool.proofs.Rows.{map_length, map_snoc, each_more}
+use Rattle.steal_pool.proofs.Rows.{each_more}
 
 pub get_snoc : {A : Type 0} (xs : List A) (w x : A) (i : ℕ) → slice_get (xs ++ w ∷ []) i ≡ Some x → (slice_get xs i ≡ Some x) ⊎ ((i ≡ length xs) × (w ≡ x))
 get_snoc [] w x zero e = inr (refl, cc)
@@ -53,9 +54,9 @@ module _ {T P : Type 0} where
       → longer ≡ owners ++ own ∷ [] → OwnersSoFar deques parents (n + 1) longer
   owners_more deques parents n owners longer own h new is =
       let views : owner_views longer ≡ owner_views owners ++ worker_view own ∷ [] = ap (λ (l : List (Worker T Global Knowledge P)). owner_views l) is
-      ∙ map_snoc (λ (o : Worker T Global Knowledge P). worker_view o) owners own in
+      ∙ map_push (λ (o : Worker T Global Knowledge P). worker_view o) owners own in
       let flavors : owner_flavors longer ≡ owner_flavors owners ++ worker_flavor own ∷ [] = ap
-      (λ (l : List (Worker T Global Knowledge P)). owner_flavors l) is ∙ map_snoc (λ (o : Worker T Global Knowledge P). worker_flavor o) owners own in
+      (λ (l : List (Worker T Global Knowledge P)). owner_flavors l) is ∙ map_push (λ (o : Worker T Global Knowledge P). worker_flavor o) owners own in
       let c = h.count in
       record {
         count = ap length views ∙ omega (arith, length-append (owner_views owners) (worker_view own ∷ []));
@@ -100,7 +101,7 @@ module _ {T P : Type 0} where
 
   pub rows_length : (deques parents n : ℕ) (first now : List (Worker T Global Knowledge P)) (rows : List (Vec Seat))
       → RowsSoFar deques parents n first now rows → length now ≡ deques
-  rows_length deques parents n first now rows h = sym (map_length (λ (o : Worker T Global Knowledge P). worker_view o) now) ∙ h.owners.count
+  rows_length deques parents n first now rows h = sym (length-map now (λ (o : Worker T Global Knowledge P). worker_view o)) ∙ h.owners.count
 
   pub rows_more : (deques parents n : ℕ) (first now new : List (Worker T Global Knowledge P)) (rows longer : List (Vec Seat)) (row : Vec Seat)
       → RowsSoFar deques parents n first now rows → n < deques
@@ -112,7 +113,7 @@ module _ {T P : Type 0} where
       let c : length (owner_views now) ≡ deques = h.owners.count in
       let rc = h.made.count in
       let mine : IsNewRow deques parents n (owner_deques first) row.items = record {
-        count = sym (map_length (λ (s : Seat). view s.token) row.items) ∙ seats.count ∙ ap (λ (k : ℕ). k - 1) l;
+        count = sym (length-map row.items (λ (s : Seat). view s.token)) ∙ seats.count ∙ ap (λ (k : ℕ). k - 1) l;
         parts = λ j b. seats.parts j (omega arith);
         all = λ j b. seats.all j (omega arith) ∙ ap (λ (k : ℕ). (view_at (owner_views now) (ring k n (j + 1))).pushed) c
             ∙ h.owners.all (ring deques n (j + 1)) (ring_below deques n (j + 1) below (omega arith));

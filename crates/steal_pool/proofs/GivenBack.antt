@@ -5,6 +5,8 @@ use Rattle.std.specs.List.{slice_get}
 use Rattle.crossbeam_deque.specs.declared.handles.Worker.{Worker}
 use Rattle.crossbeam_deque.specs.Handles.{view, stealer_deque}
 use Rattle.std.proofs.lemmas.Bool.{cases_eq}
+use Rattle.std.proofs.lemmas.List.{map-set, get_or-map, length-map, map_push}
+use Rattle.std.proofs.Math.Seq.{map-set_same}
 use Rattle.steal_pool.specs.declared.deque.Knowledge.{Knowledge}
 use Rattle.steal_pool.specs.declared.seat.Seat.{Seat}
 use Rattle.steal_pool.specs.Deque.{times, total, spent, both, Learned}
@@ -14,7 +16,7 @@ use Rattle.steal_pool.specs.Rows.{IsAround}
 use Rattle.steal_pool.specs.Back.{place_view, place_deque, place_views, place_deques, seat_places, row_views, rows_views, HaveParts, AreBack, GoesRound}
 use Rattle.steal_pool.proofs.Steps.{times-append}
 use Rattle.steal_pool.proofs.Filled.{ring_below}
-use Rattle.steal_pool.proofs.Rows.{map_set, map_same, map_at, map_get, map_length, map_snoc, set_each}
+use Rattle.steal_pool.proofs.Rows.{map_get, set_each}
 
 total_put : (f : Knowledge → ℕ) (views : List Knowledge) (d : ℕ) (w : Knowledge) → d < length views
     → total f (set views d w) + f (view_at views d) ≡ total f views + f w
@@ -125,7 +127,7 @@ module _ {T P : Type 0} where
       → IsAround number (length first - 1) (place_deques first) (seat_places row) → HaveParts (seat_views row)
       → IsRowBack number first first row row
   row_first number first row own around parts =
-      let c = around.count in let l = map_length (λ (s : Seat). Some (stealer_deque s.thief)) row in
+      let c = around.count in let l = length-map row (λ (s : Seat). Some (stealer_deque s.thief)) in
       let n : length row ≡ length first - 1 = omega arith in
       record {
         same = refl;
@@ -136,7 +138,7 @@ module _ {T P : Type 0} where
       }
 
   same_count : (first now : List (Place T P)) → place_deques now ≡ place_deques first → length now ≡ length first
-  same_count first now same = sym (map_length place_deque now) ∙ ap length same ∙ map_length place_deque first
+  same_count first now same = sym (length-map now place_deque) ∙ ap length same ∙ length-map first place_deque
 
   pub row_count : (number : ℕ) (first now : List (Place T P)) (row left : List Seat) → IsRowBack number first now row left → length now ≡ length first
   row_count number first now row left h = same_count first now h.same
@@ -156,10 +158,10 @@ module _ {T P : Type 0} where
   seat_at_place number d first now row longer left seat r h is at below =
       let f : Seat → Option _ = λ (s : Seat). Some (stealer_deque s.thief) in
       let around : IsAround number (length longer) (place_deques first) (seat_places left ++ f seat ∷ []) =
-      subst (IsAround number (length longer) (place_deques first)) (ap seat_places is ∙ map_snoc f left seat) h.around in
+      subst (IsAround number (length longer) (place_deques first)) (ap seat_places is ∙ map_push f left seat) h.around in
       let there = around_last number (length longer) (place_deques first) (seat_places left) (f seat) around in
-      let n : length (place_deques first) ≡ length now = map_length place_deque first ∙ sym (same_count first now h.same) in
-      let m : length (seat_places left) ≡ length left = map_length f left in
+      let n : length (place_deques first) ≡ length now = length-map first place_deque ∙ sym (same_count first now h.same) in
+      let m : length (seat_places left) ≡ length left = length-map left f in
       let here : slice_get (place_deques now) d ≡ Some (f seat) = ap (λ l. slice_get l d) h.same
       ∙ ap (slice_get (place_deques first)) (at ∙ ap (λ (k : ℕ). ring k number (length left + 1)) (sym n)
       ∙ ap (λ (k : ℕ). ring (length (place_deques first)) number (k + 1)) (sym m)) ∙ there in
@@ -169,14 +171,14 @@ module _ {T P : Type 0} where
   pub seat_parts : (number : ℕ) (first now : List (Place T P)) (row longer left : List Seat) (seat : Seat) → IsRowBack number first now row longer
       → longer ≡ left ++ seat ∷ [] → 0 < (view seat.token).parts
   seat_parts number first now row longer left seat h is =
-      (parts_less (seat_views left) (view seat.token) (subst HaveParts (ap seat_views is ∙ map_snoc (λ (s : Seat). view s.token) left seat) h.parts)).1
+      (parts_less (seat_views left) (view seat.token) (subst HaveParts (ap seat_views is ∙ map_push (λ (s : Seat). view s.token) left seat) h.parts)).1
 
   pub place_parts : (number d : ℕ) (first now : List (Place T P)) (row left : List Seat) (r : Place T P) → IsRowBack number first now row left
       → HaveParts (place_views first) → d < length now
       → 0 < (place_view (slice_index_or now d r)).parts
   place_parts number d first now row left r h parts below =
-      let l = map_length place_view now in
-      subst (λ (v : Knowledge). 0 < v.parts) (map_at place_view now d r spent below)
+      let l = length-map now place_view in
+      subst (λ (v : Knowledge). 0 < v.parts) (get_or-map place_view now d r spent below)
       (still_parts (place_views first) (place_views now) (seat_views row) (seat_views left) h.back parts d (omega arith))
 
   pub row_more : (number d : ℕ) (first now : List (Place T P)) (row longer left : List Seat) (seat : Seat) (r new : Place T P)
@@ -186,21 +188,21 @@ module _ {T P : Type 0} where
   row_more number d first now row longer left seat r new h is below same joined =
       let f : Seat → Option _ = λ (s : Seat). Some (stealer_deque s.thief) in
       let around : IsAround number (length longer) (place_deques first) (seat_places left ++ f seat ∷ []) =
-      subst (IsAround number (length longer) (place_deques first)) (ap seat_places is ∙ map_snoc f left seat) h.around in
-      let m : length (seat_places left) ≡ length left = map_length f left in
-      let l = map_length place_view now in
+      subst (IsAround number (length longer) (place_deques first)) (ap seat_places is ∙ map_push f left seat) h.around in
+      let m : length (seat_places left) ≡ length left = length-map left f in
+      let l = length-map now place_view in
       let few = h.few in let n = ap length is in
       record {
-        same = map_same place_deque now d new r below same ∙ h.same;
+        same = map-set_same place_deque now d new r same ∙ h.same;
         around = subst (λ (k : ℕ). IsAround number k (place_deques first) (seat_places left)) m
             (around_less number (length longer) (place_deques first) (seat_places left) (f seat) around);
         few = omega (arith, length-append left (seat ∷ []));
         parts = (parts_less (seat_views left) (view seat.token)
-            (subst HaveParts (ap seat_views is ∙ map_snoc (λ (s : Seat). view s.token) left seat) h.parts)).0;
-        back = subst (λ (vs : List Knowledge). AreBack (place_views first) vs (seat_views row) (seat_views left)) (sym (map_set place_view now d new))
+            (subst HaveParts (ap seat_views is ∙ map_push (λ (s : Seat). view s.token) left seat) h.parts)).0;
+        back = subst (λ (vs : List Knowledge). AreBack (place_views first) vs (seat_views row) (seat_views left)) (sym (map-set place_view now d new))
             (back_more (place_views first) (place_views now) (seat_views row) (seat_views longer) (seat_views left) d (place_view new) (view seat.token) h.back
-            (ap seat_views is ∙ map_snoc (λ (s : Seat). view s.token) left seat) (omega arith)
-            (joined ∙ ap (λ (v : Knowledge). both v (view seat.token)) (sym (map_at place_view now d r spent below))));
+            (ap seat_views is ∙ map_push (λ (s : Seat). view s.token) left seat) (omega arith)
+            (joined ∙ ap (λ (v : Knowledge). both v (view seat.token)) (sym (get_or-map place_view now d r spent below))));
       }
 
   pub row_last : (number : ℕ) (first now : List (Place T P)) (row left : List Seat) → IsRowBack number first now row left → left ≡ []
@@ -225,12 +227,12 @@ module _ {T P : Type 0} where
       → place_view new ≡ place_view (slice_index_or now i r) → Learned (place_view (slice_index_or now i r))
       → (place_views (set now i new) ≡ place_views first) × ((k : ℕ) → k < i + 1 → Learned (view_at (place_views (set now i new)) k))
   learned_more first now i r new h below same learned =
-      let e : place_views (set now i new) ≡ place_views now = map_same place_view now i new r below same in (
+      let e : place_views (set now i new) ≡ place_views now = map-set_same place_view now i new r same in (
         e ∙ h.0,
         λ k l. subst (λ (vs : List Knowledge). Learned (view_at vs k)) (sym e)
             (⊎_elim
             (λ (is : k ≡ i). subst (λ (j : ℕ). Learned (view_at (place_views now) j)) (sym is)
-            (subst Learned (sym (map_at place_view now i r spent below)) learned))
+            (subst Learned (sym (get_or-map place_view now i r spent below)) learned))
             (λ (isnt : k ≢ i). h.1 k (omega arith))
             (cases_eq k i)),
       )
@@ -245,7 +247,7 @@ module _ {T P : Type 0} where
       → IsAround number (length now - 1) (place_deques now) (seat_places row.items) × HaveParts (seat_views row.items)
   next_row number first now rows longer left row h is at =
       let g = row_at first now rows longer left (Some row) h is in
-      let n : length (place_deques first) ≡ length now = map_length place_deque first ∙ sym (same_count first now h.same) in (
+      let n : length (place_deques first) ≡ length now = length-map first place_deque ∙ sym (same_count first now h.same) in (
         subst (λ (k : ℕ). IsAround k (length now - 1) (place_deques now) (seat_places row.items)) (sym at)
             (subst (λ ds. IsAround (length left) (length now - 1) ds (seat_places row.items)) (sym h.same)
             (subst (λ (k : ℕ). IsAround (length left) (k - 1) (place_deques first) (seat_places row.items)) n g.0)),
@@ -286,5 +288,5 @@ module _ {T P : Type 0} where
 pub room_for : {A B : Type 0} (f : A → B) (xs : List B) (all left rest : List A) (x : A) → xs ++ map f left ≡ map f all → left ≡ x ∷ rest
     → length xs < length all
 room_for f xs all left rest x h is =
-    let l = map_length f all in let m = map_length f left in let e = ap length h in let n : length left ≡ length (x ∷ rest) = ap length is in
+    let l = length-map all f in let m = length-map left f in let e = ap length h in let n : length left ≡ length (x ∷ rest) = ap length is in
     omega (arith, length-append xs (map f left))

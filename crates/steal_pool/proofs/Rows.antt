@@ -8,33 +8,10 @@ use Rattle.steal_pool.specs.Deque.{one, spent, kept, given}
 use Rattle.steal_pool.specs.Ring.{ring, view_at}
 use Rattle.steal_pool.specs.Rows.{AreCut, IsRow, IsAround}
 
-pub map_set : {A B : Type 0} (f : A → B) (xs : List A) (i : ℕ) (y : A) → map f (set xs i y) ≡ set (map f xs) i (f y)
-map_set f [] i y = refl
-map_set f (x ∷ xs) zero y = refl
-map_set f (x ∷ xs) (suc i) y = ap (λ l. f x ∷ l) (map_set f xs i y)
-
-pub map_same : {A B : Type 0} (f : A → B) (xs : List A) (i : ℕ) (y r : A) → i < length xs → f y ≡ f (slice_index_or xs i r) → map f (set xs i y) ≡ map f xs
-map_same f [] i y r below e = refl
-map_same f (x ∷ xs) zero y r below e = ap (λ z. z ∷ map f xs) e
-map_same f (x ∷ xs) (suc i) y r below e = ap (λ l. f x ∷ l) (map_same f xs i y r (omega arith) e)
-
-pub map_at : {A B : Type 0} (f : A → B) (xs : List A) (i : ℕ) (r : A) (d : B) → i < length xs → slice_index_or (map f xs) i d ≡ f (slice_index_or xs i r)
-map_at f [] i r d below = absurd (omega arith)
-map_at f (x ∷ xs) zero r d below = refl
-map_at f (x ∷ xs) (suc i) r d below = map_at f xs i r d (omega arith)
-
 pub map_get : {A B : Type 0} (f : A → B) (xs : List A) (i : ℕ) (r : A) → i < length xs → slice_get (map f xs) i ≡ Some (f (slice_index_or xs i r))
 map_get f [] i r below = absurd (omega arith)
 map_get f (x ∷ xs) zero r below = refl
 map_get f (x ∷ xs) (suc i) r below = map_get f xs i r (omega arith)
-
-pub map_length : {A B : Type 0} (f : A → B) (xs : List A) → length (map f xs) ≡ length xs
-map_length f [] = refl
-map_length f (x ∷ xs) = ap suc (map_length f xs)
-
-pub map_snoc : {A B : Type 0} (f : A → B) (xs : List A) (y : A) → map f (xs ++ y ∷ []) ≡ map f xs ++ f y ∷ []
-map_snoc f [] y = refl
-map_snoc f (x ∷ xs) y = ap (λ l. f x ∷ l) (map_snoc f xs y)
 
 at_snoc_old : (views : List Knowledge) (w : Knowledge) (j : ℕ) → j < length views → view_at (views ++ w ∷ []) j ≡ view_at views j
 at_snoc_old [] w j below = absurd (omega arith)

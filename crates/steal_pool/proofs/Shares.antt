@@ -1,13 +1,14 @@
 -- The deques' shares, and what a shift has taken of them.
-use Rattle.std.proofs.Common.{◌≡◌, ◌≢◌, ℕ, zero, suc, ◌+◌, ◌-◌, ◌%◌, ◌^◌, min, ◌<◌, ◌≤◌, ◌==◌, ◌⊎◌, Bool, true, false, cond, List, [], ◌∷◌, ◌++◌, length, set, sym, refl, ap, ◌∙◌, subst, ⊎_elim, append_assoc, arith, inl, inr, length-set, get_or-set_same, get_or-set_other, append-nil}
+use Rattle.std.proofs.Common.{◌≡◌, ◌≢◌, ℕ, zero, suc, ◌+◌, ◌-◌, ◌%◌, ◌^◌, min, ◌<◌, ◌≤◌, ◌==◌, ◌⊎◌, Bool, true, false, cond, List, [], ◌∷◌, ◌++◌, length, set, sym, refl, ap, ◌∙◌, ⊎_elim, append_assoc, arith, inl, inr, length-set, append-nil}
 use Rattle.std.proofs.lemmas.Bool.{cases_eq, cases_lt}
 use Rattle.std.proofs.Math.Nat.{mod-eq_of_lt, mod-add-mod, add-mod_right}
 use Rattle.std.proofs.lemmas.Bool.Decides.{nat_tests}
 use Rattle.steal_pool.specs.declared.deque.Knowledge.{Knowledge}
 use Rattle.steal_pool.specs.declared.deque.Task.TheVariants.{Number, End}
-use Rattle.steal_pool.specs.Deque.{knowledge, one, times, share, spent, GotTask, PutTask, IsFilled}
+use Rattle.steal_pool.specs.Deque.{knowledge, one, times, share, GotTask, PutTask, IsFilled}
 use Rattle.steal_pool.specs.Ring.{ring, view_at, takings, IsShift}
 use Rattle.steal_pool.proofs.Steps.{times-append, times_same}
+use Rattle.steal_pool.proofs.Rows.{set_each}
 
 pub same_from : (a b : ℕ) → (a == b) ≡ true → a ≡ b
 same_from a b e = grind (arith, nat_tests)
@@ -73,14 +74,6 @@ takings_none x [] none = refl
 takings_none x (v ∷ vs) none = let a : times x v.taken ≡ 0 = none 0 (omega arith) in
     let b : times x (takings vs) ≡ 0 = takings_none x vs (λ j l. none (suc j) (omega arith)) in omega (arith, times-append x v.taken (takings vs))
 
-each_set : (F : ℕ → Knowledge → Type 0) (views : List Knowledge) (n done : ℕ) (w : Knowledge) → done < length views → F done w
-    → ((j : ℕ) → j ≢ done → j < n → F j (view_at views j)) → (j : ℕ) → j < n → F j (view_at (set views done w) j)
-each_set F views n done w below mine others j l =
-    ⊎_elim
-    (λ (is : j ≡ done). subst (λ (i : ℕ). F i (view_at (set views done w) i)) (sym is) (subst (F done) (sym (get_or-set_same views done w spent below)) mine))
-    (λ (isnt : j ≢ done). subst (F j) (sym (get_or-set_other views done j w spent isnt)) (others j isnt l))
-    (cases_eq j done)
-
 shift_set : (deques number parents done after : ℕ) (views : List Knowledge) (w : Knowledge) → IsShift deques number parents done views → done < deques
     → done ≤ after → after ≤ done + 1 → 0 < w.parts
     → w.pushed ≡ (view_at views done).pushed → (done < after → w.ended ≡ true) → ((x : ℕ) → times x w.taken ≤ times x w.pushed)
@@ -91,12 +84,12 @@ shift_set deques number parents done after views w s more a b part same met prop
       count = length-set views done w ∙ s.count;
       own = s.own;
       within = omega arith;
-      part = each_set (λ _ v. 0 < v.parts) views deques done w below part (λ j _ l. s.part j l);
-      all = each_set (λ j v. v.pushed ≡ share deques (ring deques number j) parents) views deques done w below (same ∙ s.all done more) (λ j _ l. s.all j l);
-      ended = λ j l. each_set (λ j v. j < after → v.ended ≡ true) views deques done w below met (λ i isnt _ m. s.ended i (omega arith)) j (omega arith) l;
-      later = λ j m l. each_set (λ j v. after < j → v.taken ≡ []) views deques done w below (λ z. absurd (omega arith))
+      part = set_each (λ _ v. 0 < v.parts) views deques done w below part (λ j _ l. s.part j l);
+      all = set_each (λ j v. v.pushed ≡ share deques (ring deques number j) parents) views deques done w below (same ∙ s.all done more) (λ j _ l. s.all j l);
+      ended = λ j l. set_each (λ j v. j < after → v.ended ≡ true) views deques done w below met (λ i isnt _ m. s.ended i (omega arith)) j (omega arith) l;
+      later = λ j m l. set_each (λ j v. after < j → v.taken ≡ []) views deques done w below (λ z. absurd (omega arith))
           (λ i isnt k z. s.later i (omega arith) k) j l m;
-      proper = λ j x l. each_set (λ _ v. times x v.taken ≤ times x v.pushed) views deques done w below (proper x) (λ i _ k. s.proper i x k) j l;
+      proper = λ j x l. set_each (λ _ v. times x v.taken ≤ times x v.pushed) views deques done w below (proper x) (λ i _ k. s.proper i x k) j l;
     }
 
 pub took : (deques number parents done : ℕ) (views : List Knowledge) (w : Knowledge) (p : ℕ) → IsShift deques number parents done views

@@ -4,6 +4,8 @@ use Rattle.std.specs.Global.{Global, Vec}
 use Rattle.atomic_blocks.specs.Lent.{RowsId}
 use Rattle.std.specs.List.{slice_get}
 use Rattle.std.proofs.lemmas.Bool.Decides.{nat_tests}
+use Rattle.std.proofs.lemmas.List.{length-map, map_push}
+use Rattle.std.proofs.lemmas.Option.{slice_get_within, slice_get-get_or}
 use Rattle.crossbeam_deque.specs.declared.handles.Worker.{Worker}
 use Rattle.crossbeam_deque.specs.Handles.{view, worker_view, worker_deque, worker_flavor}
 use Rattle.steal_pool.specs.declared.deque.Knowledge.{Knowledge}
@@ -17,9 +19,7 @@ use Rattle.steal_pool.specs.SeatViews.{seat_views}
 use Rattle.steal_pool.specs.Shift.{visited}
 use Rattle.steal_pool.specs.Rows.{owner_views, owner_deques, owner_flavors, seat_deques, IsAround, AreOwners, served, AreFifo, IsNewRow, AreRows}
 use Rattle.steal_pool.specs.Pool.{pool_deques, pool_parents, IsPoolOf, IsPool, AreNew}
-use Rattle.steal_pool.proofs.Rows.{map_length, map_snoc}
 use Rattle.steal_pool.proofs.Filled.{get_snoc}
-use Rattle.steal_pool.proofs.Stays.{got_or}
 
 abbrev pub Own : Type 0
 Own = Worker Task Global Knowledge DequeRule
@@ -32,11 +32,6 @@ get_map : {A B : Type 0} (f : A → B) (xs : List A) (i : ℕ) (x : A) → slice
 get_map f [] i x e = absurd cc
 get_map f (y ∷ ys) zero x e = let is : y ≡ x = cc in ap (λ z. Some (f z)) is
 get_map f (y ∷ ys) (suc i) x e = get_map f ys i x e
-
-get_within : {A : Type 0} (xs : List A) (i : ℕ) (x : A) → slice_get xs i ≡ Some x → i < length xs
-get_within [] i x e = absurd cc
-get_within (y ∷ ys) zero x e = omega arith
-get_within (y ∷ ys) (suc i) x e = let l = get_within ys i x e in omega arith
 
 view_of : (owners : List Own) (i : ℕ) (own : Own) → slice_get owners i ≡ Some own → view_at (owner_views owners) i ≡ worker_view own
 view_of [] i own e = absurd cc
@@ -82,8 +77,8 @@ module _ (deques parents : ℕ) (of : List (RowsId × Global)) where
       → AreOwners deques parents (served deques) (owner_views owners) → AreFifo (owner_flavors owners) → AreRows deques parents deques of rows
       → slice_get owners n ≡ Some own → slice_get rows n ≡ Some others → IsPart n own others
   part_at n owners rows own others a f r at at' =
-      let b : n < length owners = get_within owners n own at in
-      let b' : n < deques = (let l = map_length (λ (o : Own). worker_view o) owners in let c = a.count in omega arith) in
+      let b : n < length owners = slice_get_within owners n own at in
+      let b' : n < deques = (let l = length-map owners (λ (o : Own). worker_view o) in let c = a.count in omega arith) in
       let v : view_at (owner_views owners) n ≡ worker_view own = view_of owners n own at in
       let p = a.parts n b' in let s = served_all deques n b' in
       let q : (view_at (owner_views owners) n).parts ≡ (worker_view own).parts = ap (λ (v : Knowledge). v.parts) v in
@@ -104,10 +99,10 @@ module _ (deques parents : ℕ) (of : List (RowsId × Global)) where
       part_at n owners rows own others h.given h.fifo h.made
       (ap (λ (l : List Own). slice_get l n) (sym h.own ∙ ap (λ (l : List Own). map (λ (s : Shift). s.own) shifts ++ l) eo)
       ∙ subst (λ (k : ℕ). slice_get (map (λ (s : Shift). s.own) shifts ++ own ∷ owners_rest) k ≡ Some own)
-      (map_length (λ (s : Shift). s.own) shifts ∙ c) (get_middle (map (λ (s : Shift). s.own) shifts) owners_rest own))
+      (length-map shifts (λ (s : Shift). s.own) ∙ c) (get_middle (map (λ (s : Shift). s.own) shifts) owners_rest own))
       (ap (λ (l : List (Vec Seat)). slice_get l n) (sym h.others ∙ ap (λ (l : List (Vec Seat)). map (λ (s : Shift). s.others) shifts ++ l) er)
       ∙ subst (λ (k : ℕ). slice_get (map (λ (s : Shift). s.others) shifts ++ others ∷ rows_rest) k ≡ Some others)
-      (map_length (λ (s : Shift). s.others) shifts ∙ c) (get_middle (map (λ (s : Shift). s.others) shifts) rows_rest others))
+      (length-map shifts (λ (s : Shift). s.others) ∙ c) (get_middle (map (λ (s : Shift). s.others) shifts) rows_rest others))
 
   part_parts : (n : ℕ) (own : Own) (others : Vec Seat) → deques ≤ 64 → IsPart n own others → (j : ℕ) → j < deques
       → 0 < (view_at (worker_view own ∷ seat_views others.items) j).parts
@@ -126,7 +121,7 @@ module _ (deques parents : ℕ) (of : List (RowsId × Global)) where
   part_none n own others h (suc j) l = h.seats.none j (omega arith)
 
   part_count : (n : ℕ) (own : Own) (others : Vec Seat) → IsPart n own others → length (worker_view own ∷ seat_views others.items) ≡ deques
-  part_count n own others h = let c = h.seats.count in let b = h.below in let l = map_length (λ (s : Seat). view s.token) others.items in omega arith
+  part_count n own others h = let c = h.seats.count in let b = h.below in let l = length-map others.items (λ (s : Seat). view s.token) in omega arith
 
   pub part_shift : (n : ℕ) (own : Own) (others : Vec Seat) → deques ≤ 64 → IsPart n own others
       → IsShift deques n parents 0 (worker_view own ∷ seat_views others.items)
@@ -168,10 +163,10 @@ module _ (deques parents : ℕ) (of : List (RowsId × Global)) where
         given = h.given;
         fifo = h.fifo;
         made = h.made;
-        own = ap (λ (l : List Own). l ++ owners_rest) (map_snoc (λ (s : Shift). s.own) shifts s)
+        own = ap (λ (l : List Own). l ++ owners_rest) (map_push (λ (s : Shift). s.own) shifts s)
             ∙ append_assoc (map (λ (s : Shift). s.own) shifts) (s.own ∷ []) owners_rest
             ∙ ap (λ (l : List Own). map (λ (s : Shift). s.own) shifts ++ l) (sym eo) ∙ h.own;
-        others = ap (λ (l : List (Vec Seat)). l ++ rows_rest) (map_snoc (λ (s : Shift). s.others) shifts s)
+        others = ap (λ (l : List (Vec Seat)). l ++ rows_rest) (map_push (λ (s : Shift). s.others) shifts s)
             ∙ append_assoc (map (λ (s : Shift). s.others) shifts) (s.others ∷ []) rows_rest
             ∙ ap (λ (l : List (Vec Seat)). map (λ (s : Shift). s.others) shifts ++ l) (sym er) ∙ h.others;
         each = λ i t e. ⊎_elim (λ (o : slice_get shifts i ≡ Some t). h.each i t o)
@@ -184,7 +179,7 @@ module _ (deques parents : ℕ) (of : List (RowsId × Global)) where
   own_of : (owners owners_left : List Own) (rows rows_left : List (Vec Seat)) (shifts : List Shift) (n : ℕ)
       → ShiftsSoFar n owners rows owners_left rows_left shifts → n ≡ deques → map (λ s. s.own) shifts ≡ owners
   own_of owners owners_left rows rows_left shifts n h is =
-      let l = map_length (λ (s : Shift). s.own) shifts in let m = map_length (λ (o : Own). worker_view o) owners in let c = h.count in let d = h.given.count in
+      let l = length-map shifts (λ (s : Shift). s.own) in let m = length-map owners (λ (o : Own). worker_view o) in let c = h.count in let d = h.given.count in
       sym (append-nil (map (λ (s : Shift). s.own) shifts))
       ∙ ap (λ (r : List Own). map (λ (s : Shift). s.own) shifts ++ r)
       (sym (none_left (map (λ (s : Shift). s.own) shifts) owners_left owners h.own (omega arith))) ∙ h.own
@@ -192,7 +187,7 @@ module _ (deques parents : ℕ) (of : List (RowsId × Global)) where
   others_are : (owners owners_left : List Own) (rows rows_left : List (Vec Seat)) (shifts : List Shift) (n : ℕ)
       → ShiftsSoFar n owners rows owners_left rows_left shifts → n ≡ deques → map (λ s. s.others) shifts ≡ rows
   others_are owners owners_left rows rows_left shifts n h is =
-      let l = map_length (λ (s : Shift). s.others) shifts in let c = h.count in let d = h.made.count in
+      let l = length-map shifts (λ (s : Shift). s.others) in let c = h.count in let d = h.made.count in
       sym (append-nil (map (λ (s : Shift). s.others) shifts))
       ∙ ap (λ (r : List (Vec Seat)). map (λ (s : Shift). s.others) shifts ++ r)
       (sym (none_left (map (λ (s : Shift). s.others) shifts) rows_left rows h.others (omega arith))) ∙ h.others
@@ -225,7 +220,7 @@ module _ (deques parents : ℕ) (of : List (RowsId × Global)) where
       → ShiftsSoFar n owners rows owners_left rows_left shifts → n ≡ deques → AreNew deques parents shifts
   shifts_new owners owners_left rows rows_left shifts n h is i d l =
       let s : Shift = slice_index_or shifts i d in
-      let e : slice_get shifts i ≡ Some s = got_or shifts i d l in
+      let e : slice_get shifts i ≡ Some s = slice_get-get_or shifts i d l in
       let p = part_of owners owners_left rows rows_left shifts n h is i s e in let f = h.each i s e in record {
         number = f.0;
         parents_of = f.1;

@@ -15,11 +15,6 @@ module _ {A : Type 0} where
   got_is (y ∷ ys) zero x d e = (omega arith, cc)
   got_is (y ∷ ys) (suc i) x d e = let h = got_is ys i x d e in let l = h.0 in (omega arith, h.1)
 
-  pub got_or : (xs : List A) (i : ℕ) (d : A) → i < length xs → slice_get xs i ≡ Some (slice_index_or xs i d)
-  got_or [] i d l = absurd (omega arith)
-  got_or (y ∷ ys) zero d l = refl
-  got_or (y ∷ ys) (suc i) d l = got_or ys i d (omega arith)
-
   some_at : (xs ys : List A) (i : ℕ) (y : A) → length ys ≡ length xs → slice_get ys i ≡ Some y → (x : A) × (slice_get xs i ≡ Some x)
   some_at xs [] i y l e = absurd cc
   some_at [] (y ∷ ys) i z l e = absurd (omega arith)

@@ -4,6 +4,7 @@ use Rattle.std.specs.Global.{Global, Vec}
 use Rattle.std.specs.List.{slice_get, concat}
 use Rattle.std.proofs.lemmas.Bool.{cases_eq}
 use Rattle.std.proofs.lemmas.Bool.Decides.{nat_tests}
+use Rattle.std.proofs.lemmas.List.{length-map}
 use Rattle.atomic_blocks.specs.Lent.{RowsId}
 use Rattle.crossbeam_deque.specs.Handles.{worker_view, worker_deque, stealer_deque}
 use Rattle.steal_pool.specs.declared.deque.Knowledge.{Knowledge}
@@ -19,7 +20,6 @@ use Rattle.steal_pool.specs.Back.{place_view, place_deque, place_views, place_de
 use Rattle.steal_pool.proofs.Steps.{times-append, times_same}
 use Rattle.steal_pool.proofs.Shares.{one_other}
 use Rattle.steal_pool.proofs.Shifts.{Own, ring_zero}
-use Rattle.steal_pool.proofs.Rows.{map_length}
 use Rattle.steal_pool.proofs.Empty.{nothing_in}
 use Rattle.steal_pool.proofs.Stays.{got_is}
 use Rattle.steal_pool.proofs.GivenBack.{total-append}
@@ -207,8 +207,8 @@ module _ {A : Type 0} where
 
 around_map : {D E : Type 0} (f : D → E) (number n : ℕ) (deques row : List D) → IsAround number n deques row → IsAround number n (map f deques) (map f row)
 around_map f number n deques row h = record {
-  count = map_length f row ∙ h.count;
-  seats = λ j l. got_mapped f row j ∙ ap (lift f) (h.seats j l ∙ ap (λ (k : ℕ). slice_get deques (ring k number (j + 1))) (sym (map_length f deques)))
+  count = length-map row f ∙ h.count;
+  seats = λ j l. got_mapped f row j ∙ ap (lift f) (h.seats j l ∙ ap (λ (k : ℕ). slice_get deques (ring k number (j + 1))) (sym (length-map deques f)))
       ∙ sym (got_mapped f deques (ring (length (map f deques)) number (j + 1)));
 }
 
@@ -246,7 +246,7 @@ goes_round : (deques parents i : ℕ) (shifts : List Shift) (s : Shift) → IsPo
     → GoesRound i (place_deques (shift_places shifts)) (Some s.others)
 goes_round deques parents i shifts s pool at =
     let ds : List (RowsId × Global) = pool_deques shifts in
-    let n : length (map (λ d. Some d) ds) ≡ deques = map_length (λ d. Some d) ds ∙ map_length (λ (s : Shift). worker_deque s.own) shifts ∙ pool.count in
+    let n : length (map (λ d. Some d) ds) ≡ deques = length-map ds (λ d. Some d) ∙ length-map shifts (λ (s : Shift). worker_deque s.own) ∙ pool.count in
     let around : IsAround i (deques - 1) (map (λ d. Some d) ds) (map (λ d. Some d) (seat_deques s.others.items)) = around_map (λ d. Some d) i
     (deques - 1) ds (seat_deques s.others.items) (pool.around i s at) in
     let around' : IsAround i (deques - 1) (map (λ d. Some d) ds) (seat_places s.others.items) =
@@ -269,7 +269,7 @@ own_at shifts k l = let g = got_some shifts k l in (g.0, g.1, view_got (λ (s : 
 
 pub places_parts : (shifts : List Shift) (places : List (Option Own)) → places ≡ shift_places shifts → HaveParts (place_views places)
 places_parts shifts places ep = subst HaveParts (sym (ap place_views ep ∙ places_views shifts)) (λ k below.
-    let n = map_length (λ (s : Shift). worker_view s.own) shifts in
+    let n = length-map shifts (λ (s : Shift). worker_view s.own) in
     let o = own_at shifts k (omega arith) in
     let own : 0 < (worker_view o.0.own).parts = (let h = o.0.kept in let b = h.own in h.part 0 (omega arith)) in
     subst (λ (v : Knowledge). 0 < v.parts) (sym o.2) own)
@@ -287,7 +287,7 @@ pub record AreAllBack (deques parents : ℕ) (shifts : List Shift) (final : List
 
 all_back : (deques parents : ℕ) (shifts : List Shift) (final : List Knowledge) → AreAllBack deques parents shifts final → AreFull deques parents final
 all_back deques parents shifts final h =
-    let n = map_length (λ (s : Shift). worker_view s.own) shifts in let c = h.back.count in let m = h.pool.count in
+    let n = length-map shifts (λ (s : Shift). worker_view s.own) in let c = h.back.count in let m = h.pool.count in
     let sum = both_total (λ v. v.parts) (λ (s : Shift). worker_view s.own) (λ (s : Shift). Some s.others) shifts in
     let all = sums_const (λ (s : Shift). (worker_view s.own).parts + total (λ v. v.parts) (seat_views s.others.items)) 64 shifts
     (λ i s at. shift_parts deques parents i s (h.pool.each i s at)) in
@@ -328,7 +328,7 @@ pub all_whole : (deques parents : ℕ) (shifts : List Shift) (final : List Knowl
 all_whole deques parents shifts final h ended x below =
     let f = all_back deques parents shifts final h in
     let met : (k : ℕ) → k < deques → (view_at final k).ended ≡ true = λ k l.
-    let n = map_length (λ (s : Shift). worker_view s.own) shifts in let m = h.pool.count in
+    let n = length-map shifts (λ (s : Shift). worker_view s.own) in let m = h.pool.count in
     let o = own_at shifts k (omega arith) in let s : Shift = o.0 in let kept = s.kept in let b = kept.own in
     let at = got_is shifts k s s o.1 in
     let done : 0 < s.done = some_met s.deques s.number s.done 0 ((subst HasEnded at.1 (ended k s at.0)).every 0 (omega arith)) in

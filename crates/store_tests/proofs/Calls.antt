@@ -32,10 +32,6 @@ both_callers t more rest first second e f = both_by t rest first second (e ∙ a
     both_by t (y ∷ z ∷ []) first second e = absurd (cc e)
     both_by t (y ∷ z ∷ w ∷ ys) first second e = absurd (cc e)
 
-pub one_left : (callers : ℕ) (left rest : List Trace) (t : Trace) → callers ≡ 1 → left ≡ t ∷ rest → t.number ≡ 0 → EachLeft callers left
-one_left callers left rest t one e first k lt = let same : k ≡ 0 = omega arith in
-    (t, subst (λ l. Contains l t) (sym e) (0, omega arith, refl), first ∙ sym same)
-
 two_left_at : (left rest : List Trace) (t u : Trace) → left ≡ u ∷ t ∷ rest → t.number ≡ 0 → u.number ≡ 1 → (k : ℕ) → k < 2
     → (v : Trace) × Contains left v × (v.number ≡ k)
 two_left_at left rest t u e first second zero lt = (t, subst (λ l. Contains l t) (sym e) (1, omega arith, refl), first)

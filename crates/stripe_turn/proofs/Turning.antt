@@ -119,7 +119,3 @@ begins_well key words slots is width zero_words = subst (λ l. Turned key (openi
   places = homes_length key.of.value.items;
   turns = λ i below. inl (zero_words i, homes_are key.of.value.items i below);
 }
-
-pub tables_length : (stripes : List Stripe) → length (tables_in stripes) ≡ length stripes
-tables_length [] = refl
-tables_length (y ∷ ys) = ap suc (tables_length ys)

@@ -4,7 +4,7 @@ use Rattle.std.specs.List.{count_by, sum_by}
 use Rattle.std.proofs.lemmas.Bool.{or_left, or_right, cases_lt}
 use Rattle.std.proofs.lemmas.List.{length-replicate}
 use Rattle.std.proofs.lemmas.List.Sums.{sum_by-cons}
-use Rattle.std.proofs.lemmas.Option.{slice_get-get_or}
+use Rattle.std.proofs.lemmas.Option.{slice_get-get_or, slice_get_within}
 use Rattle.histories.specs.declared.entry.Entry.{Entry}
 use Rattle.histories.specs.declared.entry.Reply.{Reply}
 use Rattle.histories.specs.declared.entry.Reply.TheVariants.{New, Again}
@@ -16,7 +16,6 @@ use Rattle.histories.proofs.News.{one_new}
 use Rattle.histories.proofs.Tally.{sum_both, sum_none, sum_same}
 use Rattle.class_store.specs.Seen.{IsClosedBy, IsDoneBy, LevelSide, PassSide, Track, blank}
 use Rattle.together.specs.Asked.{HasOneMore, told_new}
-use Rattle.together.proofs.Serving.{inside}
 
 -- ---- entries that pass a test, counted caller by caller
 module _ (q : Entry → Bool) where
@@ -151,7 +150,7 @@ module _ (level : LevelSide) (first second first' second' : PassSide) (key : Lis
       → length closed ≡ stripes → ((s : ℕ) (h : List Entry) → slice_get closed s ≡ Some h → IsClosedBy level (first' ∷ second' ∷ []) s h)
       → told_new a + told_new b ≡ 1
   one_is_new s two n0 n1 t0 t1 m0 m1 more0 more1 width all =
-      let within : s < length first.tracks = inside first.tracks s more0.old more0.there in
+      let within : s < length first.tracks = slice_get_within first.tracks s more0.old more0.there in
       let long : length first.tracks ≡ stripes = ap (λ (l : List Track). length l) t0 ∙ length-replicate stripes blank in
       let lt : s < length closed = omega arith in
       let h : List Entry = get_or closed s [] in

@@ -1,10 +1,10 @@
 -- What all callers of a fresh level did is what they were to do.
-use Rattle.std.proofs.Common.{◌≡◌, ◌∙◌, ℕ, zero, suc, ◌+◌, ◌*◌, ◌<◌, ◌≤◌, cond, List, [], ◌∷◌, ◌++◌, length, map, reverse, replicate, get_or, slice_get, slice_set, Option, Some, None, Vec, Global, ⊎_elim, refl, sym, ap, ap₂, arith, bytes_eq, length-append}
+use Rattle.std.proofs.Common.{◌≡◌, ◌∙◌, ℕ, zero, suc, ◌+◌, ◌*◌, cond, List, [], ◌∷◌, ◌++◌, length, map, reverse, replicate, get_or, slice_get, slice_set, Some, Vec, Global, refl, sym, ap, ap₂, arith, bytes_eq}
 use Rattle.std.specs.List.{All, AllByRecursion, sum_by}
 use Rattle.std.proofs.lemmas.List.Elements.{All-from_recursion}
 use Rattle.std.proofs.lemmas.List.Folds.{sum_by-replicate}
 use Rattle.std.proofs.lemmas.List.Sums.{sum_by-set, sum_by_push}
-use Rattle.std.proofs.lemmas.Option.{get_or_from_slice_get, slice_get_cases}
+use Rattle.std.proofs.lemmas.Option.{get_or_from_slice_get, slice_get_within}
 use Rattle.histories.specs.declared.entry.Entry.{Entry}
 use Rattle.histories.specs.declared.entry.Reply.{Reply}
 use Rattle.histories.specs.History.{entry}
@@ -17,27 +17,18 @@ use Rattle.together.specs.declared.offerer.Offerer.{Offerer}
 use Rattle.together.specs.Served.{AllServed, times}
 use Rattle.together.proofs.Turned.{all_turned, map_turned, sum_turned, sum_where_none, sums_agree}
 
-pub inside : {X : Type 0} (xs : List X) (i : ℕ) (x : X) → slice_get xs i ≡ Some x → i < length xs
-inside xs i x is = ⊎_elim (λ here. here.1)
-    (λ (past : (length xs ≤ i) × (slice_get xs i ≡ None)). let no : ◌≡◌ {A = Option _} None (Some x) = sym past.1 ∙ is in absurd (cc)) (slice_get_cases xs i).1
-
 -- an entry at one stripe is one more call of the pass with its key
 pub one_call : (k key : List ℕ) (tracks more : List Track) (s c n : ℕ) (t u : Track) (reply : Reply) → slice_get tracks s ≡ Some t
     → more ≡ slice_set tracks s u → u.mine ≡ t.mine ++ entry c n key reply ∷ []
     → sum_by (λ (t : Track). entries_with k t.mine) more ≡ sum_by (λ (t : Track). entries_with k t.mine) tracks + times k (key ∷ [])
 one_call k key tracks more s c n t u reply there is mine =
     let f : Track → ℕ = λ (t : Track). entries_with k t.mine in
-    let set = sum_by-set f tracks s u t (inside tracks s t there) in
+    let set = sum_by-set f tracks s u t (slice_get_within tracks s t there) in
     let same : f (get_or tracks s t) ≡ f t = ap f (get_or_from_slice_get tracks s t t there) in
     let grown : f u ≡ f t + cond (bytes_eq k key) 1 0 = ap (entries_with k) mine
     ∙ sum_by_push (λ (e : Entry). cond (bytes_eq k e.key) 1 0) t.mine (entry c n key reply) in
     let new : sum_by f more ≡ sum_by f (slice_set tracks s u) = ap (sum_by f) is in
     omega arith
-
-pub fresh_count : (level : LevelId) (n : ℕ) → length (fresh_passes level n) ≡ n
-fresh_count level zero = refl
-fresh_count level (suc n) = let before : length (fresh_passes level n) ≡ n = fresh_count level n in
-    length-append (fresh_passes level n) (record { level = level; number = n; tracks = replicate (length level.tables) blank } ∷ []) ∙ omega arith
 
 fresh_calls : (level : LevelId) (n : ℕ) (key : List ℕ) → sum_by (calls_with key) (fresh_passes level n) ≡ 0
 fresh_calls level zero key = refl

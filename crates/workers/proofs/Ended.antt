@@ -5,11 +5,11 @@ use Rattle.std.proofs.lemmas.List.{length-map, take_more}
 use Rattle.std.proofs.lemmas.List.Elements.{All-push, All-from_recursion, recursion_from_All, AllZip-get_or, length_all_zip}
 use Rattle.std.proofs.lemmas.List.Folds.{sum_by-replicate}
 use Rattle.std.proofs.lemmas.List.Sums.{sum_by-cons, sum_by_more}
+use Rattle.list_lemmas.proofs.Lists.{all_push}
 use Rattle.matroid_theory.specs.Rep.{Rep}
 use Rattle.formats.specs.Request.{Request}
 use Rattle.histories.specs.Counts.{entries_with}
 use Rattle.class_store.specs.Seen.{AreItsPasses, LevelId, LevelSide, PassSide, Track, blank, calls_with, fresh_passes}
-use Rattle.class_store.proofs.Closing.{all_snoc}
 use Rattle.class_store.proofs.Passes.{fresh_are_all, name_of, still_all}
 use Rattle.steal_pool.specs.declared.shift.Shift.{Shift}
 use Rattle.steal_pool.specs.Shift.{HasEnded, StaysInPool, shift_parents, shift_taken}
@@ -43,17 +43,11 @@ lists_are [] = refl
 lists_are (w ∷ ws) = ap (λ (l : List (List ℕ)). taken_by w ∷ l) (lists_are ws)
 
 -- ---- before
-pub fresh_count : (level : LevelId) (n : ℕ) → length (fresh_passes level n) ≡ n
-fresh_count level zero = refl
-fresh_count level (suc n) =
-    let before : length (fresh_passes level n) ≡ n = fresh_count level n in
-    length-append (fresh_passes level n) (record { level = level; number = n; tracks = replicate (length level.tables) blank } ∷ []) ∙ omega arith
-
 no_calls : (level : LevelId) (n : ℕ) → AllByRecursion (λ (p : PassSide). (key : List ℕ) → calls_with key p ≡ 0) (fresh_passes level n)
 no_calls level zero = tt
 no_calls level (suc n) =
     let last : PassSide = record { level = level; number = n; tracks = replicate (length level.tables) blank } in
-    all_snoc (λ (p : PassSide). (key : List ℕ) → calls_with key p ≡ 0) (fresh_passes level n) last (no_calls level n)
+    all_push (λ (p : PassSide). (key : List ℕ) → calls_with key p ≡ 0) (fresh_passes level n) last (no_calls level n)
     (λ key. let none : calls_with key last ≡ length level.tables * 0 = sum_by-replicate (λ (t : Track). entries_with key t.mine)
     (length level.tables) blank in omega arith)
 

@@ -1,10 +1,10 @@
 use Rattle.std.proofs.Common.{◌∙◌, ap, sym, subst, refl, length, map, [], List, ap₂}
-use Rattle.std.proofs.lemmas.List.{length-map}
+use Rattle.std.proofs.lemmas.List.{length-map, length-replicate}
 use Rattle.stripe_book.specs.Seen.{CallerSide, TableSide}
 use Rattle.stripe_turn.specs.Seen.{TurnSide}
 use Rattle.class_store.specs.Seen.{fresh_rows}
 use Rattle.class_store.specs.Rows.{ArePasses, passes_from}
-use Rattle.class_store.proofs.Opening.{opening_next, rows_length, callers_length, replicate_length, all_passes, passes_are}
+use Rattle.class_store.proofs.Opening.{opening_next, rows_length, callers_length, all_passes, passes_are}
 use Rattle.class_store.proofs.opened.open_stripes.Goals as goal
 
 pub with_column-requires : goal.with_column-requires
@@ -36,7 +36,7 @@ passes_of-requires-clause-seats c =
     ∙ (ap (λ (l : List (List CallerSide)). length l) c.loop.invariant.filled
     ∙ rows_length (map (λ (t : TableSide). t.table) c.loop.tables.items) c.args.passes)) in
     let turn : TurnSide = record { turns = c.in_ok-turns.turns.turns; tables = c.in_ok-turns.turns.tables; held = [] } in
-    let seats = c.in_ok-turns.seats.ok.0 ∙ (ap (λ (l : List TurnSide). length l) c.in_ok-turns.ensures.seats ∙ replicate_length c.args.passes turn) in
+    let seats = c.in_ok-turns.seats.ok.0 ∙ (ap (λ (l : List TurnSide). length l) c.in_ok-turns.ensures.seats ∙ length-replicate c.args.passes turn) in
     rows ∙ sym seats
 
 pub returns-clause-passes : goal.returns-clause-passes

@@ -1,11 +1,9 @@
-use Rattle.std.proofs.Common.{Err, ◌≡◌, ◌∙◌, ◌+◌, ◌-◌, refl, ap, sym, subst, inl, arith}
+use Rattle.std.proofs.Common.{Err, ◌≡◌, ◌∙◌, ◌+◌, ◌-◌, refl, ap, sym, subst, arith}
 use Rattle.formats.specs.Run.{Gains}
-use Rattle.class_store.specs.Closed.{StoreSide}
 use Rattle.level_driver.specs.Grown.{IsLevelOf, IsParentLevel}
 use Rattle.macek_run.specs.Steps.{IsLess}
-use Rattle.macek_run.proofs.Begun.{none_begun, first_begun, first_stopped, next_begun, next_stopped, stopped, all_begun}
-use Rattle.macek_workers.specs.Stored.{HasClosed}
-use Rattle.macek_workers.proofs.Closing.{none_closed, more_closed, closed_at, left_grown, left_before}
+use Rattle.macek_run.proofs.Begun.{none_begun, first_begun, first_stopped, next_begun, next_stopped}
+use Rattle.macek_workers.proofs.Closing.{none_closed, more_closed, closed_at, left_grown}
 use Rattle.macek_workers.proofs.listing.write_levels.Goals as goal
 
 pub returns-in_default-clause-err : goal.returns-in_default-clause-err

@@ -1,16 +1,12 @@
-use Rattle.std.proofs.Common.{◌≡◌, ◌∙◌, ℕ, List, refl, sym, subst, arith, ap, inl, inr}
-use Rattle.formats.specs.declared.refusal.Refusal.{Refusal}
+use Rattle.std.proofs.Common.{◌≡◌, ◌∙◌, ℕ, List, refl, sym, subst, ap, inl}
 use Rattle.macek_run.specs.declared.run.Report.{Report}
 use Rattle.formats.specs.declared.refusal.Status.TheVariants.{Refused}
 use Rattle.formats.specs.Request.{StandsFor}
 use Rattle.formats.specs.Refusal.{HasRefusal}
 use Rattle.formats.proofs.Unique.{not_both, refusal_same}
 use Rattle.macek_run.specs.Run.{LeavesRefused}
-use Rattle.macek_run.proofs.Runs.{text_taken, accepted_taken, text_refused, refused_taken, lists_taken, told}
+use Rattle.macek_run.proofs.Runs.{text_taken, accepted_taken, text_refused, refused_taken, told, one_why}
 use Rattle.macek_workers.proofs.run.list_source.Goals as goal
-
-one_why : (v w : Refusal) → Refused v ≡ Refused w → v ≡ w
-one_why v w e = cc (e)
 
 pub returns-in-Err-clause-refused : goal.returns-in-Err-clause-refused
 returns-in-Err-clause-refused g c = λ why is.

@@ -1,4 +1,4 @@
-use Rattle.std.proofs.Common.{◌≡◌, ◌∙◌, ℕ, false, List, Option, None, Some, refl, sym, subst, inr, inl}
+use Rattle.std.proofs.Common.{◌≡◌, ℕ, false, List, None, Some, subst, inr, inl}
 use Rattle.formats.specs.Refusal.{HasRefusal}
 use Rattle.formats.specs.Words.{StandsAtMacek, sample_text}
 use Rattle.formats.proofs.Unique.{not_both}
@@ -6,7 +6,7 @@ use Rattle.command_words.specs.Asking.{IsAsked}
 use Rattle.command_words.proofs.AskedTexts.{known_text}
 use Rattle.macek_run.specs.Run.{texts_of}
 use Rattle.macek_run.proofs.Runs.{left_known}
-use Rattle.macek_workers.proofs.Words.{asked_from, none_lists, none_refused, sample_lists, names_sample, no_sample}
+use Rattle.macek_workers.proofs.Words.{asked_from, none_lists, none_refused, sample_lists, no_sample}
 use Rattle.macek_workers.proofs.run.macek.Goals as goal
 
 pub returns-in-Some-clause-complete_refused : goal.returns-in-Some-clause-complete_refused

@@ -1,14 +1,7 @@
-use Rattle.std.proofs.Common.{◌≡◌, ◌∙◌, ℕ, List, arith, sym, subst}
-use Rattle.std.specs.Prelude.{decimal}
+use Rattle.std.proofs.Common.{◌≡◌, arith, sym, subst}
 use Rattle.matroid_theory.specs.Field.{IsOrder}
-use Rattle.formats.specs.Statement.{IsNumber}
-use Rattle.std.proofs.lemmas.Fmt.{decimal_injective}
-use Rattle.formats.proofs.Unique.{order_small}
+use Rattle.formats.proofs.Unique.{same_order}
 use Rattle.request_reader.proofs.field_line.order_of.Goals as goal
-
--- the number that a word spells is the order that it spells
-same_order : (n q : ℕ) (word : List ℕ) → IsNumber n → word ≡ decimal n → IsOrder q → word ≡ decimal q → n ≡ q
-same_order n q word is e of_q f = let small = order_small q of_q in decimal_injective n q (omega (arith, is)) (omega (arith, small)) (sym e ∙ f)
 
 pub returns-then-number-from : goal.returns-then-number-from
 returns-then-number-from c = λ q is e.

@@ -1,7 +1,8 @@
 use Rattle.std.proofs.Common.{[], ap, sym, ◌∙◌}
 use Rattle.stripe_book.specs.Seen.{BookSide, CallerSide}
-use Rattle.store_tests.proofs.Calls.{entered, first_told, one_left, only_caller}
+use Rattle.store_tests.proofs.Calls.{entered, first_told, only_caller}
 use Rattle.store_tests.proofs.books.one_call.Goals as goal
+use Rattle.class_store.proofs.Ends.{first_left}
 
 pub call-requires-clause-reply : goal.call-requires-clause-reply
 call-requires-clause-reply c = first_told c.args.key.now c.args.key.now _ (ap (λ (b : BookSide). b.history) c.in_ok-table.ensures.book)
@@ -9,7 +10,7 @@ call-requires-clause-reply c = first_told c.args.key.now c.args.key.now _ (ap (�
 pub end-requires-clause-left : goal.end-requires-clause-left
 end-requires-clause-left c =
     let only = only_caller _ _ _ (sym c.in_ok-table.ensures.callers ∙ c.in-Some.ensures.items) in
-    one_left _ _ _ _ c.in_ok-table.ensures.table (ap (λ (b : BookSide). b.left) c.leave.ensures)
+    first_left _ _ _ _ c.in_ok-table.ensures.table (ap (λ (b : BookSide). b.left) c.leave.ensures)
     (ap (λ (k : CallerSide). k.number) c.call.ensures.caller ∙ sym (ap (λ (k : CallerSide). k.number) only))
 
 pub returns : goal.returns

@@ -1,8 +1,8 @@
 use Rattle.std.proofs.Common.{◌≡◌, ◌∙◌, List, ◌++◌, length, ap, sym, subst, arith}
 use Rattle.std.specs.List.{sum_by}
 use Rattle.class_store.specs.Seen.{AreItsPasses, calls_with, fresh_passes}
-use Rattle.class_store.proofs.Passes.{fresh_are_all}
-use Rattle.together.proofs.Serving.{all_offered, fresh_count, of_this_level, passes_of, still_its}
+use Rattle.class_store.proofs.Passes.{fresh_are_all, fresh_count}
+use Rattle.together.proofs.Serving.{all_offered, of_this_level, passes_of, still_its}
 use Rattle.together.proofs.all.closed_level.Goals as goal
 
 pub seat-requires : goal.seat-requires

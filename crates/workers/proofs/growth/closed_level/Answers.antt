@@ -8,10 +8,11 @@ use Rattle.steal_pool.specs.Pool.{AllEnded, AreNew, IsPool, IsProper, IsWhole, l
 use Rattle.steal_pool.specs.Taken.{taken_lists, taken_parents}
 use Rattle.workers.specs.declared.worker.Worker.{Worker}
 use Rattle.workers.specs.Seats.{IsWorked}
-use Rattle.workers.proofs.Ended.{all_answered, all_ended, all_fresh, all_seated, answer_of, fresh_count, lists_are, pass_of, passes_still, same_parents, shift_of, shifts_still, sum_fits, sum_map, their_passes, worked_zip}
+use Rattle.workers.proofs.Ended.{all_answered, all_ended, all_fresh, all_seated, answer_of, lists_are, pass_of, passes_still, same_parents, shift_of, shifts_still, sum_fits, sum_map, their_passes, worked_zip}
 use Rattle.workers.proofs.Held.{count_tries, has_tries, holds_tries}
 use Rattle.workers.proofs.Whole.{HaveDone, all_done, all_taken, answered, whole_done}
 use Rattle.workers.proofs.growth.closed_level.Goals as goal
+use Rattle.class_store.proofs.Passes.{fresh_count}
 
 pub seat-requires : goal.seat-requires
 seat-requires g c =

@@ -1,14 +1,15 @@
 use Rattle.std.proofs.Common.{rules, ◌≡◌, ◌∙◌, ap, sym, subst, refl, length, map, List, [], ◌∷◌, ℕ}
 use Rattle.std.specs.List.{AllByRecursion}
+use Rattle.std.proofs.lemmas.List.{length-map}
 use Rattle.atomic_table.specs.Seated.{TableId}
 use Rattle.stripe_book.specs.Seen.{TableSide}
 use Rattle.stripe_turn.specs.Rule.{tables_in}
 use Rattle.class_store.specs.Seen.{IsOpen}
 use Rattle.class_store.specs.Closing.{MayLeave, books_in, left_all}
-use Rattle.class_store.proofs.Closing.{tables_count}
 use Rattle.class_store.proofs.Ends.{may_leave, none_left, one_more_left, tables_of_books, may_end, is_closed, histories_closed, entries_are_calls, written, of_level, one_less, have_all}
 use Rattle.class_store.proofs.Together.{closed_together}
 use Rattle.class_store.proofs.level.OpenLevel.close.Goals as goal
+use Rattle.stripe_turn.specs.declared.stripe.Stripe.{Stripe}
 
 pub leave_all-requires-clause-callers : goal.leave_all-requires-clause-callers
 leave_all-requires-clause-callers g c =
@@ -49,7 +50,7 @@ leave_all-requires-in-Some-pop-clause-width g c =
     (one_less _ _ _ _ _ i.1 c.in-Some-pop.ensures.items) in
     let tables = ap (λ v. v.level.tables) c.pass.view_is ∙ ap (λ v. v.tables) level in
     ap (λ (l : List _). length l) c.as_mut_slice-in-Some-pop.ensures.value
-    ∙ (sym (tables_count c.loop-pass.taken.items)
+    ∙ (sym (length-map c.loop-pass.taken.items (λ (s : Stripe). s.book.table))
     ∙ (ap (λ (l : List TableId). length l) (sym (tables_of_books c.loop-pass.taken.items) ∙ (i.2.same ∙ sym tables))
     ∙ (sym c.pass.invariant.width ∙ sym c.pass.inside.callers.ok.0)))
 
