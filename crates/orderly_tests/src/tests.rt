@@ -120,7 +120,8 @@ fn are_same(ones: &FormList, others: &FormList) -> bool {
     ones.len() == others.len()
 }
 
-fn have_same_columns(one: &Rep, other: &Rep) -> bool {
+// Whether two representations over the same fields have the same columns.
+pub fn have_same_columns(one: &Rep, other: &Rep) -> bool {
     if one.size() != other.size() {
         return false;
     }
