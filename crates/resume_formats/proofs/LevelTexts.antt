@@ -92,4 +92,4 @@ next_size a (y ∷ xs) x ys e =
 -- what the first levels have behind others of them is the next level
 pub next_of_levels : (q : Request) (xs : List LevelEntry) (x : LevelEntry) (ys : List LevelEntry) → AreFirstLevels q (xs ++ x ∷ ys)
     → IsLevelEntry q x × (x.size ≡ q.rank + length xs)
-next_of_levels q xs x ys are = (all_between (IsLevelEntry q) xs x ys are.each, next_size q.rank xs x ys are.sizes)
+next_of_levels q xs x ys are = (all_between (IsLevelEntry q) xs ys x are.each, next_size q.rank xs x ys are.sizes)
