@@ -27,10 +27,8 @@ no_question words duals names forms (Dual M) asks = duals M asks
 no_question words duals names forms (OverName q name) asks = names q name asks
 no_question words duals names forms (OverForm q M) asks = forms q M asks
 
--- words with the same two first words have the same ones behind the third
-pub same_rest : (words : List (List ℕ)) (p q : ℕ) (kind : List ℕ) (rest : List (List ℕ))
-    → words ≡ over_words p kind (drop 3 words) → words ≡ over_words q kind rest → drop 3 words ≡ rest
-same_rest words p q kind rest e f = ap (λ (ws : List (List ℕ)). drop 3 ws) f
+pub behind_three : (words : List (List ℕ)) (q : ℕ) (kind : List ℕ) (rest : List (List ℕ)) → words ≡ over_words q kind rest → drop 3 words ≡ rest
+behind_three words q kind rest e = ap (λ (ws : List (List ℕ)). drop 3 ws) e
 
 -- ---- one word
 

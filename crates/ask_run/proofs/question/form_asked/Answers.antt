@@ -3,7 +3,7 @@ use Rattle.std.specs.Prelude.{ℕ, List, codes}
 use Rattle.ask_formats.specs.Question.{representation_words}
 use Rattle.ask_run.specs.Texts.{texts_of, over_words}
 use Rattle.ask_run.proofs.Answered.{texts_behind}
-use Rattle.ask_run.proofs.Overs.{same_rest}
+use Rattle.ask_run.proofs.Overs.{behind_three}
 use Rattle.ask_run.proofs.question.form_asked.Goals as goal
 
 pub returns-in_err-field : goal.returns-in_err-field
@@ -12,8 +12,8 @@ returns-in_err-field c = rw c.from_residual.ensures (λ q M asks. c.in_err-field
 pub returns-in_err-rep : goal.returns-in_err-rep
 returns-in_err-rep c = rw c.from_residual-in_err-rep.ensures (λ q M asks.
     c.in_err-rep.ensures M asks.may.named
-    (texts_behind 3 c.args.words.now ∙ same_rest (texts_of c.args.words.now) c.in_ok-field.field q (codes "form") (representation_words M)
-    c.in_ok-field.ensures.2 asks.spelled))
+    (texts_behind 3 c.args.words.now ∙ behind_three (texts_of c.args.words.now) q (codes "form") (representation_words M)
+    asks.spelled))
 
 pub returns : goal.returns
 returns c = record {

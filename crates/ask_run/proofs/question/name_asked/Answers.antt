@@ -3,7 +3,7 @@ use Rattle.std.specs.Prelude.{ℕ, List, codes}
 use Rattle.formats.specs.Statement.{minor_words}
 use Rattle.ask_run.specs.Texts.{texts_of, over_words}
 use Rattle.ask_run.proofs.Answered.{texts_behind}
-use Rattle.ask_run.proofs.Overs.{same_rest}
+use Rattle.ask_run.proofs.Overs.{behind_three}
 use Rattle.ask_run.proofs.question.name_asked.Goals as goal
 
 pub returns-in_err-field : goal.returns-in_err-field
@@ -12,8 +12,8 @@ returns-in_err-field c = rw c.from_residual.ensures (λ q name asks. c.in_err-fi
 pub returns-in_err-item : goal.returns-in_err-item
 returns-in_err-item c = rw c.from_residual-in_err-item.ensures (λ q name asks.
     c.in_err-item.ensures name asks.may.sought
-    (texts_behind 3 c.args.words.now ∙ same_rest (texts_of c.args.words.now) c.in_ok-field.field q (codes "name") (minor_words name)
-    c.in_ok-field.ensures.2 asks.spelled))
+    (texts_behind 3 c.args.words.now ∙ behind_three (texts_of c.args.words.now) q (codes "name") (minor_words name)
+    asks.spelled))
 
 pub returns : goal.returns
 returns c = record {
