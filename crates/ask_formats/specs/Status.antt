@@ -10,5 +10,5 @@ status_number WriteFault = 5
 
 unfoldable pub ask_text : AskStatus → List ℕ
 ask_text Done = []
-ask_text Usage = codes "macek_ask: usage: dual FIELD FORM\n"
+ask_text Usage = codes "macek_ask: usage: dual FIELD FORM, over Q name M, over Q form FIELD FORM\n"
 ask_text WriteFault = codes "macek_ask: the answer could not be written\n"

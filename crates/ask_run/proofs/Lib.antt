@@ -2,3 +2,4 @@ mod Answered
 mod Orders
 mod Columns
 mod Found
+mod Overs

@@ -1,2 +1,3 @@
 pub mod Layouts
 pub mod Texts
+pub mod Questions

@@ -10,8 +10,8 @@ use field_tables::Field;
 use named_matroids::number_of;
 use product_rep::Factors;
 
-/// The order of a field that a word spells.
-fn order_of(word: &[u8]) -> Option<u8>
+/// The field whose order a word spells.
+pub fn field_of(word: &[u8]) -> Option<Field>
     ensures { MatchOption result
         ((q : ℕ) → IsOrder q → word.now ≡ decimal q → ⊥)
         (λ q. IsOrder q × (word.now ≡ decimal q)) }
@@ -20,7 +20,16 @@ fn order_of(word: &[u8]) -> Option<u8>
     if number > 13 {
         return None;
     }
-    let field = Field::of(number as u8)?;
+    Field::of(number as u8)
+}
+
+/// The order of a field that a word spells.
+fn order_of(word: &[u8]) -> Option<u8>
+    ensures { MatchOption result
+        ((q : ℕ) → IsOrder q → word.now ≡ decimal q → ⊥)
+        (λ q. IsOrder q × (word.now ≡ decimal q)) }
+{
+    let field = field_of(word)?;
     Some(field.order())
 }
 

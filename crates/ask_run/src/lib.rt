@@ -5,6 +5,8 @@ mod answer;
 mod entry;
 mod field;
 mod layout;
+mod line;
+mod question;
 mod representation;
 mod status;
 mod word;

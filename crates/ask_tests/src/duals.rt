@@ -33,7 +33,7 @@ fn dual_forms(rt: HostRuntime) -> Result<(), Fail> {
 }
 
 #[test]
-fn words_that_ask_nothing(rt: HostRuntime) -> Result<(), Fail> {
+fn words_that_ask_for_no_dual(rt: HostRuntime) -> Result<(), Fail> {
     for words in [
         "dual 2 100 010 001",
         "dual 2 010 100 001 011",
@@ -71,7 +71,11 @@ fn a_sink_that_fails(rt: HostRuntime) -> Result<(), Fail> {
 fn texts_and_numbers(rt: HostRuntime) -> Result<(), Fail> {
     for (status, text, number) in [
         (AskStatus::Done, b"".as_slice(), 0),
-        (AskStatus::Usage, b"macek_ask: usage: dual FIELD FORM\n", 2),
+        (
+            AskStatus::Usage,
+            b"macek_ask: usage: dual FIELD FORM, over Q name M, over Q form FIELD FORM\n",
+            2,
+        ),
         (
             AskStatus::WriteFault,
             b"macek_ask: the answer could not be written\n",

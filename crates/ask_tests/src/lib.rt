@@ -1,8 +1,12 @@
-//! Tests of questions about represented matroids and their answers.
+//! Tests of questions about matroids and their answers.
 #![tactic(auto)]
 
 #[cfg(test)]
+mod classes;
+#[cfg(test)]
 mod duals;
+#[cfg(test)]
+mod over;
 #[cfg(test)]
 mod twice;
 #[cfg(test)]

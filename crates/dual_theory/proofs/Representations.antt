@@ -1,8 +1,9 @@
--- Where a matrix over a field has given bases, a standard one has; the least one is one.
+-- A representation has one matroid. Where a matrix over a field has given bases, a standard one has; the least one is one.
 use Rattle.std.proofs.Common.{◌≡◌, ℕ, zero, suc, ◌+◌, ◌-◌, ◌*◌, ◌^◌, ◌<◌, ◌≤◌, refl, sym, ◌∙◌, ap, subst, arith, cond, Bool, inl, inr, ◌↔◌, length}
 use Rattle.std.specs.Bool.{nat_lt}
 use Rattle.std.specs.List.{Contains}
 use Rattle.std.proofs.lemmas.Bool.{cases_lt, le-ltb, lt-ltb}
+use Rattle.std.proofs.lemmas.List.Kept.{AllPairs-from_increasing}
 use Rattle.std.proofs.Math.Nat.{two-pow-succ}
 use Rattle.matroid_theory.specs.Rep.{Rep, shape, count, size, order, IsStandard}
 use Rattle.matroid_theory.specs.Matroid.{members, IsBasis}
@@ -10,13 +11,28 @@ use Rattle.matroid_theory.specs.Minor.{Matroid}
 use Rattle.matroid_theory.specs.Order.{rep_cmp}
 use Rattle.matroid_theory.specs.declared.Mode.TheVariants.{Linear}
 use Rattle.matroid_theory.specs.Move.{Move, IsMove, TakesTo}
+use Rattle.matroid_theory.proofs.Lists.{rising_unique}
 use Rattle.matroid_theory.proofs.FieldLaws.{field_laws}
 use Rattle.matroid_theory.proofs.Masks.{mask, members-mask, IsBasis-same}
 use Rattle.matroid_theory.proofs.Levels.{rep_cmp-reversed, rep_cmp-equal}
 use Rattle.matroid_theory.proofs.Carried.{basis_carried}
 use Rattle.matroid_theory.proofs.Built.{standard_each}
 use Rattle.matroid_theory.proofs.Orderings.{neither}
-use Rattle.dual_theory.specs.Represented.{Represents, IsLeastOver}
+use Rattle.dual_theory.specs.Represented.{IsMatroidOf, Represents, IsLeastOver}
+
+-- ---- the matroid of a representation
+
+-- a representation has one matroid
+pub one_matroid : (M : Rep) (N P : Matroid) → IsMatroidOf M N → IsMatroidOf M P → N ≡ P
+one_matroid M N P n p = λ i. record { rank = (n.ranks ∙ sym p.ranks) i; size = (n.sizes ∙ sym p.sizes) i; bases = bases i }
+  where
+    bases : N.bases ≡ P.bases
+    bases =
+        let a = n.bases in
+        let b = p.bases in
+        rising_unique (λ x y. x < y) (λ x l. absurd (omega arith)) (λ x y z l m. omega arith) N.bases P.bases
+        (AllPairs-from_increasing N.bases a.rising) (AllPairs-from_increasing P.bases b.rising)
+        (λ X c. (b.exact X).1 ((a.exact X).0 c)) (λ X c. (a.exact X).1 ((b.exact X).0 c))
 
 -- ---- the mask of the first r numbers
 

@@ -1,8 +1,7 @@
 -- The matroids that may be sought.
-use Rattle.std.proofs.Common.{◌≡◌, ℕ, ◌-◌, ◌^◌, ◌<◌, ◌≤◌, sym, ◌∙◌, subst, arith, lit<}
+use Rattle.std.proofs.Common.{◌≡◌, ℕ, ◌-◌, ◌^◌, ◌<◌, ◌≤◌, sym, subst, arith, lit<}
 use Rattle.std.specs.Bool.{nat_lt}
 use Rattle.std.specs.List.{Contains}
-use Rattle.std.proofs.lemmas.List.Kept.{AllPairs-from_increasing}
 use Rattle.std.proofs.lemmas.Nat.{pow_pos}
 use Rattle.std.proofs.Math.Nat.{pow-le-pow_right}
 use Rattle.matroid_theory.specs.Rep.{Rep, count, size, IsShaped, IsStandard, KeepsLimits}
@@ -13,27 +12,14 @@ use Rattle.named_matroids.specs.SmallMatroids.{IsSmallMatroid}
 use Rattle.std.proofs.lemmas.List.Elements.{All-contains}
 use Rattle.matroid_theory.specs.Matroid.{members, IsBasis}
 use Rattle.matroid_theory.specs.Minor.{Matroid, AreBases}
-use Rattle.matroid_theory.proofs.Lists.{rising_unique}
 use Rattle.matroid_theory.proofs.Masks.{IsBasis-same}
 use Rattle.matroid_theory.proofs.Rest.{units_basis}
-use Rattle.dual_theory.specs.Represented.{IsBasedFirst}
+use Rattle.dual_theory.specs.Represented.{IsMatroidOf, IsBasedFirst}
 use Rattle.dual_theory.proofs.Searches.{first_members}
-use Rattle.represent.specs.Sought.{HasMatroid, IsSought}
-
--- a representation has one matroid
-pub one_matroid : (M : Rep) (N P : Matroid) → HasMatroid M N → HasMatroid M P → N ≡ P
-one_matroid M N P n p = λ i. record { rank = (n.ranks ∙ sym p.ranks) i; size = (n.sizes ∙ sym p.sizes) i; bases = bases i }
-  where
-    bases : N.bases ≡ P.bases
-    bases =
-        let a = n.bases in
-        let b = p.bases in
-        rising_unique (λ x y. x < y) (λ x l. absurd (omega arith)) (λ x y z l m. omega arith) N.bases P.bases
-        (AllPairs-from_increasing N.bases a.rising) (AllPairs-from_increasing P.bases b.rising)
-        (λ X c. (b.exact X).1 ((a.exact X).0 c)) (λ X c. (a.exact X).1 ((b.exact X).0 c))
+use Rattle.represent.specs.Sought.{IsSought}
 
 -- that of a standard one has the first elements as a base
-pub based_first : (M : Rep) (N : Matroid) → IsShaped M → IsStandard M → 0 < count M → HasMatroid M N → IsBasedFirst N
+pub based_first : (M : Rep) (N : Matroid) → IsShaped M → IsStandard M → 0 < count M → IsMatroidOf M N → IsBasedFirst N
 based_first M N shaped standard some h = subst IsBasedFirst (sym same) (record {
   rising = b.rising;
   below = λ X c. ((b.exact X).0 c).0;
@@ -58,7 +44,7 @@ based_first M N shaped standard some h = subst IsBasedFirst (sym same) (record {
     front = IsBasis-same M 0 (λ j. nat_lt j M.rank) (members (2 ^ M.rank - 1))
         (λ j l. sym (first_members (size M) M.rank standard.room j l)) (units_basis M shaped standard 0 some)
 
-pub standard_sought : (q : ℕ) (M : Rep) (N : Matroid) → IsOrder q → KeepsLimits M → IsStandard M → HasMatroid M N → IsSought q N
+pub standard_sought : (q : ℕ) (M : Rep) (N : Matroid) → IsOrder q → KeepsLimits M → IsStandard M → IsMatroidOf M N → IsSought q N
 standard_sought q M N field k standard h =
     let g : M.rank ≤ size M = standard.room in
     let r : N.rank ≡ M.rank = h.ranks in

@@ -1,16 +1,9 @@
 -- What a search looks for: a matroid by its bases, with the first elements one of them.
-use Rattle.std.specs.Prelude.{ℕ, ◌-◌, ◌*◌, ◌<◌, ◌≤◌, ◌≡◌}
+use Rattle.std.specs.Prelude.{ℕ, ◌-◌, ◌*◌, ◌<◌, ◌≤◌}
 use Rattle.matroid_theory.specs.Field.{IsOrder}
-use Rattle.matroid_theory.specs.Rep.{Rep, size}
-use Rattle.matroid_theory.specs.Minor.{Matroid, AreBases}
+use Rattle.matroid_theory.specs.Minor.{Matroid}
 use Rattle.dual_theory.specs.Represented.{IsBasedFirst}
 use Rattle.represent.specs.declared.target.Target.{Target}
-
--- N is the matroid of the first factor of M
-pub record HasMatroid (M : Rep) (N : Matroid) : Type 0 where
-  pub ranks : N.rank ≡ M.rank
-  pub sizes : N.size ≡ size M
-  pub bases : AreBases M N.bases
 
 -- the matroid whose bases are sought
 abbrev pub matroid_of : Target → Matroid

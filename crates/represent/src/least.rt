@@ -4,8 +4,8 @@ ghost use Rattle.std.specs.List.{Contains};
 ghost use Rattle.matroid_theory.specs.Rep.{Rep as Matrices, IsStandard};
 ghost use Rattle.matroid_theory.specs.Matroid.{Agrees};
 ghost use Rattle.matroid_theory.specs.Minor.{Matroid};
-ghost use Rattle.dual_theory.specs.Represented.{Represents, IsLeastOver};
-ghost use Rattle.represent.specs.Sought.{matroid_of, IsSought, HasMatroid};
+ghost use Rattle.dual_theory.specs.Represented.{IsMatroidOf, Represents, IsLeastOver};
+ghost use Rattle.represent.specs.Sought.{matroid_of, IsSought};
 
 use crate::fill::fill;
 use crate::matrix::filled;
@@ -20,8 +20,9 @@ use product_rep::Rep;
 pub fn represent(rep: &Rep, field: Field) -> Option<Rep>
     requires standard { IsStandard rep.now }
     requires agrees { Agrees rep.now }
-    ensures found { IfSome result (λ least. (N : Matroid) × HasMatroid rep.now N × IsLeastOver field N least) }
-    ensures none { IsNone result → (N : Matroid) → HasMatroid rep.now N → (L : Matrices) → ¬ (Represents field N L) }
+    ensures matroid { (N : Matroid) × IsMatroidOf rep.now N }
+    ensures found { IfSome result (λ least. (N : Matroid) × IsMatroidOf rep.now N × IsLeastOver field N least) }
+    ensures none { IsNone result → (N : Matroid) → IsMatroidOf rep.now N → (L : Matrices) → ¬ (Represents field N L) }
 {
     rep.laws();
     least_over(&Target {
