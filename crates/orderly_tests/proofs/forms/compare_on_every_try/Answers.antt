@@ -9,8 +9,8 @@ loop-init g c = record {
       c.in_ok-level.ensures.forms;
 }
 
-pub compare_after-requires : goal.grow_alone-requires
-compare_after-requires g c = (
+pub compare_after-compared-requires : goal.compare_after-compared-requires
+compare_after-compared-requires g c = (
   c.loop.counter,
   record {
     at_least = c.loop.invariant.at_least;
