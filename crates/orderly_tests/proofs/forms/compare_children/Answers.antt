@@ -10,15 +10,15 @@ loop-column-init g c = ap (λ (columns : ColumnsAfter). columns.parent) (c.into_
     c.of-column-items.ensures)
 
 pub loop-column-preserved : goal.loop-column-preserved
-loop-column-preserved g c = ap (λ (columns : ColumnsAfter). columns.parent) c.in-Some-column.ensures.steps.1 ∙ c.loop-column.invariant
+loop-column-preserved g c = ap (λ (columns : ColumnsAfter). columns.parent) c.in-Some.ensures.steps.1 ∙ c.loop-column.invariant
 
 pub are_alike-requires-clause-column : goal.are_alike-requires-clause-column
 are_alike-requires-clause-column g c =
-    let next = c.in-Some-column.ensures.steps.0 in
-    subst (λ (P : Rep). IsProductColumn P.factors P.rank c.in-Some-column.column.items) c.loop-column.invariant
+    let next = c.in-Some.ensures.steps.0 in
+    subst (λ (P : Rep). IsProductColumn P.factors P.rank c.in-Some.column.items) c.loop-column.invariant
     next.admissible.normalised.is_column
 
 pub are_alike-requires-clause-agrees : goal.are_alike-requires-clause-agrees
 are_alike-requires-clause-agrees g c =
-    let next = c.in-Some-column.ensures.steps.0 in
-    subst (λ (P : Rep). Agrees (followed_by P c.in-Some-column.column.items)) c.loop-column.invariant next.admissible.agrees
+    let next = c.in-Some.ensures.steps.0 in
+    subst (λ (P : Rep). Agrees (followed_by P c.in-Some.column.items)) c.loop-column.invariant next.admissible.agrees
