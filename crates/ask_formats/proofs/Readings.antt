@@ -9,7 +9,7 @@ use Rattle.std.proofs.lemmas.List.FromFn.{get_or-map-range_with_len, length-map-
 use Rattle.std.proofs.Common.{length-append}
 use Rattle.matroid_theory.specs.Field.{IsFactors}
 use Rattle.matroid_theory.specs.Rep.{Rep, count, size, matrix, order, column_of}
-use Rattle.matroid_theory.proofs.First.{same_codes}
+use Rattle.matroid_laws.proofs.First.{same_codes}
 use Rattle.formats.specs.Statement.{column_word}
 use Rattle.formats.specs.Levels.{columns_of, columns_of_factor}
 use Rattle.formats.proofs.Unique.{order_small, letter_same}

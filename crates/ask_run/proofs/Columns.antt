@@ -8,7 +8,7 @@ use Rattle.std.proofs.Math.Seq.{get_or-append_seam}
 use Rattle.std.proofs.lemmas.Nat.{div-mul-add, mod-mul-add, mul-add-lt}
 use Rattle.matroid_theory.specs.Rep.{Rep, count, size, matrix, IsProductColumn}
 use Rattle.matroid_theory.specs.Level.{followed_by}
-use Rattle.matroid_theory.proofs.Followed.{matrix_before, matrix_last}
+use Rattle.matroid_laws.proofs.Followed.{matrix_before, matrix_last}
 use Rattle.ask_run.specs.Layouts.{HasEntry, IsColumnOf}
 use Rattle.ask_run.specs.declared.layout.Layout.{Layout}
 

@@ -4,7 +4,7 @@ use Rattle.std.specs.Prelude.{MatchOption, IfSome, IsNone, IsErrOf}
 use Rattle.matroid_theory.specs.Rep.{Rep}
 use Rattle.matroid_theory.specs.Minor.{Matroid}
 use Rattle.matroid_theory.specs.Given.{IsGivenBy}
-use Rattle.matroid_theory.proofs.GivenLemmas.{given_unique}
+use Rattle.matroid_laws.proofs.GivenLemmas.{given_unique}
 use Rattle.formats.specs.Statement.{MinorName, Uniform, IsMinorName, minor_words, elements_of}
 use Rattle.formats.specs.Minors.{given_as}
 use Rattle.formats.specs.Listing.{form_text}

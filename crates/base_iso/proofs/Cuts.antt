@@ -10,7 +10,7 @@ use Rattle.std.proofs.Math.ListN.{get_or-append}
 use Rattle.std.proofs.lemmas.List.{get_or_default}
 use Rattle.std.proofs.lemmas.Nat.Bits.{bit_at-zero}
 use Rattle.matroid_theory.specs.Matrix.{size_below}
-use Rattle.matroid_theory.proofs.Bases.{size_none}
+use Rattle.matrix_lemmas.proofs.Bases.{size_none}
 use Rattle.bases.specs.BaseLists.{IsBaseList}
 use Rattle.matroid_theory.specs.Matroid.{members}
 use Rattle.matroid_theory.specs.Minor.{Matroid, AreIsomorphicBy}

@@ -6,7 +6,7 @@ use Rattle.std.specs.List.{slice_index}
 use Rattle.std.proofs.lemmas.Bool.{cases_lt}
 use Rattle.std.proofs.lemmas.Nat.Bits.{same_from_bits, bit_at-lt, bit_at_set_same, bit_at_set_other}
 use Rattle.matroid_theory.specs.Matroid.{members}
-use Rattle.matroid_theory.proofs.Masks.{same_bit}
+use Rattle.matrix_lemmas.proofs.Masks.{same_bit}
 use Rattle.base_iso.specs.Started.{AreLabels, IsImage}
 use Rattle.base_iso.proofs.Places.{stands}
 use Rattle.std.proofs.lemmas.List.{get_or_default}

@@ -7,7 +7,7 @@ use Rattle.std.proofs.lemmas.List.{get_or_default}
 use Rattle.std.proofs.lemmas.List.Kept.{AllPairs-from_increasing}
 use Rattle.std.proofs.lemmas.List.Sums.{sum_by-cons, sum_by-remove}
 use Rattle.std.proofs.lemmas.Grind.{in_remove}
-use Rattle.matroid_theory.proofs.Lists.{here, there, rest_pairs, first_pairs}
+use Rattle.matrix_lemmas.proofs.Lists.{here, there, rest_pairs, first_pairs}
 
 -- a rising list has no repeats
 pub rising_apart : (xs : List ℕ) → IsStrictlyIncreasing xs → AllPairs (λ x y. x ≢ y) xs

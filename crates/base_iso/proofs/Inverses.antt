@@ -7,7 +7,7 @@ use Rattle.std.proofs.lemmas.Nat.Bits.{same_from_bits, bit_at-lt, bit_at_above}
 use Rattle.matroid_theory.specs.Matroid.{members}
 use Rattle.matroid_theory.specs.Minor.{Matroid, AreIsomorphicBy}
 use Rattle.matroid_theory.specs.Move.{ArePermutation}
-use Rattle.matroid_theory.proofs.Masks.{mask, mask-below, members-mask, same_bit, same_mask}
+use Rattle.matrix_lemmas.proofs.Masks.{mask, mask-below, members-mask, same_bit, same_mask}
 
 -- a mask has no member from n on
 pub no_member : (n X j : ℕ) → X < 2 ^ n → n ≤ j → members X j ≡ false

@@ -9,8 +9,8 @@ use Rattle.arrayvec.specs.ArrayVec.{ArrayVec}
 use Rattle.matroid_theory.specs.Matrix.{size_below}
 use Rattle.matroid_theory.specs.Matroid.{members}
 use Rattle.matroid_theory.specs.Minor.{Matroid, AreIsomorphicBy}
-use Rattle.matroid_theory.proofs.Counts.{size_relabelled}
-use Rattle.matroid_theory.proofs.Masks.{size-same}
+use Rattle.matrix_lemmas.proofs.Counts.{size_relabelled}
+use Rattle.matrix_lemmas.proofs.Masks.{size-same}
 use Rattle.bases.specs.BaseLists.{IsBaseList}
 use Rattle.base_iso.specs.Started.{Begins}
 use Rattle.base_iso.specs.Counted.{pair_count, row, AreDegrees, ArePairCounts, IsSquare, KeepsLastCounts, AreAlike}

@@ -4,7 +4,7 @@ use Rattle.std.specs.List.{AllPairs, Contains, slice_index}
 use Rattle.std.proofs.lemmas.Bool.{cases_lt, cases_eq, cases_order}
 use Rattle.std.proofs.lemmas.List.{get_or_default}
 use Rattle.matroid_theory.specs.Move.{ArePermutation}
-use Rattle.matroid_theory.proofs.Lists.{distinct_length}
+use Rattle.matrix_lemmas.proofs.Lists.{distinct_length}
 use Rattle.base_iso.specs.Started.{AreLabels}
 
 -- a number stands in a list or at no place of it

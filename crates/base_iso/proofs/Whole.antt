@@ -7,7 +7,7 @@ use Rattle.std.proofs.lemmas.List.Elements.{All-contains}
 use Rattle.matroid_theory.specs.Matroid.{members}
 use Rattle.matroid_theory.specs.Minor.{Matroid, AreIsomorphicBy}
 use Rattle.matroid_theory.specs.Move.{ArePermutation}
-use Rattle.matroid_theory.proofs.Masks.{same_mask}
+use Rattle.matrix_lemmas.proofs.Masks.{same_mask}
 use Rattle.bases.specs.BaseLists.{IsBaseList}
 use Rattle.base_iso.specs.Started.{AreLabels, IsImage, CarriesBases}
 use Rattle.base_iso.specs.Counted.{AreAlike}

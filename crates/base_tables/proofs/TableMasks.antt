@@ -7,10 +7,10 @@ use Rattle.std.proofs.lemmas.Bool.{false≢true, eqb-true, or_cases, or_left, or
 use Rattle.std.proofs.lemmas.List.Elements.{All-contains, All-contains_itself, All-filter, filter_passes, Contains-append_cases, Contains-append_right}
 use Rattle.std.proofs.lemmas.List.FromFn.{length-range_with_len, get_or-range_with_len}
 use Rattle.std.proofs.lemmas.List.Kept.{IsStrictlyIncreasing-filter}
-use Rattle.matroid_theory.proofs.Sums.{same_number}
+use Rattle.matrix_lemmas.proofs.Sums.{same_number}
 use Rattle.matroid_theory.specs.Tables.{has}
 use Rattle.base_tables.specs.Tables.{masks_below}
-use Rattle.matroid_theory.proofs.TableBits.{has_none, has_more}
+use Rattle.matrix_lemmas.proofs.TableBits.{has_none, has_more}
 
 -- what passes a test is kept
 kept : (p : ℕ → Bool) (xs : List ℕ) (X : ℕ) → Contains xs X → p X ≡ true → Contains (filter p xs) X

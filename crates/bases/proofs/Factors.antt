@@ -9,8 +9,8 @@ use Rattle.matroid_theory.specs.Matrix.{size_below, IsIndependent}
 use Rattle.matroid_theory.specs.Rep.{Rep, size, count, order, matrix, column_of, KeepsLimits}
 use Rattle.matroid_theory.specs.Matroid.{members, IsIndependentIn, IsBasis}
 use Rattle.matroid_theory.specs.Minor.{AreBases}
-use Rattle.matroid_theory.proofs.Masks.{mask, mask-below, members-mask, IsBasis-same, by_masks}
-use Rattle.matroid_theory.proofs.Ranks.{IsIndependent-codes}
+use Rattle.matrix_lemmas.proofs.Masks.{mask, mask-below, members-mask, IsBasis-same, by_masks}
+use Rattle.matrix_lemmas.proofs.Ranks.{IsIndependent-codes}
 use Rattle.elimination.specs.Columns.{column, matrix_of, height, AreColumns}
 use Rattle.column_sets.specs.Picked.{ArePicked, IsBasisOfColumns, IsIndependentSet}
 use Rattle.column_sets.specs.Sets.{AreMasks, IsSetOfSize}

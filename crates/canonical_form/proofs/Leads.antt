@@ -4,9 +4,9 @@ use Rattle.std.specs.List.{slice_index}
 use Rattle.std.proofs.lemmas.Bool.{cases_lt, cases_eq}
 use Rattle.matroid_theory.specs.Field.{times, IsOrder, IsField}
 use Rattle.matroid_theory.specs.Rep.{Rep, count, order, IsProductColumn}
-use Rattle.matroid_theory.proofs.FieldLaws.{field_laws}
-use Rattle.matroid_theory.proofs.Frobenius.{times_nonzero}
-use Rattle.matroid_theory.proofs.Sums.{times_zero}
+use Rattle.matrix_lemmas.proofs.FieldLaws.{field_laws}
+use Rattle.matrix_lemmas.proofs.Frobenius.{times_nonzero}
+use Rattle.matrix_lemmas.proofs.Sums.{times_zero}
 use Rattle.canonical_form.specs.Search.{IsScaled}
 use Rattle.canonical_form.proofs.Places.{one_more_item}
 

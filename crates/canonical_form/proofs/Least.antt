@@ -15,12 +15,12 @@ use Rattle.matroid_theory.specs.Matrix.{combination}
 use Rattle.matroid_theory.specs.Rep.{Rep, shape, count, size, order, matrix, KeepsLimits, IsShaped}
 use Rattle.matroid_theory.specs.declared.Mode.TheVariants.{Linear}
 use Rattle.matroid_theory.specs.Move.{Move, IsMove, TakesTo}
-use Rattle.matroid_theory.proofs.FieldLaws.{field_laws}
-use Rattle.matroid_theory.proofs.Sums.{sum_same}
-use Rattle.matroid_theory.proofs.Frobenius.{times_undone, times_nonzero, inverse_nonzero}
-use Rattle.matroid_theory.proofs.Lists.{distinct_length}
-use Rattle.matroid_theory.proofs.Standard.{standard_by}
-use Rattle.matroid_theory.proofs.GroupLeast.{group_least}
+use Rattle.matrix_lemmas.proofs.FieldLaws.{field_laws}
+use Rattle.matrix_lemmas.proofs.Sums.{sum_same}
+use Rattle.matrix_lemmas.proofs.Frobenius.{times_undone, times_nonzero, inverse_nonzero}
+use Rattle.matrix_lemmas.proofs.Lists.{distinct_length}
+use Rattle.matroid_laws.proofs.Standard.{standard_by}
+use Rattle.matroid_laws.proofs.GroupLeast.{group_least}
 use Rattle.canonical_form.specs.Search.{Reaches, PicksFirst, HasScalars, row_scalar, later, columns_cmp, chosen, IsOrderedBasis, AreScalars, AreOthers, AreCoordinates, IsScaled, AreOtherCoordinates, IsCandidate}
 use Rattle.canonical_form.proofs.Sorted.{IsMatched, ArePlaces, sorted_least, permutation_places}
 

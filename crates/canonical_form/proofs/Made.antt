@@ -14,17 +14,17 @@ use Rattle.matroid_theory.specs.Field.{plus, times, negative, inverse, raised, I
 use Rattle.matroid_theory.specs.Matrix.{Matrix, combination, unit, IsIndependent}
 use Rattle.matroid_theory.specs.Rep.{Rep, shape, count, size, order, matrix, IsStandard, KeepsLimits}
 use Rattle.matroid_theory.specs.Move.{Move, ArePermutation, IsMove, TakesTo}
-use Rattle.matroid_theory.proofs.FieldLaws.{field_laws}
-use Rattle.matroid_theory.proofs.Sums.{plus_zero_right, sum_same, sum_plus, times_zero, same_number, other_number, combination-scaled}
-use Rattle.matroid_theory.proofs.Frobenius.{times_undone, inverse_nonzero}
-use Rattle.matroid_theory.proofs.Steps.{Independent, all_coefficients}
-use Rattle.matroid_theory.proofs.Standard.{standard_by, set_of_independent}
-use Rattle.matroid_theory.proofs.Built.{standard_made}
-use Rattle.matroid_theory.proofs.Lists.{distinct_length}
+use Rattle.matrix_lemmas.proofs.FieldLaws.{field_laws}
+use Rattle.matrix_lemmas.proofs.Sums.{plus_zero_right, sum_same, sum_plus, times_zero, same_number, other_number, combination-scaled}
+use Rattle.matrix_lemmas.proofs.Frobenius.{times_undone, inverse_nonzero}
+use Rattle.matrix_lemmas.proofs.Steps.{Independent, all_coefficients}
+use Rattle.matroid_laws.proofs.Standard.{standard_by, set_of_independent}
+use Rattle.matroid_laws.proofs.Built.{standard_made}
+use Rattle.matrix_lemmas.proofs.Lists.{distinct_length}
 use Rattle.matroid_theory.specs.Exchange.{exchange}
-use Rattle.matroid_theory.proofs.Exchanges.{exchange_one, exchange_two, exchange_other, exchanged_permutation}
-use Rattle.matroid_theory.proofs.Dimension.{times_unit_column}
-use Rattle.matroid_theory.proofs.First.{same_column}
+use Rattle.matrix_lemmas.proofs.Exchanges.{exchange_one, exchange_two, exchange_other, exchanged_permutation}
+use Rattle.matrix_lemmas.proofs.Dimension.{times_unit_column}
+use Rattle.matroid_laws.proofs.First.{same_column}
 use Rattle.canonical_form.specs.Search.{later, chosen, IsOrderedBasis, AreScalars, AreOthers, AreCoordinates, IsScaled, IsCandidate, AreOfClass}
 use Rattle.canonical_form.proofs.Whole.{independent_same}
 

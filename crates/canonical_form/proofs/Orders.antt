@@ -7,7 +7,7 @@ use Rattle.std.specs.List.Sorted.{IsSorted}
 use Rattle.std.proofs.Math.ListN.{get_or-map}
 use Rattle.std.proofs.lemmas.List.{length-map}
 use Rattle.arrayvec.specs.ArrayVec.{ArrayVec}
-use Rattle.matroid_theory.proofs.Levels.{columns_total}
+use Rattle.matroid_laws.proofs.Levels.{columns_total}
 use Rattle.canonical_form.specs.Search.{columns_cmp}
 use Rattle.small_lists.specs.Lists.{lists}
 use Rattle.small_lists.proofs.Orders.{vector_cmp}

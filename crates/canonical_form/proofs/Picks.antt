@@ -6,9 +6,9 @@ use Rattle.arrayvec.specs.ArrayVec.{ArrayVec}
 use Rattle.matroid_theory.specs.Field.{times, IsField}
 use Rattle.matroid_theory.specs.Matrix.{combination, IsIndependent}
 use Rattle.matroid_theory.specs.Rep.{Rep, count, order, size, matrix, column_of, KeepsLimits}
-use Rattle.matroid_theory.proofs.FieldLaws.{field_laws}
-use Rattle.matroid_theory.proofs.Ranks.{IsIndependent-codes}
-use Rattle.matroid_theory.proofs.Sums.{sum_same, combination-same}
+use Rattle.matrix_lemmas.proofs.FieldLaws.{field_laws}
+use Rattle.matrix_lemmas.proofs.Ranks.{IsIndependent-codes}
+use Rattle.matrix_lemmas.proofs.Sums.{sum_same, combination-same}
 use Rattle.elimination.specs.Columns.{column, matrix_of, height, AreColumns, AreIndependent, IsColumn}
 use Rattle.product_rep.proofs.MoveLemmas.{column-entry, column-length, column_codes}
 use Rattle.canonical_form.specs.Search.{chosen, AreCoordinates}

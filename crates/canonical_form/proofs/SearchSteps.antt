@@ -8,9 +8,9 @@ use Rattle.std.proofs.Math.Nat.{mod-lt, div-lt_iff_lt-mul, div-eq_of_lt, mul-le-
 use Rattle.matroid_theory.specs.Field.{IsField}
 use Rattle.matroid_theory.specs.Rep.{Rep, Shape, count, order, size, KeepsLimits}
 use Rattle.matroid_theory.specs.Move.{Move}
-use Rattle.matroid_theory.proofs.FieldLaws.{field_laws}
-use Rattle.matroid_theory.proofs.Levels.{columns_total}
-use Rattle.matroid_theory.proofs.Orderings.{at_most_chain}
+use Rattle.matrix_lemmas.proofs.FieldLaws.{field_laws}
+use Rattle.matroid_laws.proofs.Levels.{columns_total}
+use Rattle.matrix_lemmas.proofs.Orderings.{at_most_chain}
 use Rattle.product_rep.proofs.PiecesLemmas.{place_below}
 use Rattle.canonical_form.specs.Search.{Reaches, PicksFirst, HasScalars, row_scalar, AreScalars, AreIndependentColumns, IsOrderedBasis, IsCandidate, AreOfClass, IsNotAbove, columns_cmp, later}
 use Rattle.canonical_form.specs.Found.{IsAtMost, CoversBases, CoversScalars, AreFirstScalars}

@@ -14,8 +14,8 @@ use Rattle.std.specs.Ordering.{is_lt, ordering_reverse}
 use Rattle.std.specs.declared.cmp.Ordering.{Ordering}
 use Rattle.std.specs.declared.cmp.Ordering.TheVariants.{Equal, Greater}
 use mathlib.Core.Bool.{true≢false}
-use Rattle.matroid_theory.proofs.Sums.{same_number, other_number}
-use Rattle.matroid_theory.proofs.Orderings.{then_at_most, at_most_chain}
+use Rattle.matrix_lemmas.proofs.Sums.{same_number, other_number}
+use Rattle.matrix_lemmas.proofs.Orderings.{then_at_most, at_most_chain}
 
 -- ---- orders
 

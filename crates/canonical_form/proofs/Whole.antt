@@ -16,17 +16,17 @@ use Rattle.matroid_theory.specs.Rep.{Rep, shape, count, size, order, matrix, IsS
 use Rattle.matroid_theory.specs.Matroid.{Agrees}
 use Rattle.matroid_theory.specs.Move.{Move, AreEquivalent}
 use Rattle.matroid_theory.specs.Order.{rep_cmp, IsForm}
-use Rattle.matroid_theory.proofs.FieldLaws.{field_laws}
-use Rattle.matroid_theory.proofs.Sums.{zero_below, sum_same, times_zero, sum_start}
-use Rattle.matroid_theory.proofs.Frobenius.{times_nonzero, inverse_nonzero}
-use Rattle.matroid_theory.proofs.Steps.{Independent, all_coefficients}
-use Rattle.matroid_theory.proofs.Standard.{standard_basis, ordered_independent}
-use Rattle.matroid_theory.proofs.Built.{standard_exists}
-use Rattle.matroid_theory.proofs.Equivalence.{equivalent-transitive}
-use Rattle.matroid_theory.proofs.Carried.{agrees_carried}
-use Rattle.matroid_theory.proofs.Levels.{columns_total}
-use Rattle.matroid_theory.proofs.First.{same_column}
-use Rattle.matroid_theory.proofs.Prefix.{slice_cmp-append}
+use Rattle.matrix_lemmas.proofs.FieldLaws.{field_laws}
+use Rattle.matrix_lemmas.proofs.Sums.{zero_below, sum_same, times_zero, sum_start}
+use Rattle.matrix_lemmas.proofs.Frobenius.{times_nonzero, inverse_nonzero}
+use Rattle.matrix_lemmas.proofs.Steps.{Independent, all_coefficients}
+use Rattle.matroid_laws.proofs.Standard.{standard_basis, ordered_independent}
+use Rattle.matroid_laws.proofs.Built.{standard_exists}
+use Rattle.matroid_laws.proofs.Equivalence.{equivalent-transitive}
+use Rattle.matroid_laws.proofs.Carried.{agrees_carried}
+use Rattle.matroid_laws.proofs.Levels.{columns_total}
+use Rattle.matroid_laws.proofs.First.{same_column}
+use Rattle.matroid_laws.proofs.Prefix.{slice_cmp-append}
 use Rattle.canonical_form.specs.Search.{Reaches, PicksFirst, row_scalar, later, columns_cmp, chosen, AreIndependentColumns, AreOfClass}
 
 -- ---- a part of independent columns

@@ -5,7 +5,7 @@ use Rattle.std.specs.Int.RustNames.{count_ones}
 use Rattle.std.proofs.lemmas.Bool.{cases_lt}
 use Rattle.std.proofs.lemmas.Bool.Decides.{nat_tests}
 use Rattle.std.proofs.Math.Pow.{pow_mono}
-use Rattle.matroid_theory.proofs.FieldLaws.{all_below, all_below-at}
+use Rattle.matrix_lemmas.proofs.FieldLaws.{all_below, all_below-at}
 
 -- how many masks below m have k ones
 unfoldable pub sets_below : ℕ → ℕ → ℕ

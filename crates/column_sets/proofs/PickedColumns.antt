@@ -6,9 +6,9 @@ use mathlib.Core.Bool.{true≢false}
 use Rattle.arrayvec.specs.ArrayVec.{ArrayVec}
 use Rattle.matroid_theory.specs.Field.{IsField}
 use Rattle.matroid_theory.specs.Matrix.{Matrix, size_below, IsIndependent}
-use Rattle.matroid_theory.proofs.Bases.{pick, pick_picks}
-use Rattle.matroid_theory.proofs.Picked.{Picks, picked_independent, set_independent, size_more, size_stays, size_grows}
-use Rattle.matroid_theory.proofs.Ranks.{IsIndependent-codes}
+use Rattle.matrix_lemmas.proofs.Bases.{pick, pick_picks}
+use Rattle.matrix_lemmas.proofs.Picked.{Picks, picked_independent, set_independent, size_more, size_stays, size_grows}
+use Rattle.matrix_lemmas.proofs.Ranks.{IsIndependent-codes}
 use Rattle.elimination.specs.Columns.{column, matrix_of, height, IsColumn, AreColumns, AreIndependent}
 use Rattle.elimination.proofs.Lists.{column_before, column_last}
 use Rattle.column_sets.specs.Picked.{ArePicked}

@@ -8,10 +8,10 @@ use Rattle.matroid_theory.specs.Matrix.{size_below}
 use Rattle.matroid_theory.specs.Rep.{Rep, size, order, matrix, KeepsLimits}
 use Rattle.matroid_theory.specs.Matroid.{members}
 use Rattle.matroid_theory.specs.Connection.{IsRank}
-use Rattle.matroid_theory.proofs.Bases.{with_element, with_own, with_other, set_bound, size_none}
-use Rattle.matroid_theory.proofs.FieldLaws.{field_laws}
-use Rattle.matroid_theory.proofs.Masks.{size-same}
-use Rattle.matroid_theory.proofs.Sums.{same_number, other_number}
+use Rattle.matrix_lemmas.proofs.Bases.{with_element, with_own, with_other, set_bound, size_none}
+use Rattle.matrix_lemmas.proofs.FieldLaws.{field_laws}
+use Rattle.matrix_lemmas.proofs.Masks.{size-same}
+use Rattle.matrix_lemmas.proofs.Sums.{same_number, other_number}
 use Rattle.connectivity.specs.Sides.{IsSide}
 use Rattle.connectivity.proofs.SplitLemmas.{rank_same}
 

@@ -13,10 +13,10 @@ use Rattle.matroid_theory.specs.Matrix.{IsIndependentPart}
 use Rattle.matroid_theory.specs.Rep.{Rep, size, order, matrix, KeepsLimits}
 use Rattle.matroid_theory.specs.Matroid.{members, IsIndependentIn}
 use Rattle.matroid_theory.specs.Connection.{IsRank}
-use Rattle.matroid_theory.proofs.Bases.{with_element, with_own, with_other, smaller_independent, rank_exists, greatest_part}
-use Rattle.matroid_theory.proofs.FieldLaws.{field_laws}
-use Rattle.matroid_theory.proofs.MaskCounts.{size-members}
-use Rattle.matroid_theory.proofs.Masks.{IsIndependent-same}
+use Rattle.matrix_lemmas.proofs.Bases.{with_element, with_own, with_other, smaller_independent, rank_exists, greatest_part}
+use Rattle.matrix_lemmas.proofs.FieldLaws.{field_laws}
+use Rattle.matrix_lemmas.proofs.MaskCounts.{size-members}
+use Rattle.matrix_lemmas.proofs.Masks.{IsIndependent-same}
 use Rattle.connectivity.specs.Sides.{IsSide}
 
 -- the mask of column j, as the code computes it

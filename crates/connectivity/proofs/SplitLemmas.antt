@@ -6,8 +6,8 @@ use Rattle.matroid_theory.specs.Matrix.{size_below}
 use Rattle.matroid_theory.specs.Rep.{Rep, size, KeepsLimits}
 use Rattle.matroid_theory.specs.Matroid.{Agrees}
 use Rattle.matroid_theory.specs.Connection.{IsRank, IsSeparation}
-use Rattle.matroid_theory.proofs.Bases.{with_element, with_own, with_other, size_most}
-use Rattle.matroid_theory.proofs.Masks.{size-same}
+use Rattle.matrix_lemmas.proofs.Bases.{with_element, with_own, with_other, size_most}
+use Rattle.matrix_lemmas.proofs.Masks.{size-same}
 use Rattle.connectivity.specs.Sides.{AreParts}
 
 -- a set has at least the rank of a part of it

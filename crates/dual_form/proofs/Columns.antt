@@ -8,9 +8,9 @@ use Rattle.matroid_theory.specs.Field.{negative}
 use Rattle.matroid_theory.specs.Matrix.{Matrix, unit}
 use Rattle.matroid_theory.specs.Rep.{Rep, size, count, order, matrix, KeepsLimits, IsProductColumn}
 use Rattle.matroid_theory.specs.Level.{followed_by}
-use Rattle.matroid_theory.proofs.Dimension.{unit_code}
-use Rattle.matroid_theory.proofs.FieldLaws.{field_laws}
-use Rattle.matroid_theory.proofs.Followed.{matrix_before, matrix_last}
+use Rattle.matrix_lemmas.proofs.Dimension.{unit_code}
+use Rattle.matrix_lemmas.proofs.FieldLaws.{field_laws}
+use Rattle.matroid_laws.proofs.Followed.{matrix_before, matrix_last}
 use Rattle.dual_theory.specs.Dual.{dual_matrix}
 
 -- the codes of a list, row by row and factor by factor

@@ -6,10 +6,10 @@ use Rattle.matroid_theory.specs.Matrix.{unit}
 use Rattle.matroid_theory.specs.Rep.{Rep, shape, count, size, order, matrix, IsShaped}
 use Rattle.matroid_theory.specs.declared.Mode.{Mode}
 use Rattle.matroid_theory.specs.Move.{Move, ArePermutation, IsMove, TakesTo, AreEquivalent}
-use Rattle.matroid_theory.proofs.FieldLaws.{field_laws}
-use Rattle.matroid_theory.proofs.Sums.{combination-unit}
-use Rattle.matroid_theory.proofs.Dimension.{unit_code}
-use Rattle.matroid_theory.proofs.Equivalence.{allowed_zero}
+use Rattle.matrix_lemmas.proofs.FieldLaws.{field_laws}
+use Rattle.matrix_lemmas.proofs.Sums.{combination-unit}
+use Rattle.matrix_lemmas.proofs.Dimension.{unit_code}
+use Rattle.matroid_laws.proofs.Equivalence.{allowed_zero}
 use Rattle.dual_form.specs.Turned.{turned}
 
 pub turned_early : (start size j : ℕ) → j < size - start → turned start size j ≡ start + j

@@ -7,18 +7,18 @@ use Rattle.matroid_theory.specs.Rep.{Rep, Shape, shape, count, size, order, matr
 use Rattle.matroid_theory.specs.declared.Mode.{Mode}
 use Rattle.matroid_theory.specs.Move.{Move, IsMove, moved, TakesTo, AreEquivalent}
 use Rattle.matroid_theory.specs.Order.{IsForm}
-use Rattle.matroid_theory.proofs.FieldLaws.{field_laws}
-use Rattle.matroid_theory.proofs.Sums.{sum_same, sum_below-code, combination-unit}
-use Rattle.matroid_theory.proofs.Frobenius.{raised_below, inverse_nonzero}
-use Rattle.matroid_theory.proofs.Dimension.{unit_code}
-use Rattle.matroid_theory.proofs.Equivalence.{allowed_zero, equivalent-reflexive, equivalent-symmetric, equivalent-transitive}
-use Rattle.matroid_theory.proofs.Carried.{basis_carried, turned_over, turned_orthogonal}
-use Rattle.matroid_theory.proofs.Forms.{one_form}
+use Rattle.matrix_lemmas.proofs.FieldLaws.{field_laws}
+use Rattle.matrix_lemmas.proofs.Sums.{sum_same, sum_below-code, combination-unit}
+use Rattle.matrix_lemmas.proofs.Frobenius.{raised_below, inverse_nonzero}
+use Rattle.matrix_lemmas.proofs.Dimension.{unit_code}
+use Rattle.matroid_laws.proofs.Equivalence.{allowed_zero, equivalent-reflexive, equivalent-symmetric, equivalent-transitive}
+use Rattle.matroid_laws.proofs.Carried.{basis_carried, turned_over, turned_orthogonal}
+use Rattle.matroid_laws.proofs.Forms.{one_form}
 use Rattle.dual_theory.specs.Dual.{complement, AreOrthogonal, HasBases, IsDualForm}
-use Rattle.matroid_theory.proofs.Masks.{IsIndependent-same}
+use Rattle.matrix_lemmas.proofs.Masks.{IsIndependent-same}
 use Rattle.dual_theory.proofs.Orthogonal.{complement_twice, change, change_back, change_codes, change_back_codes, change_inverse, changed}
 use Rattle.dual_theory.proofs.OrthogonalReps.{independent_named, there, codes_named, complement_basis, orthogonal_symmetric}
-use Rattle.matroid_theory.proofs.Built.{built, shape_built, matrix_built, shaped_built}
+use Rattle.matroid_laws.proofs.Built.{built, shape_built, matrix_built, shaped_built}
 use Rattle.dual_theory.proofs.StandardDual.{standard_has_bases, standard_dual_orthogonal, standard_dual_has_bases, standard_dual_exists}
 
 -- ---- equivalent representations have equivalent orthogonal ones

@@ -6,8 +6,8 @@ use Rattle.std.proofs.lemmas.Bool.{cases_lt}
 use Rattle.matroid_theory.specs.Rep.{Rep, shape, count, size, matrix, IsStandard}
 use Rattle.matroid_theory.specs.Minor.{Matroid}
 use Rattle.matroid_theory.specs.Order.{rep_cmp}
-use Rattle.matroid_theory.proofs.First.{same_codes}
-use Rattle.matroid_theory.proofs.Levels.{rep_cmp-reversed}
+use Rattle.matroid_laws.proofs.First.{same_codes}
+use Rattle.matroid_laws.proofs.Levels.{rep_cmp-reversed}
 use Rattle.std.specs.Ordering.{ordering_reverse}
 use Rattle.dual_theory.specs.Represented.{Represents, IsLeastOver, AgreeBefore, IsStandardOver, Completes, IsLeastCompletion}
 use Rattle.dual_theory.proofs.Searches.{same_shape}

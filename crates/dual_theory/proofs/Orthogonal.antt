@@ -4,14 +4,14 @@ use Rattle.std.specs.Bool.{◌==◌}
 use Rattle.std.proofs.lemmas.Bool.{cases_lt, cases_eq}
 use Rattle.matroid_theory.specs.Field.{plus, times, negative, characteristic, IsField}
 use Rattle.matroid_theory.specs.Matrix.{Matrix, combination, matrix_product, unit, AreInverse, size_below, AreCoefficients, IsIndependent}
-use Rattle.matroid_theory.proofs.Sums.{plus_zero_right, plus_cancel, sum_same, sum_zero, sum_below-code, zero_times, combination-product, combination-same, combination-scaled, inverse-undoes, same_number, other_number}
-use Rattle.matroid_theory.proofs.Frobenius.{times_nonzero, inverse_products, turned}
-use Rattle.matroid_theory.proofs.Steps.{Independent}
-use Rattle.matroid_theory.proofs.Dimension.{independent_bound, inverse_matrix, times_unit_column, combination_plus}
-use Rattle.matroid_theory.proofs.Picked.{size_grows, set_independent}
-use Rattle.matroid_theory.proofs.Bases.{pick, pick_picks}
-use Rattle.matroid_theory.proofs.Invertible.{combination_zero}
-use Rattle.matroid_theory.proofs.Built.{size_both}
+use Rattle.matrix_lemmas.proofs.Sums.{plus_zero_right, plus_cancel, sum_same, sum_zero, sum_below-code, zero_times, combination-product, combination-same, combination-scaled, inverse-undoes, same_number, other_number}
+use Rattle.matrix_lemmas.proofs.Frobenius.{times_nonzero, inverse_products, turned}
+use Rattle.matrix_lemmas.proofs.Steps.{Independent}
+use Rattle.matrix_lemmas.proofs.Dimension.{independent_bound, inverse_matrix, times_unit_column, combination_plus}
+use Rattle.matrix_lemmas.proofs.Picked.{size_grows, set_independent}
+use Rattle.matrix_lemmas.proofs.Bases.{pick, pick_picks}
+use Rattle.matrix_lemmas.proofs.Invertible.{combination_zero}
+use Rattle.matroid_laws.proofs.Built.{size_both}
 use Rattle.dual_theory.specs.Dual.{complement}
 
 -- ---- complements

@@ -4,9 +4,9 @@ use Rattle.matroid_theory.specs.Field.{times}
 use Rattle.matroid_theory.specs.Matrix.{sum_below, size_below, IsIndependent}
 use Rattle.matroid_theory.specs.Rep.{Rep, count, size, order, matrix, IsShaped}
 use Rattle.matroid_theory.specs.Matroid.{IsIndependentIn, IsBasis, Agrees}
-use Rattle.matroid_theory.proofs.FieldLaws.{field_laws}
-use Rattle.matroid_theory.proofs.Masks.{IsBasis-same}
-use Rattle.matroid_theory.proofs.Built.{size_both}
+use Rattle.matrix_lemmas.proofs.FieldLaws.{field_laws}
+use Rattle.matrix_lemmas.proofs.Masks.{IsBasis-same}
+use Rattle.matroid_laws.proofs.Built.{size_both}
 use Rattle.dual_theory.specs.Dual.{complement, IsDualBasis, IsDualRep, AreOrthogonal, HasBases}
 use Rattle.dual_theory.proofs.Orthogonal.{complement_twice, row_products, complement_independent}
 

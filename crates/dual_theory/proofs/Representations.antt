@@ -11,13 +11,13 @@ use Rattle.matroid_theory.specs.Minor.{Matroid}
 use Rattle.matroid_theory.specs.Order.{rep_cmp}
 use Rattle.matroid_theory.specs.declared.Mode.TheVariants.{Linear}
 use Rattle.matroid_theory.specs.Move.{Move, IsMove, TakesTo}
-use Rattle.matroid_theory.proofs.Lists.{rising_unique}
-use Rattle.matroid_theory.proofs.FieldLaws.{field_laws}
-use Rattle.matroid_theory.proofs.Masks.{mask, members-mask, IsBasis-same}
-use Rattle.matroid_theory.proofs.Levels.{rep_cmp-reversed, rep_cmp-equal}
-use Rattle.matroid_theory.proofs.Carried.{basis_carried}
-use Rattle.matroid_theory.proofs.Built.{standard_each}
-use Rattle.matroid_theory.proofs.Orderings.{neither}
+use Rattle.matrix_lemmas.proofs.Lists.{rising_unique}
+use Rattle.matrix_lemmas.proofs.FieldLaws.{field_laws}
+use Rattle.matrix_lemmas.proofs.Masks.{mask, members-mask, IsBasis-same}
+use Rattle.matroid_laws.proofs.Levels.{rep_cmp-reversed, rep_cmp-equal}
+use Rattle.matroid_laws.proofs.Carried.{basis_carried}
+use Rattle.matroid_laws.proofs.Built.{standard_each}
+use Rattle.matrix_lemmas.proofs.Orderings.{neither}
 use Rattle.dual_theory.specs.Represented.{IsMatroidOf, Represents, IsLeastOver}
 
 -- ---- the matroid of a representation

@@ -7,12 +7,12 @@ use Rattle.matroid_theory.specs.Matrix.{combination, unit}
 use Rattle.matroid_theory.specs.Rep.{Rep, count, size, order, matrix, IsStandard}
 use Rattle.matroid_theory.specs.Minor.{Matroid}
 use Rattle.matroid_theory.specs.declared.Mode.TheVariants.{Linear}
-use Rattle.matroid_theory.proofs.FieldLaws.{field_laws}
-use Rattle.matroid_theory.proofs.Sums.{sum_same, times_zero, combination-unit, same_number, other_number}
-use Rattle.matroid_theory.proofs.Frobenius.{inverse_nonzero}
-use Rattle.matroid_theory.proofs.Built.{standard_each}
-use Rattle.matroid_theory.proofs.Standard.{standard_by}
-use Rattle.matroid_theory.proofs.Rest.{units_basis}
+use Rattle.matrix_lemmas.proofs.FieldLaws.{field_laws}
+use Rattle.matrix_lemmas.proofs.Sums.{sum_same, times_zero, combination-unit, same_number, other_number}
+use Rattle.matrix_lemmas.proofs.Frobenius.{inverse_nonzero}
+use Rattle.matroid_laws.proofs.Built.{standard_each}
+use Rattle.matroid_laws.proofs.Standard.{standard_by}
+use Rattle.matroid_laws.proofs.Rest.{units_basis}
 use Rattle.dual_theory.specs.Represented.{Represents, AgreeBefore}
 use Rattle.dual_theory.proofs.Representations.{represents_moved}
 

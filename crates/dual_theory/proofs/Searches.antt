@@ -7,11 +7,11 @@ use Rattle.matroid_theory.specs.Matrix.{size_below}
 use Rattle.matroid_theory.specs.Rep.{Rep, shape, count, size}
 use Rattle.matroid_theory.specs.Matroid.{members, IsBasis}
 use Rattle.matroid_theory.specs.Minor.{Matroid}
-use Rattle.matroid_theory.proofs.Masks.{mask, mask-below, members-mask, size-same, IsBasis-same, same_mask}
-use Rattle.matroid_theory.proofs.Picked.{size_more, size_stays, size_grows}
-use Rattle.matroid_theory.proofs.Bases.{size_none}
-use Rattle.matroid_theory.proofs.Rest.{units_basis}
-use Rattle.matroid_theory.proofs.Built.{size_both}
+use Rattle.matrix_lemmas.proofs.Masks.{mask, mask-below, members-mask, size-same, IsBasis-same, same_mask}
+use Rattle.matrix_lemmas.proofs.Picked.{size_more, size_stays, size_grows}
+use Rattle.matrix_lemmas.proofs.Bases.{size_none}
+use Rattle.matroid_laws.proofs.Rest.{units_basis}
+use Rattle.matroid_laws.proofs.Built.{size_both}
 use Rattle.dual_theory.specs.Represented.{Represents, IsToldAt, IsBasedFirst, IsStandardOver, KeepsBasesAt, Completes}
 use Rattle.dual_theory.specs.Dual.{complement}
 use Rattle.dual_theory.proofs.Orthogonal.{complement_in, complement_out}

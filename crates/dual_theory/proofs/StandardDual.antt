@@ -6,13 +6,13 @@ use Rattle.matroid_theory.specs.Field.{plus, times, negative, IsField}
 use Rattle.matroid_theory.specs.Matrix.{Matrix, sum_below, combination, unit, size_below, AreCoefficients, IsIndependent}
 use Rattle.matroid_theory.specs.Rep.{Rep, Shape, count, size, order, matrix, IsShaped, IsStandard}
 use Rattle.matroid_theory.specs.Matroid.{IsBasis}
-use Rattle.matroid_theory.proofs.FieldLaws.{field_laws}
-use Rattle.matroid_theory.proofs.Sums.{plus_zero_right, sum_one, sum_below-code, times_zero, zero_times, same_number, other_number}
-use Rattle.matroid_theory.proofs.Dimension.{unit_code}
-use Rattle.matroid_theory.proofs.Rest.{size_front, units_basis}
+use Rattle.matrix_lemmas.proofs.FieldLaws.{field_laws}
+use Rattle.matrix_lemmas.proofs.Sums.{plus_zero_right, sum_one, sum_below-code, times_zero, zero_times, same_number, other_number}
+use Rattle.matrix_lemmas.proofs.Dimension.{unit_code}
+use Rattle.matroid_laws.proofs.Rest.{size_front, units_basis}
 use Rattle.dual_theory.specs.Dual.{complement, AreOrthogonal, HasBases, dual_matrix, IsStandardDual}
 use Rattle.dual_theory.proofs.OrthogonalReps.{independent_back}
-use Rattle.matroid_theory.proofs.Built.{built, size_built, matrix_built, shaped_built, size_both}
+use Rattle.matroid_laws.proofs.Built.{built, size_built, matrix_built, shaped_built, size_both}
 
 module _ (q : ℕ) (F : IsField q) where
   -- a sum in two parts

@@ -7,9 +7,9 @@ use Rattle.matroid_theory.specs.Field.{plus, times, negative, IsField}
 use Rattle.matroid_theory.specs.Matrix.{Matrix, combination, unit, size_below, AreCoefficients, IsIndependent}
 use Rattle.matroid_theory.specs.Rep.{Rep, Shape, shape, count, size, order, matrix, IsShaped, IsStandard}
 use Rattle.matroid_theory.specs.Matroid.{IsBasis}
-use Rattle.matroid_theory.proofs.FieldLaws.{field_laws}
-use Rattle.matroid_theory.proofs.Sums.{zero_below, plus_zero_right, sum_same, sum_one, sum_plus, times_zero, zero_times, same_number, other_number}
-use Rattle.matroid_theory.proofs.Dimension.{combination_plus}
+use Rattle.matrix_lemmas.proofs.FieldLaws.{field_laws}
+use Rattle.matrix_lemmas.proofs.Sums.{zero_below, plus_zero_right, sum_same, sum_one, sum_plus, times_zero, zero_times, same_number, other_number}
+use Rattle.matrix_lemmas.proofs.Dimension.{combination_plus}
 use Rattle.dual_theory.proofs.OrthogonalReps.{independent_back}
 use Rattle.dual_theory.specs.Represented.{AgreeBefore, IsToldAt}
 

@@ -2,9 +2,9 @@
 use Rattle.std.proofs.Common.{◌≡◌, ◌≢◌, ℕ, suc, ◌+◌, ◌<◌, ◌≤◌, refl, sym, ◌∙◌, subst, arith, List, [], ◌∷◌, ◌++◌, length}
 use Rattle.matroid_theory.specs.Field.{plus, times, negative, inverse, IsField}
 use Rattle.matroid_theory.specs.Matrix.{Matrix, IsRankOf}
-use Rattle.matroid_theory.proofs.Bases.{rank_exists, set_bound}
-use Rattle.matroid_theory.proofs.Ranks.{rank_pivot}
-use Rattle.matroid_theory.proofs.Steps.{All, cleared_entry}
+use Rattle.matrix_lemmas.proofs.Bases.{rank_exists, set_bound}
+use Rattle.matrix_lemmas.proofs.Ranks.{rank_pivot}
+use Rattle.matrix_lemmas.proofs.Steps.{All, cleared_entry}
 use Rattle.arrayvec.specs.ArrayVec.{ArrayVec}
 use Rattle.std.specs.List.{slice_index}
 use Rattle.elimination.specs.Columns.{matrix_of, AreColumns, IsRankOfColumns}

@@ -7,10 +7,10 @@ use Rattle.std.specs.List.{slice_index}
 use Rattle.arrayvec.specs.ArrayVec.{ArrayVec}
 use Rattle.matroid_theory.specs.Field.{plus, times, negative, inverse, IsField}
 use Rattle.matroid_theory.specs.Matrix.{Matrix, sum_below, combination, IsIndependent}
-use Rattle.matroid_theory.proofs.Dimension.{spanning}
-use Rattle.matroid_theory.proofs.Sums.{plus_cancel, plus_zero_right, sum_same, sum_zero, zero_times, sum_below-code, combination-same}
-use Rattle.matroid_theory.proofs.Frobenius.{times_undone}
-use Rattle.matroid_theory.proofs.Steps.{B_combination, share, cleared_entry}
+use Rattle.matrix_lemmas.proofs.Dimension.{spanning}
+use Rattle.matrix_lemmas.proofs.Sums.{plus_cancel, plus_zero_right, sum_same, sum_zero, zero_times, sum_below-code, combination-same}
+use Rattle.matrix_lemmas.proofs.Frobenius.{times_undone}
+use Rattle.matrix_lemmas.proofs.Steps.{B_combination, share, cleared_entry}
 use Rattle.elimination.specs.Columns.{column, matrix_of, IsColumn, AreColumns, AreIndependent}
 use Rattle.elimination.specs.Cleared.{multiple, IsClearedBy, AreClearedBy}
 use Rattle.elimination.specs.Equations.{sum_of_products, IsEquation, AreTriangle, Meets}

@@ -4,8 +4,8 @@ use Rattle.std.specs.List.{range_with_len}
 use Rattle.std.proofs.Math.Nat.{mod-lt}
 use Rattle.matroid_theory.specs.Field.{IsOrder}
 use Rattle.matroid_theory.specs.Rep.{Rep, Shape, shape, size, IsShaped, IsProductColumn}
-use Rattle.matroid_theory.proofs.FieldLaws.{order_most}
-use Rattle.matroid_theory.proofs.First.{row_below, whole, columns_positive}
+use Rattle.matrix_lemmas.proofs.FieldLaws.{order_most}
+use Rattle.matroid_laws.proofs.First.{row_below, whole, columns_positive}
 use Rattle.existence.proofs.Deciding.{IsIn, place_of}
 use Rattle.existence.proofs.Covers.{words, in_words, in_map, in_range}
 

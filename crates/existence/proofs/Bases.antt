@@ -8,9 +8,9 @@ use Rattle.matroid_theory.specs.Matrix.{Matrix, size_below, IsIndependent}
 use Rattle.matroid_theory.specs.Rep.{Rep, count, size, order, matrix, IsShaped}
 use Rattle.matroid_theory.specs.Matroid.{members, IsBasis, IsIndependentIn, Agrees, IsRepresentation, IsSimple}
 use Rattle.matroid_theory.specs.Minor.{Matroid, image, IsInjection, IsMinorBy, IsMinor}
-use Rattle.matroid_theory.proofs.FieldLaws.{field_laws}
-use Rattle.matroid_theory.proofs.Masks.{size-same, IsBasis-same, any_below-same}
-use Rattle.matroid_theory.proofs.Ranks.{decided, related_dependent}
+use Rattle.matrix_lemmas.proofs.FieldLaws.{field_laws}
+use Rattle.matrix_lemmas.proofs.Masks.{size-same, IsBasis-same, any_below-same}
+use Rattle.matrix_lemmas.proofs.Ranks.{decided, related_dependent}
 use Rattle.existence.specs.Decided.{IsDecided}
 use Rattle.existence.proofs.Deciding.{along, both, implied, iff, less, equal, equal_bools, each_below}
 use Rattle.existence.proofs.Deciding.{each_two, each_three, some_set, each_set, contained, each_in, at_place, place_of}

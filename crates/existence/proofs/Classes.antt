@@ -8,12 +8,12 @@ use Rattle.matroid_theory.specs.Matroid.{IsRepresentation}
 use Rattle.matroid_theory.specs.Move.{AreEquivalent}
 use Rattle.matroid_theory.specs.Order.{rep_cmp, IsForm}
 use Rattle.matroid_theory.specs.Level.{Family, IsMember, IsLevelForm, IsLevel, IsRisingList, IsTry, IsTryFor, followed_by}
-use Rattle.matroid_theory.proofs.Equivalence.{equivalent-reflexive, equivalent-transitive}
-use Rattle.matroid_theory.proofs.Carried.{agrees_carried, simple_carried}
-use Rattle.matroid_theory.proofs.Built.{standard_exists}
-use Rattle.matroid_theory.proofs.Forms.{one_form}
-use Rattle.matroid_theory.proofs.Parents.{last_try}
-use Rattle.matroid_theory.proofs.Compared.{not_above_itself}
+use Rattle.matroid_laws.proofs.Equivalence.{equivalent-reflexive, equivalent-transitive}
+use Rattle.matroid_laws.proofs.Carried.{agrees_carried, simple_carried}
+use Rattle.matroid_laws.proofs.Built.{standard_exists}
+use Rattle.matroid_laws.proofs.Forms.{one_form}
+use Rattle.matroid_laws.proofs.Parents.{last_try}
+use Rattle.matroid_laws.proofs.Compared.{not_above_itself}
 use Rattle.existence.specs.Exists.{HasOneOfEachClass}
 use Rattle.existence.proofs.Deciding.{both}
 use Rattle.existence.proofs.RisingLists.{rising_list}

@@ -5,9 +5,9 @@ use Rattle.matroid_theory.specs.Matrix.{Matrix, size_below, IsIndependentPart, I
 use Rattle.matroid_theory.specs.Rep.{Rep, size, order, matrix}
 use Rattle.matroid_theory.specs.Matroid.{IsRepresentation}
 use Rattle.matroid_theory.specs.Connection.{IsRank, IsSeparation, IsConnected, Is3Connected, IsCosimple}
-use Rattle.matroid_theory.proofs.FieldLaws.{field_laws}
-use Rattle.matroid_theory.proofs.Masks.{size-same}
-use Rattle.matroid_theory.proofs.Bases.{rank_exists, rank_unique}
+use Rattle.matrix_lemmas.proofs.FieldLaws.{field_laws}
+use Rattle.matrix_lemmas.proofs.Masks.{size-same}
+use Rattle.matrix_lemmas.proofs.Bases.{rank_exists, rank_unique}
 use Rattle.existence.specs.Decided.{IsDecided}
 use Rattle.existence.proofs.Deciding.{along, both, negated, less, at_most, equal, each_two, each_set}
 

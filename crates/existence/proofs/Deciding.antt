@@ -7,8 +7,8 @@ use Rattle.std.specs.declared.cmp.Ordering.TheVariants.{Less, Equal, Greater}
 use Rattle.std.proofs.lemmas.Bool.{cases_lt, cases_eq}
 use mathlib.Core.Bool.{true≢false}
 use Rattle.matroid_theory.specs.Matroid.{members}
-use Rattle.matroid_theory.proofs.Masks.{mask, mask-below, members-mask, by_masks}
-use Rattle.matroid_theory.proofs.Bases.{search_below}
+use Rattle.matrix_lemmas.proofs.Masks.{mask, mask-below, members-mask, by_masks}
+use Rattle.matrix_lemmas.proofs.Bases.{search_below}
 use Rattle.existence.specs.Decided.{IsDecided}
 
 -- an answer goes over to what holds together with it

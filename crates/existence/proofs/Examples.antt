@@ -8,10 +8,10 @@ use Rattle.matroid_theory.specs.Matrix.{unit}
 use Rattle.matroid_theory.specs.Rep.{Rep, order, matrix, IsShaped, IsStandard, IsProductColumn}
 use Rattle.matroid_theory.specs.Matroid.{members, IsIndependentIn, IsBasis, IsSimple}
 use Rattle.matroid_theory.specs.Level.{Family, IsMember, IsLevelForm, IsLevel, IsNormalised, IsTry, followed_by}
-use Rattle.matroid_theory.proofs.First.{first_level}
-use Rattle.matroid_theory.proofs.Followed.{shaped_pushed}
-use Rattle.matroid_theory.proofs.Levels.{rising_list_unique}
-use Rattle.matroid_theory.proofs.Tries.{independent_by_test}
+use Rattle.matroid_laws.proofs.First.{first_level}
+use Rattle.matroid_laws.proofs.Followed.{shaped_pushed}
+use Rattle.matroid_laws.proofs.Levels.{rising_list_unique}
+use Rattle.matroid_laws.proofs.Tries.{independent_by_test}
 use Rattle.existence.specs.Exists.{HasLevel, HasTryCount}
 use Rattle.existence.proofs.Classes.{one_of_each_class}
 

@@ -8,7 +8,7 @@ use Rattle.matroid_theory.specs.Move.{ArePermutation}
 use Rattle.matroid_theory.specs.Order.{rep_cmp}
 use Rattle.matroid_theory.specs.Minor.{Matroid, IsMinor, HaveSameMatroid}
 use Rattle.matroid_theory.specs.Level.{Family, Filters, IsLevelForm, Passes, IsListed}
-use Rattle.matroid_theory.proofs.Masks.{IsBasis-same}
+use Rattle.matrix_lemmas.proofs.Masks.{IsBasis-same}
 use Rattle.existence.specs.Decided.{IsDecided}
 use Rattle.existence.proofs.Deciding.{along, both, implied, negated, iff, equal, is_set, is_less, each_set, each_in}
 use Rattle.existence.proofs.Covers.{some_covered, number_cover, function_cover, pair_cover}

@@ -9,11 +9,11 @@ use Rattle.matroid_theory.specs.Matroid.{members}
 use Rattle.matroid_theory.specs.Minor.{Matroid}
 use Rattle.matroid_theory.specs.Given.{Given, AllSets, ColumnsOver, DualOfColumns, elements}
 use Rattle.matroid_theory.specs.Given.{column_length, matrix_of_lists, IsColumnBasis, IsGivenBasis, IsGivenBy}
-use Rattle.matroid_theory.proofs.FieldLaws.{field_laws}
-use Rattle.matroid_theory.proofs.Masks.{mask, mask-below, members-mask, size-same, IsIndependent-same}
-use Rattle.matroid_theory.proofs.Bases.{rank_exists, rank_unique}
-use Rattle.matroid_theory.proofs.Rest.{size_front}
-use Rattle.matroid_theory.proofs.Built.{size_both}
+use Rattle.matrix_lemmas.proofs.FieldLaws.{field_laws}
+use Rattle.matrix_lemmas.proofs.Masks.{mask, mask-below, members-mask, size-same, IsIndependent-same}
+use Rattle.matrix_lemmas.proofs.Bases.{rank_exists, rank_unique}
+use Rattle.matroid_laws.proofs.Rest.{size_front}
+use Rattle.matroid_laws.proofs.Built.{size_both}
 use Rattle.existence.specs.Decided.{IsDecided}
 use Rattle.existence.proofs.Deciding.{IsIn, to_contains, from_contains, along, both, equal}
 use Rattle.existence.proofs.Bases.{independent_decided}

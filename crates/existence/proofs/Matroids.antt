@@ -8,7 +8,7 @@ use Rattle.matroid_theory.specs.Rep.{Rep}
 use Rattle.matroid_theory.specs.Order.{rep_cmp}
 use Rattle.matroid_theory.specs.Minor.{HaveSameMatroid}
 use Rattle.matroid_theory.specs.Level.{Family, IsMember, IsLevelForm, Passes, IsListed}
-use Rattle.matroid_theory.proofs.Levels.{rep_cmp-reversed, rep_cmp-equal}
+use Rattle.matroid_laws.proofs.Levels.{rep_cmp-reversed, rep_cmp-equal}
 use Rattle.existence.specs.Exists.{distinct_alone, HasOneOfEachMatroid}
 use Rattle.existence.proofs.Deciding.{both}
 use Rattle.existence.proofs.RisingLists.{rising_list}

@@ -7,8 +7,8 @@ use Rattle.matroid_theory.specs.Field.{IsOrder, IsField, times, degree, raised}
 use Rattle.matroid_theory.specs.Matrix.{Matrix, matrix_product, unit, AreInverse}
 use Rattle.matroid_theory.specs.Rep.{Rep, Shape, shape, count, size, matrix, IsShaped}
 use Rattle.matroid_theory.specs.Move.{Move, ArePermutation, AllowsPower, IsMove, moved, TakesTo, AreEquivalent}
-use Rattle.matroid_theory.proofs.FieldLaws.{by_order, field_laws}
-use Rattle.matroid_theory.proofs.Sums.{sum_same}
+use Rattle.matrix_lemmas.proofs.FieldLaws.{by_order, field_laws}
+use Rattle.matrix_lemmas.proofs.Sums.{sum_same}
 use Rattle.existence.specs.Decided.{IsDecided}
 use Rattle.existence.proofs.Deciding.{along, both, negated, less, equal, each_below, each_two, each_three}
 use Rattle.existence.proofs.Covers.{IsCover, some_covered, number_cover, function_cover, functions, pair_cover, pairs, in_map}

@@ -8,7 +8,7 @@ use Rattle.std.proofs.lemmas.List.Kept.{AllPairs-cons}
 use Rattle.matroid_theory.specs.Rep.{Rep, Shape, shape, IsShaped}
 use Rattle.matroid_theory.specs.Order.{rep_cmp}
 use Rattle.matroid_theory.specs.Level.{IsRisingList}
-use Rattle.matroid_theory.proofs.Levels.{rep_cmp-transitive, rep_cmp-reversed, rep_cmp-equal}
+use Rattle.matroid_laws.proofs.Levels.{rep_cmp-transitive, rep_cmp-reversed, rep_cmp-equal}
 use Rattle.existence.specs.Decided.{IsDecided}
 use Rattle.existence.proofs.Deciding.{IsIn, to_contains, from_contains, at_place}
 use Rattle.existence.proofs.AllReps.{all_reps, in_all_of}

@@ -13,11 +13,11 @@ use Rattle.matroid_theory.specs.Matroid.{members, IsBasis, IsIndependentIn, IsRe
 use Rattle.matroid_theory.specs.Move.{ArePermutation, AreEquivalent}
 use Rattle.matroid_theory.specs.Minor.{Matroid, image, IsMinorBy, IsMinor, HaveSameMatroid}
 use Rattle.matroid_theory.specs.Connection.{IsRank, IsSeparation, IsConnected, Is3Connected, IsCosimple}
-use Rattle.matroid_theory.proofs.FieldLaws.{field_laws}
-use Rattle.matroid_theory.proofs.Masks.{IsBasis-same, any_below-same}
-use Rattle.matroid_theory.proofs.Counts.{size_relabelled}
-use Rattle.matroid_theory.proofs.Carried.{basis_carried, inverse_permutation, same_label}
-use Rattle.matroid_theory.proofs.Bases.{with_element, with_other, with_own, size_with, smaller_independent, augmentation, set_bound}
+use Rattle.matrix_lemmas.proofs.FieldLaws.{field_laws}
+use Rattle.matrix_lemmas.proofs.Masks.{IsBasis-same, any_below-same}
+use Rattle.matrix_lemmas.proofs.Counts.{size_relabelled}
+use Rattle.matroid_laws.proofs.Carried.{basis_carried, inverse_permutation, same_label}
+use Rattle.matrix_lemmas.proofs.Bases.{with_element, with_other, with_own, size_with, smaller_independent, augmentation, set_bound}
 use Rattle.existence.proofs.Connection.{rank_near}
 
 pub same_matroid-symmetric : (M N : Rep) → HaveSameMatroid M N → HaveSameMatroid N M

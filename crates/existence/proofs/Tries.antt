@@ -5,7 +5,7 @@ use Rattle.std.proofs.lemmas.List.Kept.{AllPairs-cons}
 use Rattle.matroid_theory.specs.Field.{IsOrder}
 use Rattle.matroid_theory.specs.Rep.{Rep, size}
 use Rattle.matroid_theory.specs.Level.{Family, IsNormalised, IsTry, IsCount, followed_by}
-use Rattle.matroid_theory.proofs.Followed.{size_followed}
+use Rattle.matroid_laws.proofs.Followed.{size_followed}
 use Rattle.existence.specs.Decided.{IsDecided}
 use Rattle.existence.proofs.Deciding.{IsIn, at_place, to_contains, from_contains, along, both, implied}
 use Rattle.existence.proofs.Deciding.{equal, equal_lists, is_in, some_below, each_below, each_two, each_three}

@@ -7,15 +7,15 @@ use Rattle.matroid_theory.specs.Matrix.{size_below, IsIndependent}
 use Rattle.matroid_theory.specs.Rep.{Rep, size, count, order, matrix, IsShaped, IsStandard, KeepsLimits, IsProductColumn}
 use Rattle.matroid_theory.specs.Matroid.{members, IsIndependentIn, IsBasis, Agrees, IsSimple}
 use Rattle.matroid_theory.specs.Level.{followed_by, IsNormalised}
-use Rattle.matroid_theory.proofs.Bases.{with_own, with_other, smaller_independent}
-use Rattle.matroid_theory.proofs.FieldLaws.{field_laws}
-use Rattle.matroid_theory.proofs.Followed.{matrix_before, size_followed, shaped_pushed}
-use Rattle.matroid_theory.proofs.Masks.{mask, mask-below, members-mask, size-same, IsIndependent-same, IsBasis-same}
-use Rattle.matroid_theory.proofs.Pairs.{pair, pairs_both}
-use Rattle.matroid_theory.proofs.Picked.{size_more}
-use Rattle.matroid_theory.proofs.Ranks.{without_last, IsIndependent-codes, but, but_own, but_other}
-use Rattle.matroid_theory.proofs.Rest.{basis_in_whole, basis_in_part}
-use Rattle.matroid_theory.proofs.Sums.{same_number, other_number}
+use Rattle.matrix_lemmas.proofs.Bases.{with_own, with_other, smaller_independent}
+use Rattle.matrix_lemmas.proofs.FieldLaws.{field_laws}
+use Rattle.matroid_laws.proofs.Followed.{matrix_before, size_followed, shaped_pushed}
+use Rattle.matrix_lemmas.proofs.Masks.{mask, mask-below, members-mask, size-same, IsIndependent-same, IsBasis-same}
+use Rattle.matrix_lemmas.proofs.Pairs.{pair, pairs_both}
+use Rattle.matrix_lemmas.proofs.Picked.{size_more}
+use Rattle.matrix_lemmas.proofs.Ranks.{without_last, IsIndependent-codes, but, but_own, but_other}
+use Rattle.matroid_laws.proofs.Rest.{basis_in_whole, basis_in_part}
+use Rattle.matrix_lemmas.proofs.Sums.{same_number, other_number}
 use Rattle.extension.specs.Admissible.{IsAdmissible}
 use Rattle.extension.specs.Steps.{with_new}
 

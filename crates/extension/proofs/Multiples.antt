@@ -5,8 +5,8 @@ use Rattle.std.proofs.lemmas.Bool.{cases_eq}
 use mathlib.Core.Bool.{true≢false}
 use Rattle.matroid_theory.specs.Field.{IsField, plus, times, negative, inverse}
 use Rattle.matroid_theory.specs.Matrix.{Matrix, combination, AreCoefficients, IsIndependent}
-use Rattle.matroid_theory.proofs.Pairs.{pair}
-use Rattle.matroid_theory.proofs.Sums.{zero_below, same_number, other_number, times_zero, sum_one, plus_cancel}
+use Rattle.matrix_lemmas.proofs.Pairs.{pair}
+use Rattle.matrix_lemmas.proofs.Sums.{zero_below, same_number, other_number, times_zero, sum_one, plus_cancel}
 
 module _ (q : ℕ) (F : IsField q) where
   -- a factor that isn't 0 can be left out

@@ -8,8 +8,8 @@ use Rattle.std.proofs.lemmas.Nat.{div-mul-add, mod-mul-add, mul-add-lt}
 use Rattle.matroid_theory.specs.Field.{IsFactors, IsField}
 use Rattle.matroid_theory.specs.Rep.{IsProductColumn}
 use Rattle.matroid_theory.specs.Level.{IsNormalised}
-use Rattle.matroid_theory.proofs.FieldLaws.{order_most, field_laws}
-use Rattle.matroid_theory.proofs.First.{whole, row_below}
+use Rattle.matrix_lemmas.proofs.FieldLaws.{order_most, field_laws}
+use Rattle.matroid_laws.proofs.First.{whole, row_below}
 use Rattle.extension.specs.Steps.{IsStart, CanRise, IsLastRise, IsLead, IsRaised, IsNextNormalised, IsLastNormalised}
 use Rattle.extension.proofs.Places.{DiffersAt, first_difference, differing_less, not_greater}
 

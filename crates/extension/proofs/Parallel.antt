@@ -5,9 +5,9 @@ use Rattle.matroid_theory.specs.Matrix.{IsIndependent}
 use Rattle.matroid_theory.specs.Rep.{Rep, size, count, order, matrix, column_of, KeepsLimits, IsProductColumn}
 use Rattle.matroid_theory.specs.Matroid.{IsIndependentIn}
 use Rattle.matroid_theory.specs.Level.{followed_by}
-use Rattle.matroid_theory.proofs.FieldLaws.{field_laws}
-use Rattle.matroid_theory.proofs.Followed.{matrix_before, matrix_last, size_followed}
-use Rattle.matroid_theory.proofs.Pairs.{pair}
+use Rattle.matrix_lemmas.proofs.FieldLaws.{field_laws}
+use Rattle.matroid_laws.proofs.Followed.{matrix_before, matrix_last, size_followed}
+use Rattle.matrix_lemmas.proofs.Pairs.{pair}
 use Rattle.elimination.specs.Columns.{IsColumn}
 use Rattle.product_rep.proofs.MoveLemmas.{column-entry, column-length}
 use Rattle.extension.proofs.Followers.{rep_followed}

@@ -15,18 +15,18 @@ use Rattle.matroid_theory.specs.Matrix.{Matrix, sum_below, combination, unit, si
 use Rattle.matroid_theory.specs.Rep.{Rep, size, count, order, matrix, column_of, IsShaped, KeepsLimits, IsProductColumn}
 use Rattle.matroid_theory.specs.Matroid.{members, IsIndependentIn, Agrees}
 use Rattle.matroid_theory.specs.Level.{followed_by}
-use Rattle.matroid_theory.proofs.Agreement.{one_more}
-use Rattle.matroid_theory.proofs.Bases.{with_element, with_own, with_other, size_with, smaller_independent, augmentation, set_bound}
-use Rattle.matroid_theory.proofs.Dimension.{unit_code}
-use Rattle.matroid_theory.proofs.FieldLaws.{field_laws}
-use Rattle.matroid_theory.proofs.Followed.{matrix_before, size_followed, shaped_pushed}
-use Rattle.matroid_theory.proofs.Frobenius.{times_nonzero}
-use Rattle.matroid_theory.proofs.Invertible.{combination_zero}
-use Rattle.matroid_theory.proofs.Masks.{size-same, IsIndependent-same}
-use Rattle.matroid_theory.proofs.Picked.{size_more}
-use Rattle.matroid_theory.proofs.Ranks.{without_last, with_last, last_before, combination_last, last_coefficients, IsIndependent-codes, but, but_own, but_other}
-use Rattle.matroid_theory.proofs.Sums.{zero_below, sum_same, plus_zero_right, sum_one, sum_below-code, combination-product}
-use Rattle.matroid_theory.proofs.Sums.{times_zero, zero_times, same_number, other_number}
+use Rattle.matroid_laws.proofs.Agreement.{one_more}
+use Rattle.matrix_lemmas.proofs.Bases.{with_element, with_own, with_other, size_with, smaller_independent, augmentation, set_bound}
+use Rattle.matrix_lemmas.proofs.Dimension.{unit_code}
+use Rattle.matrix_lemmas.proofs.FieldLaws.{field_laws}
+use Rattle.matroid_laws.proofs.Followed.{matrix_before, size_followed, shaped_pushed}
+use Rattle.matrix_lemmas.proofs.Frobenius.{times_nonzero}
+use Rattle.matrix_lemmas.proofs.Invertible.{combination_zero}
+use Rattle.matrix_lemmas.proofs.Masks.{size-same, IsIndependent-same}
+use Rattle.matrix_lemmas.proofs.Picked.{size_more}
+use Rattle.matrix_lemmas.proofs.Ranks.{without_last, with_last, last_before, combination_last, last_coefficients, IsIndependent-codes, but, but_own, but_other}
+use Rattle.matrix_lemmas.proofs.Sums.{zero_below, sum_same, plus_zero_right, sum_one, sum_below-code, combination-product}
+use Rattle.matrix_lemmas.proofs.Sums.{times_zero, zero_times, same_number, other_number}
 use Rattle.elimination.specs.Columns.{column, IsColumn, AreColumns}
 use Rattle.elimination.proofs.Lists.{column_before, column_last}
 use Rattle.extension.specs.declared.planes.Plane.{Plane}

@@ -10,8 +10,8 @@ use Rattle.std.proofs.Math.Nat.{mul-le-mul, le_refl, pow-succ', pow-le-pow_right
 use Rattle.matroid_theory.specs.Field.{IsFactors}
 use Rattle.matroid_theory.specs.Rep.{IsProductColumn}
 use Rattle.matroid_theory.specs.Level.{IsNormalised}
-use Rattle.matroid_theory.proofs.FieldLaws.{order_most}
-use Rattle.matroid_theory.proofs.First.{whole, row_below, digit_less}
+use Rattle.matrix_lemmas.proofs.FieldLaws.{order_most}
+use Rattle.matroid_laws.proofs.First.{whole, row_below, digit_less}
 use Rattle.extension.specs.Admissible.{value, above_values}
 use Rattle.extension.specs.Steps.{IsStart}
 use Rattle.extension.proofs.Nexts.{normalised_length}

@@ -3,7 +3,7 @@ use Rattle.std.proofs.Common.{◌≡◌, ◌≢◌, refl, ℕ, ◌<◌, ◌≤�
 use Rattle.std.proofs.lemmas.Bool.{leb-true}
 use Rattle.matroid_theory.specs.Field.{times}
 use Rattle.matroid_theory.specs.Rep.{Rep, count, size, order, matrix, IsShaped}
-use Rattle.matroid_theory.proofs.Sums.{times_zero}
+use Rattle.matrix_lemmas.proofs.Sums.{times_zero}
 use Rattle.form_search.specs.Search.{IsThere, IsLed, IsFrame}
 use Rattle.form_search.specs.Start.{zero_layer, others_of, IsZeroTest, zero_test, IsStarted}
 use Rattle.form_trails.proofs.Entries.{field}

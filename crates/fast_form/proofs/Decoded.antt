@@ -5,7 +5,7 @@ use Rattle.std.proofs.Math.Seq.{ext_get_or, get_or-append_seam}
 use Rattle.std.proofs.Math.ListN.{get_or-append}
 use Rattle.matroid_theory.specs.Rep.{Rep, Shape, shape, count, size, IsShaped, IsStandard, IsProductColumn}
 use Rattle.matroid_theory.specs.Level.{followed_by}
-use Rattle.matroid_theory.proofs.First.{same_column}
+use Rattle.matroid_laws.proofs.First.{same_column}
 use Rattle.form_trails.specs.Numbers.{weighed}
 use Rattle.form_search.specs.Search.{AreOfClass}
 use Rattle.form_trails.proofs.Numbers.{value-weighed, digit_of}

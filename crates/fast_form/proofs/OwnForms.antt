@@ -12,10 +12,10 @@ use Rattle.matroid_theory.specs.Matroid.{IsRepresentation}
 use Rattle.matroid_theory.specs.Move.{AreEquivalent}
 use Rattle.matroid_theory.specs.Order.{rep_cmp, IsForm}
 use Rattle.matroid_theory.specs.Powers.{IsRaised, AreEquivalentFrom}
-use Rattle.matroid_theory.proofs.Compared.{not_above_trans}
-use Rattle.matroid_theory.proofs.Equivalence.{equivalent-reflexive, equivalent-symmetric, equivalent-transitive}
-use Rattle.matroid_theory.proofs.Levels.{columns_total}
-use Rattle.matroid_theory.proofs.Semilinear.{from_raised, to_raised}
+use Rattle.matroid_laws.proofs.Compared.{not_above_trans}
+use Rattle.matroid_laws.proofs.Equivalence.{equivalent-reflexive, equivalent-symmetric, equivalent-transitive}
+use Rattle.matroid_laws.proofs.Levels.{columns_total}
+use Rattle.matroid_laws.proofs.Semilinear.{from_raised, to_raised}
 use Rattle.fast_form.specs.NotAbove.{IsNotAboveClass, IsNotAboveFrom}
 
 -- ---- no powers

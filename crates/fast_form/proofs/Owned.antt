@@ -7,9 +7,9 @@ use Rattle.std.proofs.lemmas.Cmp.{nat_list_cmp_total, tied_itself}
 use Rattle.matroid_theory.specs.declared.Mode.TheVariants.{Linear}
 use Rattle.matroid_theory.specs.Rep.{Rep, IsShaped, IsStandard}
 use Rattle.matroid_theory.specs.Order.{rep_cmp, IsForm}
-use Rattle.matroid_theory.proofs.Equivalence.{equivalent-reflexive}
-use Rattle.matroid_theory.proofs.Levels.{rep_cmp-reversed, rep_cmp-equal}
-use Rattle.matroid_theory.proofs.Orderings.{neither}
+use Rattle.matroid_laws.proofs.Equivalence.{equivalent-reflexive}
+use Rattle.matroid_laws.proofs.Levels.{rep_cmp-reversed, rep_cmp-equal}
+use Rattle.matrix_lemmas.proofs.Orderings.{neither}
 use Rattle.form_search.specs.Search.{AreOfClass, numbers_of}
 use Rattle.form_search.proofs.Finish.{numbers_decide}
 

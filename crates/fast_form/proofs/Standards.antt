@@ -1,7 +1,7 @@
 -- Which representations are standard: those that begin with the columns of the unit representation.
 use Rattle.std.proofs.Common.{◌≡◌, ℕ, ◌*◌, ◌+◌, ◌<◌, ◌≤◌, List, [], length, slice_index, slice_index_or, sym, ◌∙◌, ap, subst, arith}
 use Rattle.matroid_theory.specs.Rep.{Rep, Shape, shape, count, size, IsShaped, IsStandard}
-use Rattle.matroid_theory.proofs.First.{same_column}
+use Rattle.matroid_laws.proofs.First.{same_column}
 
 module _ (M U : Rep) (shaped : IsShaped M) (unit_shaped : IsShaped U) (t : IsStandard U)
     (e : shape U ≡ record { factors = M.factors; rank = M.rank; size = M.rank }) (some : 0 < count M) where

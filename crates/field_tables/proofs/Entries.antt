@@ -4,7 +4,7 @@ use Rattle.std.specs.Bool.{◌==◌}
 use Rattle.std.specs.List.{slice_index_or}
 use Rattle.std.proofs.lemmas.Bool.{or_cases}
 use Rattle.matroid_theory.specs.Field.{IsOrder, plus, times, negative, inverse, frobenius, degree, poly, characteristic, remainder}
-use Rattle.matroid_theory.proofs.FieldLaws.{by_order, each, each_pair, at_pair, all_below-at}
+use Rattle.matrix_lemmas.proofs.FieldLaws.{by_order, each, each_pair, at_pair, all_below-at}
 use Rattle.field_tables.specs.declared.tables.TheConstants.{SUMS, PRODUCTS, NEGATIVES, INVERSES, POWERS, DEGREES}
 
 -- what a table of one code, and one of two codes, holds for an order

@@ -4,7 +4,7 @@ use Rattle.std.proofs.Math.Nat.{mul-le-mul, le_refl}
 use Rattle.std.proofs.Math.Seq.{take-add}
 use Rattle.matroid_theory.specs.Rep.{Rep, Shape, shape, size, IsStandard, IsProductColumn}
 use Rattle.matroid_theory.specs.Level.{followed_by}
-use Rattle.matroid_theory.proofs.Followed.{size_followed, standard_followed}
+use Rattle.matroid_laws.proofs.Followed.{size_followed, standard_followed}
 use Rattle.form_key.specs.Codes.{half_at, AreCodesOf}
 use Rattle.form_key.specs.Packing.{IsPackedAs, later_codes, paired}
 use Rattle.form_key.proofs.Columns.{piece_is_column, later_codes-followed, length-later, later_are_codes, codes_are_halves}

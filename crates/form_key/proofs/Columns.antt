@@ -11,7 +11,7 @@ use Rattle.std.proofs.Math.Nat.{mod-lt, mul_comm, mul-add-mod_self_right, mul-le
 use Rattle.matroid_theory.specs.Field.{orders, IsOrder}
 use Rattle.matroid_theory.specs.Rep.{Rep, count, size, KeepsLimits, IsShaped, IsProductColumn}
 use Rattle.matroid_theory.specs.Level.{followed_by}
-use Rattle.matroid_theory.proofs.First.{row_below, whole, columns_positive}
+use Rattle.matroid_laws.proofs.First.{row_below, whole, columns_positive}
 use Rattle.form_key.specs.Codes.{AreHalves, AreCodesOf}
 use Rattle.form_key.specs.Packing.{later_codes}
 

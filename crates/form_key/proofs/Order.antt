@@ -10,10 +10,10 @@ use Rattle.std.specs.declared.cmp.Ordering.TheVariants.{Less, Equal, Greater}
 use Rattle.std.proofs.lemmas.List.{take-append-drop, get_or-take, length-take-le}
 use Rattle.matroid_theory.specs.Rep.{Rep, Shape, shape, count, size, matrix, IsShaped, IsStandard}
 use Rattle.matroid_theory.specs.Order.{rep_cmp}
-use Rattle.matroid_theory.proofs.First.{same_codes}
-use Rattle.matroid_theory.proofs.Levels.{columns_total, rep_cmp-equal}
-use Rattle.matroid_theory.proofs.Prefix.{slice_cmp-append}
-use Rattle.matroid_theory.proofs.Orderings.{then_assoc}
+use Rattle.matroid_laws.proofs.First.{same_codes}
+use Rattle.matroid_laws.proofs.Levels.{columns_total, rep_cmp-equal}
+use Rattle.matroid_laws.proofs.Prefix.{slice_cmp-append}
+use Rattle.matrix_lemmas.proofs.Orderings.{then_assoc}
 use Rattle.form_key.specs.Codes.{AreHalves}
 use Rattle.form_key.specs.Packing.{paired, later_codes, packing}
 use Rattle.form_key.proofs.Columns.{AreColumns, later_columns, length-later, later_are_codes, codes_are_halves}

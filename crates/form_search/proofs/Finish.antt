@@ -8,13 +8,13 @@ use Rattle.std.specs.declared.cmp.Ordering.{Ordering}
 use Rattle.std.specs.declared.cmp.Ordering.TheVariants.{Less, Equal, Greater}
 use Rattle.std.proofs.Math.Nat.{mul-le-mul, le_refl}
 use Rattle.matroid_theory.specs.Matroid.{IsRepresentation}
-use Rattle.matroid_theory.proofs.Carried.{agrees_carried}
+use Rattle.matroid_laws.proofs.Carried.{agrees_carried}
 use Rattle.matroid_theory.specs.declared.Mode.TheVariants.{Linear}
 use Rattle.matroid_theory.specs.Rep.{Rep, Shape, shape, count, size, matrix, IsShaped, IsStandard}
 use Rattle.matroid_theory.specs.Move.{Move, AreEquivalent}
 use Rattle.matroid_theory.specs.Order.{rep_cmp, IsForm}
-use Rattle.matroid_theory.proofs.First.{same_codes, digit_less}
-use Rattle.matroid_theory.proofs.Equivalence.{equivalent-transitive}
+use Rattle.matroid_laws.proofs.First.{same_codes, digit_less}
+use Rattle.matroid_laws.proofs.Equivalence.{equivalent-transitive}
 use Rattle.form_trails.specs.Trail.{ReachesForm}
 use Rattle.form_trails.specs.Numbers.{value}
 use Rattle.form_trails.specs.Least.{number}

@@ -14,7 +14,7 @@ use Rattle.std.proofs.Math.ListN.{get_or-append}
 use mathlib.Core.Bool.{true≢false}
 use Rattle.matroid_theory.specs.Rep.{Rep, size, matrix}
 use Rattle.matroid_theory.specs.Move.{Move}
-use Rattle.matroid_theory.proofs.Orderings.{at_most_chain}
+use Rattle.matrix_lemmas.proofs.Orderings.{at_most_chain}
 use Rattle.form_trails.specs.Trail.{ReachesForm, Trail, Follows}
 use Rattle.form_trails.specs.Least.{number}
 use Rattle.form_search.specs.Search.{numbers_of, AreOfClass, IsAtMost, Covers, BeginsWith, IsBelow, Stands, Improves}

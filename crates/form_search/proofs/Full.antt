@@ -7,7 +7,7 @@ use Rattle.std.proofs.lemmas.Bool.{cases_lt}
 use Rattle.std.proofs.lemmas.Cmp.{nat_list_cmp_total}
 use Rattle.matroid_theory.specs.Rep.{Rep, count, size, matrix, IsShaped}
 use Rattle.matroid_theory.specs.Move.{Move}
-use Rattle.matroid_theory.proofs.Orderings.{at_most_itself}
+use Rattle.matrix_lemmas.proofs.Orderings.{at_most_itself}
 use Rattle.form_trails.specs.Trail.{ReachesForm, Trail, Follows}
 use Rattle.form_trails.specs.Least.{number}
 use Rattle.form_search.specs.Search.{Entries, IsThere, IsPlacing, Covers, AreOfClass, Stands, Improves, numbers_of}

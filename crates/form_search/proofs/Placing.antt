@@ -12,10 +12,10 @@ use Rattle.form_trails.specs.Least.{number, scaled, MakesOnes}
 use Rattle.form_search.specs.Search.{Entries, IsThere, IsEntry, IsPlacing}
 use Rattle.std.proofs.Math.Seq.{get_or-append_seam}
 use Rattle.std.proofs.Math.ListN.{get_or-append}
-use Rattle.matroid_theory.proofs.Sums.{same_number, other_number, times_zero}
+use Rattle.matrix_lemmas.proofs.Sums.{same_number, other_number, times_zero}
 use Rattle.form_trails.proofs.Scalars.{zero_factor}
 use Rattle.form_trails.proofs.Entries.{field}
-use Rattle.matroid_theory.proofs.Exchanges.{exchange_one, exchange_two, exchange_other}
+use Rattle.matrix_lemmas.proofs.Exchanges.{exchange_one, exchange_two, exchange_other}
 use Rattle.form_trails.proofs.Coordinates.{own_nonzero, zero_in_both}
 use Rattle.form_trails.proofs.Reached.{not_before}
 use Rattle.form_trails.proofs.LeastNext.{next_at_most_open, next_within, next_number, next_outside}

@@ -4,14 +4,14 @@ use Rattle.std.proofs.lemmas.Bool.{cases_lt, cases_eq}
 use Rattle.matroid_theory.specs.Field.{plus, times}
 use Rattle.matroid_theory.specs.Rep.{Rep, count, size, order, matrix, IsShaped}
 use Rattle.matroid_theory.specs.Move.{Move}
-use Rattle.matroid_theory.proofs.Bases.{search_below}
-use Rattle.matroid_theory.proofs.Sums.{combination-scaled, sum_same}
+use Rattle.matrix_lemmas.proofs.Bases.{search_below}
+use Rattle.matrix_lemmas.proofs.Sums.{combination-scaled, sum_same}
 use Rattle.form_trails.specs.Trail.{ReachesForm, Trail, AreCoordinates, Follows, IsOrdered, IsTrail}
 use Rattle.matroid_theory.specs.Exchange.{exchange}
 use Rattle.form_trails.specs.Pivot.{pivoted}
 use Rattle.form_search.specs.Search.{Entries, IsThere, IsEntry, HasElement, IsLed, IsFrame, IsPlacing}
 use Rattle.form_trails.proofs.Scalars.{IsScalar, times_scalar, times_turn}
-use Rattle.matroid_theory.proofs.Exchanges.{exchange_one, exchange_two, exchange_other}
+use Rattle.matrix_lemmas.proofs.Exchanges.{exchange_one, exchange_two, exchange_other}
 use Rattle.form_trails.proofs.Entries.{field}
 use Rattle.form_trails.proofs.Ordered.{coordinates_same}
 use Rattle.form_trails.proofs.Chosen.{own_place, chosen, chosen_here, chosen_after, chosen_coordinates, chosen_trail}

@@ -9,12 +9,12 @@ use Rattle.matroid_theory.specs.Field.{times, raised}
 use Rattle.matroid_theory.specs.Matrix.{combination, unit}
 use Rattle.matroid_theory.specs.Rep.{Rep, Shape, count, size, order, matrix, IsShaped, IsStandard}
 use Rattle.matroid_theory.specs.Move.{Move}
-use Rattle.matroid_theory.proofs.Sums.{same_number, other_number, times_zero, combination-unit, sum_same, sum_below-code}
-use Rattle.matroid_theory.proofs.Invertible.{combination_zero}
-use Rattle.matroid_theory.proofs.Standard.{ordered_independent}
-use Rattle.matroid_theory.proofs.Units.{units_independent}
-use Rattle.matroid_theory.proofs.First.{row_below}
-use Rattle.matroid_theory.proofs.FieldLaws.{order_most}
+use Rattle.matrix_lemmas.proofs.Sums.{same_number, other_number, times_zero, combination-unit, sum_same, sum_below-code}
+use Rattle.matrix_lemmas.proofs.Invertible.{combination_zero}
+use Rattle.matroid_laws.proofs.Standard.{ordered_independent}
+use Rattle.matrix_lemmas.proofs.Units.{units_independent}
+use Rattle.matroid_laws.proofs.First.{row_below}
+use Rattle.matrix_lemmas.proofs.FieldLaws.{order_most}
 use Rattle.form_trails.specs.Trail.{ReachesForm, Trail, AreCoordinates, Follows, IsOrdered, TiesGroups}
 use Rattle.matroid_theory.specs.Exchange.{exchange}
 use Rattle.form_trails.specs.Numbers.{weighed}
@@ -23,7 +23,7 @@ use Rattle.form_search.specs.Search.{Entries, IsThere, IsEntry, AreEntries, HasE
 use Rattle.form_search.specs.Start.{zero_layer, others_of, IsZeroTest, IsStarted}
 use Rattle.form_trails.proofs.Numbers.{weighed_injective}
 use Rattle.form_trails.proofs.Scalars.{zero_factor}
-use Rattle.matroid_theory.proofs.Exchanges.{exchange_one, exchange_two, exchange_other, exchanged_permutation}
+use Rattle.matrix_lemmas.proofs.Exchanges.{exchange_one, exchange_two, exchange_other, exchanged_permutation}
 use Rattle.form_trails.proofs.Entries.{field}
 use Rattle.form_trails.proofs.Columns.{number_entries}
 use Rattle.form_trails.proofs.Ordered.{coordinates_same}

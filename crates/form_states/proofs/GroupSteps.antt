@@ -5,7 +5,7 @@ use Rattle.std.proofs.lemmas.Bool.{cases_lt, cases_eq}
 use Rattle.std.proofs.lemmas.List.{get_or-set_same, get_or-set_other}
 use Rattle.matroid_theory.specs.Field.{times}
 use Rattle.std.proofs.Math.Nat.{mod-lt}
-use Rattle.matroid_theory.proofs.First.{row_below}
+use Rattle.matroid_laws.proofs.First.{row_below}
 use Rattle.form_trails.proofs.Numbers.{weighed_same}
 use Rattle.form_states.specs.Codes.{code}
 use Rattle.form_states.specs.Groups.{AreGroupFactors, MarksGroups}

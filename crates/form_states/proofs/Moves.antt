@@ -7,7 +7,7 @@ use Rattle.std.proofs.lemmas.Bool.{cases_lt, cases_eq}
 use Rattle.std.proofs.lemmas.List.{get_or-set_same, get_or-set_other}
 use Rattle.matroid_theory.specs.Field.{plus, times}
 use Rattle.matroid_theory.specs.Rep.{Rep, count, size, order, IsShaped, KeepsLimits}
-use Rattle.matroid_theory.proofs.Sums.{same_number, other_number, times_zero}
+use Rattle.matrix_lemmas.proofs.Sums.{same_number, other_number, times_zero}
 use Rattle.form_trails.specs.Trail.{Trail, Follows, TiesGroups}
 use Rattle.matroid_theory.specs.Exchange.{exchange}
 use Rattle.form_trails.specs.Pivot.{cleared, pivoted}

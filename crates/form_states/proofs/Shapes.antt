@@ -6,8 +6,8 @@ use Rattle.std.proofs.Math.Nat.{mod-lt}
 use Rattle.matroid_theory.specs.Field.{plus, times}
 use Rattle.matroid_theory.specs.Rep.{Rep, count, size, order, IsShaped, KeepsLimits}
 use Rattle.matroid_theory.specs.Matroid.{Agrees, IsRepresentation}
-use Rattle.matroid_theory.proofs.First.{row_below}
-use Rattle.matroid_theory.proofs.FieldLaws.{field_laws}
+use Rattle.matroid_laws.proofs.First.{row_below}
+use Rattle.matrix_lemmas.proofs.FieldLaws.{field_laws}
 use Rattle.form_trails.specs.Trail.{Trail, IsOrdered}
 use Rattle.form_trails.specs.Pivot.{cleared}
 use Rattle.form_trails.specs.Numbers.{weighed}

@@ -6,14 +6,14 @@ use Rattle.matroid_theory.specs.Field.{IsField, plus, times, inverse}
 use Rattle.matroid_theory.specs.Matrix.{Matrix, combination}
 use Rattle.matroid_theory.specs.Rep.{Rep, count, size, order, matrix, IsShaped}
 use Rattle.matroid_theory.specs.Move.{Move}
-use Rattle.matroid_theory.proofs.Sums.{same_number, other_number, sum_same, sum_relabelled}
-use Rattle.matroid_theory.proofs.Steps.{Independent, all_coefficients}
-use Rattle.matroid_theory.proofs.Ranks.{IsIndependent-codes}
+use Rattle.matrix_lemmas.proofs.Sums.{same_number, other_number, sum_same, sum_relabelled}
+use Rattle.matrix_lemmas.proofs.Steps.{Independent, all_coefficients}
+use Rattle.matrix_lemmas.proofs.Ranks.{IsIndependent-codes}
 use Rattle.form_trails.specs.Trail.{ReachesForm, Trail, AreCoordinates, Follows, IsOrdered, ArePlaced, IsTrail, row_factor}
 use Rattle.matroid_theory.specs.Exchange.{exchange}
 use Rattle.form_trails.specs.Pivot.{cleared, pivoted as pivoted_codes}
 use Rattle.form_trails.proofs.Scalars.{IsScalar, inverse_scalar, times_scalar, zero_factor, undone_back}
-use Rattle.matroid_theory.proofs.Exchanges.{exchange_one, exchange_two, exchange_other, exchange_below, exchange_permutation, exchanged_permutation}
+use Rattle.matrix_lemmas.proofs.Exchanges.{exchange_one, exchange_two, exchange_other, exchange_below, exchange_permutation, exchanged_permutation}
 use Rattle.form_trails.proofs.Entries.{field, AreRowScalars}
 use Rattle.form_trails.proofs.Coordinates.{row_scalars, others_zero}
 use Rattle.form_trails.proofs.Ordered.{independent_relabelled, coordinates_kept}

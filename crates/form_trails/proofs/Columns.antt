@@ -9,8 +9,8 @@ use Rattle.std.proofs.lemmas.Cmp.{tied_itself}
 use Rattle.std.proofs.lemmas.List.{ext_get_or}
 use Rattle.std.proofs.Math.Nat.{mod-lt, mul-le-mul, le_refl, pow-le-pow_right, add-mul}
 use Rattle.matroid_theory.specs.Rep.{Rep, Shape, shape, count, size, order, matrix, IsShaped}
-use Rattle.matroid_theory.proofs.First.{row_below, whole, columns_positive}
-use Rattle.matroid_theory.proofs.FieldLaws.{order_most}
+use Rattle.matroid_laws.proofs.First.{row_below, whole, columns_positive}
+use Rattle.matrix_lemmas.proofs.FieldLaws.{order_most}
 use Rattle.form_trails.specs.Numbers.{value, weighed}
 use Rattle.form_trails.specs.Least.{number}
 use Rattle.form_trails.proofs.Numbers.{AreDigits, value-weighed, weighed_same, value_at_most, value_same, value_from, value_within}

@@ -4,9 +4,9 @@ use Rattle.std.proofs.lemmas.Bool.{cases_eq}
 use Rattle.matroid_theory.specs.Field.{IsField, plus, times, negative}
 use Rattle.matroid_theory.specs.Matrix.{Matrix, combination, unit}
 use Rattle.matroid_theory.specs.Rep.{Rep, count, size, order, matrix, IsShaped}
-use Rattle.matroid_theory.proofs.Sums.{same_number, other_number, times_zero, plus_cancel, combination-scaled, combination-same, sum_below-code}
-use Rattle.matroid_theory.proofs.Steps.{Independent, all_coefficients}
-use Rattle.matroid_theory.proofs.Dimension.{combination_plus, times_unit_column, unit_code}
+use Rattle.matrix_lemmas.proofs.Sums.{same_number, other_number, times_zero, plus_cancel, combination-scaled, combination-same, sum_below-code}
+use Rattle.matrix_lemmas.proofs.Steps.{Independent, all_coefficients}
+use Rattle.matrix_lemmas.proofs.Dimension.{combination_plus, times_unit_column, unit_code}
 use Rattle.form_trails.specs.Trail.{Trail, AreCoordinates, IsOrdered}
 use Rattle.form_trails.proofs.Scalars.{IsScalar, zero_factor, times_one_right, times_turn}
 use Rattle.form_trails.proofs.Entries.{field}

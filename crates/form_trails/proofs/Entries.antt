@@ -8,11 +8,11 @@ use Rattle.matroid_theory.specs.declared.Mode.TheVariants.{Linear}
 use Rattle.matroid_theory.specs.Rep.{Rep, count, size, order, matrix, shape, IsShaped, IsStandard}
 use Rattle.matroid_theory.specs.Matroid.{IsBasis}
 use Rattle.matroid_theory.specs.Move.{Move, ArePermutation, IsMove, TakesTo, AreEquivalent}
-use Rattle.matroid_theory.proofs.FieldLaws.{field_laws}
-use Rattle.matroid_theory.proofs.Sums.{sum_same, times_zero, combination-scaled}
-use Rattle.matroid_theory.proofs.Frobenius.{times_undone}
-use Rattle.matroid_theory.proofs.Standard.{standard_by}
-use Rattle.matroid_theory.proofs.Built.{standard_each}
+use Rattle.matrix_lemmas.proofs.FieldLaws.{field_laws}
+use Rattle.matrix_lemmas.proofs.Sums.{sum_same, times_zero, combination-scaled}
+use Rattle.matrix_lemmas.proofs.Frobenius.{times_undone}
+use Rattle.matroid_laws.proofs.Standard.{standard_by}
+use Rattle.matroid_laws.proofs.Built.{standard_each}
 use Rattle.form_trails.specs.Trail.{Trail, AreCoordinates, AreZeroBefore, row_factor}
 use Rattle.form_trails.proofs.Scalars.{IsScalar, one_scalar, inverse_scalar, times_scalar, factored, through, times_turn}
 

@@ -3,10 +3,10 @@ use Rattle.std.proofs.Common.{◌≡◌, ◌≢◌, inl, inr, ℕ, zero, ◌<◌
 use Rattle.std.proofs.lemmas.Bool.{cases_lt, cases_eq}
 use Rattle.matroid_theory.specs.Field.{IsField, plus, times}
 use Rattle.matroid_theory.specs.Rep.{Rep, count, order, IsShaped}
-use Rattle.matroid_theory.proofs.Sums.{same_number, other_number, plus_cancel, times_zero, zero_times}
+use Rattle.matrix_lemmas.proofs.Sums.{same_number, other_number, plus_cancel, times_zero, zero_times}
 use Rattle.matroid_theory.specs.Exchange.{exchange}
 use Rattle.form_trails.specs.Pivot.{cleared, pivoted}
-use Rattle.matroid_theory.proofs.Exchanges.{exchange_one, exchange_two, exchange_other}
+use Rattle.matrix_lemmas.proofs.Exchanges.{exchange_one, exchange_two, exchange_other}
 use Rattle.form_trails.proofs.Entries.{field}
 
 module _ (M : Rep) (shaped : IsShaped M) (p k : ℕ) (p_most : p ≤ k) (k_below : k < M.rank) (minus e : ℕ → ℕ → ℕ) where

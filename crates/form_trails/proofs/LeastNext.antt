@@ -8,10 +8,10 @@ use Rattle.matroid_theory.specs.Field.{IsField, times, inverse}
 use Rattle.matroid_theory.specs.declared.Mode.TheVariants.{Linear}
 use Rattle.matroid_theory.specs.Rep.{Rep, Shape, count, size, order, matrix, shape, IsShaped, IsStandard}
 use Rattle.matroid_theory.specs.Move.{Move, AreEquivalent}
-use Rattle.matroid_theory.proofs.Sums.{times_zero}
-use Rattle.matroid_theory.proofs.Bases.{search_below}
-use Rattle.matroid_theory.proofs.Equivalence.{equivalent-symmetric, equivalent-transitive}
-use Rattle.matroid_theory.proofs.GroupLeast.{group_least}
+use Rattle.matrix_lemmas.proofs.Sums.{times_zero}
+use Rattle.matrix_lemmas.proofs.Bases.{search_below}
+use Rattle.matroid_laws.proofs.Equivalence.{equivalent-symmetric, equivalent-transitive}
+use Rattle.matroid_laws.proofs.GroupLeast.{group_least}
 use Rattle.form_trails.specs.Trail.{ReachesForm, Trail, AreCoordinates, AreZeroBefore, Follows, IsTrail, row_factor}
 use Rattle.form_trails.specs.Least.{number, scaled, MakesOnes}
 use Rattle.form_trails.proofs.Scalars.{IsScalar, one_scalar, inverse_scalar, times_scalar, zero_factor, undone, cancelled, inverse_only}

@@ -7,15 +7,15 @@ use Rattle.matroid_theory.specs.declared.Mode.TheVariants.{Linear}
 use Rattle.matroid_theory.specs.Rep.{Rep, count, size, order, matrix, IsShaped, IsStandard}
 use Rattle.matroid_theory.specs.Matroid.{IsBasis}
 use Rattle.matroid_theory.specs.Move.{Move, ArePermutation, AreEquivalent}
-use Rattle.matroid_theory.proofs.Sums.{times_zero}
-use Rattle.matroid_theory.proofs.Steps.{pivot_row}
-use Rattle.matroid_theory.proofs.Standard.{standard_basis}
-use Rattle.matroid_theory.proofs.Masks.{IsBasis-same}
+use Rattle.matrix_lemmas.proofs.Sums.{times_zero}
+use Rattle.matrix_lemmas.proofs.Steps.{pivot_row}
+use Rattle.matroid_laws.proofs.Standard.{standard_basis}
+use Rattle.matrix_lemmas.proofs.Masks.{IsBasis-same}
 use Rattle.form_trails.specs.Trail.{ReachesForm, Trail, AreCoordinates, AreZeroBefore, Follows, IsTrail}
 use Rattle.form_trails.specs.Least.{scaled}
 use Rattle.matroid_theory.specs.Exchange.{exchange}
 use Rattle.form_trails.proofs.Scalars.{IsScalar, one_scalar, inverse_scalar, undone}
-use Rattle.matroid_theory.proofs.Exchanges.{exchange_one, exchange_other, exchange_cases, exchanged_permutation}
+use Rattle.matrix_lemmas.proofs.Exchanges.{exchange_one, exchange_other, exchange_cases, exchanged_permutation}
 use Rattle.form_trails.proofs.Coordinates.{row_scalars}
 use Rattle.form_trails.proofs.Entries.{field, AreRowScalars, made}
 

@@ -8,7 +8,7 @@ use Rattle.std.proofs.lemmas.Bool.{cases_lt}
 use Rattle.std.proofs.lemmas.Cmp.{ranked}
 use Rattle.std.proofs.Math.Nat.{mul-le-mul, le_refl, pow-succ'}
 use Rattle.std.proofs.lemmas.Nat.{div-mul-add, mod-mul-add}
-use Rattle.matroid_theory.proofs.First.{digit_less}
+use Rattle.matroid_laws.proofs.First.{digit_less}
 use Rattle.form_trails.specs.Numbers.{value, weighed, weighed_on}
 
 -- each code is a digit

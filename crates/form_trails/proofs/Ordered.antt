@@ -7,12 +7,12 @@ use Rattle.matroid_theory.specs.Matrix.{Matrix, combination}
 use Rattle.matroid_theory.specs.Rep.{Rep, count, size, order, matrix, IsShaped}
 use Rattle.matroid_theory.specs.Matroid.{IsBasis}
 use Rattle.matroid_theory.specs.Move.{ArePermutation}
-use Rattle.matroid_theory.proofs.Sums.{sum_same, sum_relabelled, times_zero}
-use Rattle.matroid_theory.proofs.Steps.{Independent, all_coefficients}
-use Rattle.matroid_theory.proofs.Counts.{size_relabelled}
-use Rattle.matroid_theory.proofs.Rest.{size_front}
-use Rattle.matroid_theory.proofs.Standard.{set_of_independent}
-use Rattle.matroid_theory.proofs.Carried.{inverse_permutation}
+use Rattle.matrix_lemmas.proofs.Sums.{sum_same, sum_relabelled, times_zero}
+use Rattle.matrix_lemmas.proofs.Steps.{Independent, all_coefficients}
+use Rattle.matrix_lemmas.proofs.Counts.{size_relabelled}
+use Rattle.matroid_laws.proofs.Rest.{size_front}
+use Rattle.matroid_laws.proofs.Standard.{set_of_independent}
+use Rattle.matroid_laws.proofs.Carried.{inverse_permutation}
 use Rattle.form_trails.specs.Trail.{Trail, AreCoordinates, AreZeroBefore}
 use Rattle.form_trails.proofs.Entries.{field}
 

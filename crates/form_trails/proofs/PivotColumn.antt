@@ -4,8 +4,8 @@ use Rattle.std.specs.Bool.{◌==◌}
 use Rattle.std.proofs.lemmas.Bool.{cases_eq}
 use Rattle.matroid_theory.specs.Field.{IsField, plus, times}
 use Rattle.matroid_theory.specs.Matrix.{Matrix, combination, sum_below}
-use Rattle.matroid_theory.proofs.Sums.{same_number, other_number, sum_same, sum_plus, sum_one, times_zero, combination-scaled, plus_zero_right}
-use Rattle.matroid_theory.proofs.Steps.{Independent, all_coefficients}
+use Rattle.matrix_lemmas.proofs.Sums.{same_number, other_number, sum_same, sum_plus, sum_one, times_zero, combination-scaled, plus_zero_right}
+use Rattle.matrix_lemmas.proofs.Steps.{Independent, all_coefficients}
 
 module _ (q : ℕ) (F : IsField q) (r : ℕ) (U : Matrix) (p : ℕ) (p_below : p < r) (B : ℕ → ℕ) (one : B p ≡ 1) where
   -- the column that comes

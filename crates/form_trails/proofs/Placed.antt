@@ -5,14 +5,14 @@ use Rattle.std.proofs.lemmas.Bool.{cases_lt, cases_eq, lt-ltb, le-ltb}
 use Rattle.matroid_theory.specs.Field.{IsField, times, inverse}
 use Rattle.matroid_theory.specs.Rep.{Rep, count, size, order, matrix, IsShaped}
 use Rattle.matroid_theory.specs.Move.{Move}
-use Rattle.matroid_theory.proofs.Sums.{times_zero, combination-scaled, sum_same}
-use Rattle.matroid_theory.proofs.Steps.{pivot_row}
-use Rattle.matroid_theory.proofs.Ranks.{IsIndependent-codes}
+use Rattle.matrix_lemmas.proofs.Sums.{times_zero, combination-scaled, sum_same}
+use Rattle.matrix_lemmas.proofs.Steps.{pivot_row}
+use Rattle.matrix_lemmas.proofs.Ranks.{IsIndependent-codes}
 use Rattle.form_trails.specs.Trail.{ReachesForm, Trail, AreCoordinates, AreZeroBefore, Follows, IsOrdered, ArePlaced, IsTrail, TiesGroups, row_factor}
 use Rattle.form_trails.specs.Least.{scaled, MakesOnes}
 use Rattle.matroid_theory.specs.Exchange.{exchange}
 use Rattle.form_trails.proofs.Scalars.{IsScalar, one_scalar, inverse_scalar, times_scalar, undone, times_turn}
-use Rattle.matroid_theory.proofs.Exchanges.{exchange_one, exchange_other, exchanged_permutation}
+use Rattle.matrix_lemmas.proofs.Exchanges.{exchange_one, exchange_other, exchanged_permutation}
 use Rattle.form_trails.proofs.Coordinates.{row_scalars}
 use Rattle.form_trails.proofs.Entries.{field, AreRowScalars}
 use Rattle.form_trails.proofs.LeastNext.{next_is_own, met_rows}

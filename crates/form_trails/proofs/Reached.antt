@@ -5,9 +5,9 @@ use Rattle.matroid_theory.specs.Field.{IsField, times, inverse, raised}
 use Rattle.matroid_theory.specs.declared.Mode.TheVariants.{Linear}
 use Rattle.matroid_theory.specs.Rep.{Rep, Shape, shape, count, size, order, matrix, IsShaped, IsStandard}
 use Rattle.matroid_theory.specs.Move.{Move, IsMove, TakesTo}
-use Rattle.matroid_theory.proofs.Sums.{same_number, sum_same, times_zero}
-use Rattle.matroid_theory.proofs.Standard.{standard_coordinates, standard_by}
-use Rattle.matroid_theory.proofs.Bases.{search_below}
+use Rattle.matrix_lemmas.proofs.Sums.{same_number, sum_same, times_zero}
+use Rattle.matroid_laws.proofs.Standard.{standard_coordinates, standard_by}
+use Rattle.matrix_lemmas.proofs.Bases.{search_below}
 use Rattle.form_trails.specs.Trail.{Trail, AreCoordinates, AreZeroBefore, IsOrdered, row_factor}
 use Rattle.form_trails.proofs.Scalars.{IsScalar, one_scalar, inverse_scalar, zero_factor, undone_back}
 use Rattle.form_trails.proofs.Entries.{field, column_factor, reached_entry}

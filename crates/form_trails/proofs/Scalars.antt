@@ -1,8 +1,8 @@
 -- Factors that aren't 0.
 use Rattle.std.proofs.Common.{◌≡◌, ◌≢◌, ℕ, ◌<◌, sym, ◌∙◌, ap, arith}
 use Rattle.matroid_theory.specs.Field.{IsField, times, inverse}
-use Rattle.matroid_theory.proofs.Sums.{times_zero}
-use Rattle.matroid_theory.proofs.Frobenius.{times_undone, times_nonzero, inverse_nonzero}
+use Rattle.matrix_lemmas.proofs.Sums.{times_zero}
+use Rattle.matrix_lemmas.proofs.Frobenius.{times_undone, times_nonzero, inverse_nonzero}
 
 -- a scalar that isn't 0
 pub record IsScalar (q x : ℕ) : Type 0 where

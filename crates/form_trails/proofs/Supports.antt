@@ -7,15 +7,15 @@ use Rattle.matroid_theory.specs.Matrix.{Matrix, combination, unit}
 use Rattle.matroid_theory.specs.Rep.{Rep, count, size, order, matrix, IsShaped}
 use Rattle.matroid_theory.specs.Matroid.{Agrees}
 use Rattle.matroid_theory.specs.Move.{ArePermutation}
-use Rattle.matroid_theory.proofs.Sums.{same_number, other_number, sum_same, times_zero, combination-scaled}
-use Rattle.matroid_theory.proofs.Steps.{Independent}
-use Rattle.matroid_theory.proofs.Ranks.{IsIndependent-codes}
-use Rattle.matroid_theory.proofs.Dimension.{times_unit_column}
-use Rattle.matroid_theory.proofs.Standard.{ordered_independent}
+use Rattle.matrix_lemmas.proofs.Sums.{same_number, other_number, sum_same, times_zero, combination-scaled}
+use Rattle.matrix_lemmas.proofs.Steps.{Independent}
+use Rattle.matrix_lemmas.proofs.Ranks.{IsIndependent-codes}
+use Rattle.matrix_lemmas.proofs.Dimension.{times_unit_column}
+use Rattle.matroid_laws.proofs.Standard.{ordered_independent}
 use Rattle.form_trails.specs.Trail.{Trail, AreCoordinates, IsOrdered}
 use Rattle.matroid_theory.specs.Exchange.{exchange}
 use Rattle.form_trails.proofs.Scalars.{IsScalar, inverse_scalar, times_scalar, times_one_right}
-use Rattle.matroid_theory.proofs.Exchanges.{exchange_one, exchange_other, exchanged_permutation}
+use Rattle.matrix_lemmas.proofs.Exchanges.{exchange_one, exchange_other, exchanged_permutation}
 use Rattle.form_trails.proofs.Entries.{field}
 use Rattle.form_trails.proofs.Coordinates.{row_scalars, same_coefficients, own_nonzero, others_zero}
 use Rattle.form_trails.proofs.Ordered.{first_basis}

@@ -8,7 +8,7 @@ use Rattle.form_trails.specs.Least.{number, scaled, MakesOnes}
 use Rattle.form_trails.proofs.Scalars.{inverse_only}
 use Rattle.form_trails.proofs.Entries.{field}
 use Rattle.form_trails.proofs.Columns.{number_entries}
-use Rattle.matroid_theory.proofs.Sums.{times_zero}
+use Rattle.matrix_lemmas.proofs.Sums.{times_zero}
 
 -- a code is 0 in all factors or in none
 abbrev pub IsSupported : Rep → (ℕ → ℕ → ℕ) → Type 0

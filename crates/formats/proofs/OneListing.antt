@@ -5,8 +5,8 @@ use Rattle.std.specs.List.{AllByRecursion, range_with_len}
 use Rattle.matroid_theory.specs.Minor.{Matroid}
 use Rattle.matroid_theory.specs.Given.{Given}
 use Rattle.matroid_theory.specs.Level.{Family, Filters, IsLevel, IsListed, IsLevelForm, Passes, IsTry}
-use Rattle.matroid_theory.proofs.Levels.{rising_list_unique, count_unique}
-use Rattle.matroid_theory.proofs.GivenLemmas.{given_unique}
+use Rattle.matroid_laws.proofs.Levels.{rising_list_unique, count_unique}
+use Rattle.matroid_laws.proofs.GivenLemmas.{given_unique}
 use Rattle.formats.specs.Request.{Request}
 use Rattle.formats.specs.Listing.{LevelEntry, listing_blocks, text_of_blocks}
 use Rattle.formats.specs.Levels.{AreGivenBy, Grows, Keeps, HasTries, IsLevelEntry, AreFirstLevels, AreLevels, IsListing, columns_of}

@@ -9,7 +9,7 @@ use Rattle.std.specs.Str.Parse.{AllDigits}
 use Rattle.std.proofs.Common.{◌≢◌, Bool, true, false, not, cond, ◌==◌}
 use Rattle.std.proofs.lemmas.List.Sums.{sum_by-append, sum_by-cons}
 use Rattle.matroid_theory.specs.Field.{IsOrder}
-use Rattle.matroid_theory.proofs.FieldLaws.{by_order}
+use Rattle.matrix_lemmas.proofs.FieldLaws.{by_order}
 use Rattle.formats.specs.declared.refusal.Word.TheVariants.{Rank, Field, Size}
 use Rattle.formats.specs.declared.refusal.Word.{Word}
 use Rattle.formats.specs.declared.refusal.Refusal.{Refusal}

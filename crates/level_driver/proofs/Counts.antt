@@ -5,7 +5,7 @@ use Rattle.std.proofs.lemmas.List.{length-map, get_or-map}
 use Rattle.std.proofs.lemmas.List.Elements.{Contains-get_or, Contains-append_left, Contains-append_right, Contains-append_cases}
 use Rattle.std.proofs.lemmas.List.Kept.{AllPairs-cons}
 use Rattle.matroid_theory.specs.Level.{IsCount}
-use Rattle.matroid_theory.proofs.Lists.{here, there}
+use Rattle.matrix_lemmas.proofs.Lists.{here, there}
 
 module _ {X : Type 0} where
   pub count_same : (P Q : X → Type 0) (n : ℕ) → ((x : X) → P x ↔ Q x) → IsCount P n → IsCount Q n

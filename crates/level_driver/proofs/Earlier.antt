@@ -8,7 +8,7 @@ use Rattle.matroid_theory.specs.Rep.{Rep}
 use Rattle.matroid_theory.specs.Minor.{Matroid, HaveSameMatroid}
 use Rattle.matroid_theory.specs.Order.{rep_cmp}
 use Rattle.matroid_theory.specs.Level.{Family, Filters, IsLevel, Passes}
-use Rattle.matroid_theory.proofs.Levels.{rep_cmp-irreflexive, rep_cmp-transitive}
+use Rattle.matroid_laws.proofs.Levels.{rep_cmp-irreflexive, rep_cmp-transitive}
 use Rattle.level_driver.specs.Listed.{PassesAlone, AreMatroidsOf, IsFirst}
 use Rattle.level_driver.proofs.SameMatroid.{isomorphic, same_matroid}
 

@@ -18,8 +18,8 @@ use Rattle.small_lists.proofs.Orders.{vector_cmp, lists_cmp}
 use Rattle.level_driver.specs.Keys.{columns_of_key}
 use Rattle.level_driver.specs.Children.{rep_of, Adds}
 use Rattle.level_driver.proofs.Counts.{Contains-map, Contains-from_map}
-use Rattle.matroid_theory.proofs.Levels.{then_equal}
-use Rattle.matroid_theory.proofs.Lists.{here, there, found}
+use Rattle.matroid_laws.proofs.Levels.{then_equal}
+use Rattle.matrix_lemmas.proofs.Lists.{here, there, found}
 
 abbrev pub key_cmp : ArrayVec (ArrayVec ℕ) → ArrayVec (ArrayVec ℕ) → Ordering
 key_cmp v w = slice_cmp vector_cmp v.items w.items

@@ -7,7 +7,7 @@ use Rattle.matroid_theory.specs.Rep.{Rep, count}
 use Rattle.matroid_theory.specs.Move.{AreEquivalent}
 use Rattle.matroid_theory.specs.Order.{IsForm}
 use Rattle.matroid_theory.specs.Level.{followed_by}
-use Rattle.matroid_theory.proofs.Equivalence.{equivalent-symmetric, equivalent-transitive}
+use Rattle.matroid_laws.proofs.Equivalence.{equivalent-symmetric, equivalent-transitive}
 use Rattle.symmetry.specs.Symmetric.{MovesOf}
 use Rattle.level_driver.specs.declared.parent.Leader.{Leader}
 use Rattle.level_driver.specs.Known.{ChildrenOf, IsAnswer, KeepsAnswers}

@@ -8,11 +8,11 @@ use Rattle.matroid_theory.specs.Matrix.{size_below}
 use Rattle.matroid_theory.specs.Matroid.{members}
 use Rattle.matroid_theory.specs.Minor.{Matroid, any_below, image, IsMinor}
 use Rattle.matroid_theory.specs.Move.{ArePermutation, AreEquivalent}
-use Rattle.matroid_theory.proofs.Carried.{basis_carried}
-use Rattle.matroid_theory.proofs.Counts.{size_relabelled}
-use Rattle.matroid_theory.proofs.Equivalence.{equivalent-symmetric}
-use Rattle.matroid_theory.proofs.Masks.{IsBasis-same, any_below-same}
-use Rattle.matroid_theory.proofs.Sums.{same_number, other_number}
+use Rattle.matroid_laws.proofs.Carried.{basis_carried}
+use Rattle.matrix_lemmas.proofs.Counts.{size_relabelled}
+use Rattle.matroid_laws.proofs.Equivalence.{equivalent-symmetric}
+use Rattle.matrix_lemmas.proofs.Masks.{IsBasis-same, any_below-same}
+use Rattle.matrix_lemmas.proofs.Sums.{same_number, other_number}
 use Rattle.level_driver.specs.Forbidden.{Avoids}
 
 -- a number has the label of j exactly where j is its place

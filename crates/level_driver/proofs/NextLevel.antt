@@ -11,11 +11,11 @@ use Rattle.matroid_theory.specs.Move.{AreEquivalent}
 use Rattle.matroid_theory.specs.Order.{rep_cmp, IsForm}
 use Rattle.matroid_theory.specs.Minor.{Matroid}
 use Rattle.matroid_theory.specs.Level.{Family, IsMember, IsLevelForm, IsLevel, IsNormalised, IsTry, IsCount, followed_by}
-use Rattle.matroid_theory.proofs.Followed.{size_followed, shaped_pushed}
-use Rattle.matroid_theory.proofs.Carried.{agrees_carried, simple_carried}
-use Rattle.matroid_theory.proofs.Equivalence.{equivalent-symmetric}
-use Rattle.matroid_theory.proofs.Forms.{one_form}
-use Rattle.matroid_theory.proofs.Parents.{last_try}
+use Rattle.matroid_laws.proofs.Followed.{size_followed, shaped_pushed}
+use Rattle.matroid_laws.proofs.Carried.{agrees_carried, simple_carried}
+use Rattle.matroid_laws.proofs.Equivalence.{equivalent-symmetric}
+use Rattle.matroid_laws.proofs.Forms.{one_form}
+use Rattle.matroid_laws.proofs.Parents.{last_try}
 use Rattle.formats.specs.Request.{Request, IsWithinLimits}
 use Rattle.formats.specs.Minors.{given_as}
 use Rattle.formats.specs.Levels.{AreGivenBy, Grows}

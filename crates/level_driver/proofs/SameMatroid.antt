@@ -5,7 +5,7 @@ use Rattle.matroid_theory.specs.Rep.{Rep, size}
 use Rattle.matroid_theory.specs.Matroid.{members, IsBasis}
 use Rattle.matroid_theory.specs.Move.{ArePermutation}
 use Rattle.matroid_theory.specs.Minor.{Matroid, HaveSameMatroid}
-use Rattle.matroid_theory.proofs.Masks.{mask, mask-below, members-mask, IsBasis-same}
+use Rattle.matrix_lemmas.proofs.Masks.{mask, mask-below, members-mask, IsBasis-same}
 use Rattle.level_driver.specs.Listed.{IsMatroidOf, AreIsomorphic}
 
 module _ (M N : Rep) (A B : Matroid) (a : IsMatroidOf M A) (b : IsMatroidOf N B) where

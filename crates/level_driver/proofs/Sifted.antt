@@ -10,7 +10,7 @@ use Rattle.matroid_theory.specs.Rep.{Rep}
 use Rattle.matroid_theory.specs.Order.{rep_cmp}
 use Rattle.std.specs.declared.cmp.Ordering.TheVariants.{Less}
 use Rattle.matroid_theory.specs.Level.{IsRisingList}
-use Rattle.matroid_theory.proofs.Lists.{found}
+use Rattle.matrix_lemmas.proofs.Lists.{found}
 
 module _ {X : Type 0} where
   -- each pair of the front is one of the whole, and each element of the front is before the last

@@ -9,7 +9,7 @@ use Rattle.matroid_theory.specs.Rep.{Rep}
 use Rattle.matroid_theory.specs.Order.{rep_cmp}
 use Rattle.matroid_theory.specs.Level.{IsCount}
 use Rattle.matroid_theory.specs.Minor.{Matroid}
-use Rattle.matroid_theory.proofs.Levels.{rep_cmp-irreflexive}
+use Rattle.matroid_laws.proofs.Levels.{rep_cmp-irreflexive}
 use Rattle.level_driver.specs.Children.{IsChild, IsCandidate, AddsChildren}
 use Rattle.level_driver.proofs.Counts.{count_none, count_both, count_images}
 

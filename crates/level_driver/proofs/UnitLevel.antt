@@ -5,7 +5,7 @@ use Rattle.matroid_theory.specs.Rep.{Rep, shape, count, size, KeepsLimits, IsSta
 use Rattle.matroid_theory.specs.Matroid.{Agrees}
 use Rattle.matroid_theory.specs.Minor.{Matroid}
 use Rattle.matroid_theory.specs.Level.{Family, IsLevel, IsLevelForm}
-use Rattle.matroid_theory.proofs.First.{first_level, unit_agrees}
+use Rattle.matroid_laws.proofs.First.{first_level, unit_agrees}
 use Rattle.formats.specs.Minors.{given_as}
 use Rattle.formats.specs.Request.{Request}
 use Rattle.formats.specs.Levels.{AreGivenBy, Grows}

@@ -1,10 +1,8 @@
-//! Represented matroids over products of finite fields, as definitions that the contracts of every crate cite, with the
-//! laws that show that they mean what they should.
+//! Represented matroids over products of finite fields, as definitions that the contracts of every crate cite.
 //!
-//! The definitions stand in `specs/`, one topic a file, in the words of Oxley's *Matroid Theory* (second edition).
+//! The definitions stand in `specs/`, one topic a file, in the words of Oxley's *Matroid Theory* (second edition). That they
+//! mean what they should is shown by the laws of `matroid_laws`.
 #![tactic(auto)]
-
-pub mod laws;
 
 /// Which moves make representations equivalent.
 #[derive(Clone, Copy, Debug, PartialEq, Eq)]

@@ -9,7 +9,7 @@ use Rattle.matroid_theory.specs.Matrix.{size_below}
 use Rattle.matroid_theory.specs.Rep.{Rep, size}
 use Rattle.matroid_theory.specs.Matroid.{members, IsBasis}
 use Rattle.matroid_theory.specs.Minor.{Matroid, image, IsMinorBy}
-use Rattle.matroid_theory.proofs.Masks.{mask, mask-below, members-mask, IsBasis-same}
+use Rattle.matrix_lemmas.proofs.Masks.{mask, mask-below, members-mask, IsBasis-same}
 use Rattle.named_matroids.specs.SmallMatroids.{IsSmallMatroid}
 use Rattle.minor_test.specs.declared.search.Tables.{Tables}
 use Rattle.minor_test.specs.declared.search.Images.{Images}

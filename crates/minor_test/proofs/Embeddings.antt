@@ -10,8 +10,8 @@ use Rattle.matroid_theory.specs.Matrix.{size_below}
 use Rattle.matroid_theory.specs.Rep.{Rep, size}
 use Rattle.matroid_theory.specs.Matroid.{members, IsBasis}
 use Rattle.matroid_theory.specs.Minor.{Matroid, image, IsMinorBy}
-use Rattle.matroid_theory.proofs.Masks.{mask, members-mask, size-same, IsBasis-same}
-use Rattle.matroid_theory.proofs.Bases.{size_most}
+use Rattle.matrix_lemmas.proofs.Masks.{mask, members-mask, size-same, IsBasis-same}
+use Rattle.matrix_lemmas.proofs.Bases.{size_most}
 use Rattle.minor_test.specs.Searches.{first, BeginsWith, image_with}
 use Rattle.minor_test.proofs.Images.{image-same, image_narrower, size_image_with}
 

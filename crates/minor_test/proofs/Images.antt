@@ -4,9 +4,9 @@ use Rattle.std.specs.Bool.{◌==◌}
 use Rattle.std.proofs.lemmas.Bool.{cases_lt, cases_eq, and_left, and_right, and_parts, or_cases, false≢true, eqb-true}
 use Rattle.matroid_theory.specs.Matrix.{size_below}
 use Rattle.matroid_theory.specs.Minor.{image}
-use Rattle.matroid_theory.proofs.Sums.{same_number, other_number}
-use Rattle.matroid_theory.proofs.Masks.{size-same}
-use Rattle.matroid_theory.proofs.Bases.{with_element, size_with}
+use Rattle.matrix_lemmas.proofs.Sums.{same_number, other_number}
+use Rattle.matrix_lemmas.proofs.Masks.{size-same}
+use Rattle.matrix_lemmas.proofs.Bases.{with_element, size_with}
 use Rattle.minor_test.specs.Searches.{image_with}
 
 -- the elements and their images below n alone count

@@ -11,8 +11,8 @@ use Rattle.std.proofs.lemmas.Nat.Bits.{bit_at_or, bit_at-pow_same, bit_at-pow_ot
 use Rattle.matroid_theory.specs.Rep.{Rep, size}
 use Rattle.matroid_theory.specs.Matroid.{members, IsBasis}
 use Rattle.matroid_theory.specs.Minor.{Matroid, image, IsMinorBy}
-use Rattle.matroid_theory.proofs.Sums.{same_number, other_number}
-use Rattle.matroid_theory.proofs.Masks.{IsBasis-same}
+use Rattle.matrix_lemmas.proofs.Sums.{same_number, other_number}
+use Rattle.matrix_lemmas.proofs.Masks.{IsBasis-same}
 use Rattle.minor_test.specs.declared.search.Tables.{Tables}
 use Rattle.minor_test.specs.declared.search.Images.{Images}
 use Rattle.matroid_theory.specs.Tables.{has}

@@ -5,9 +5,9 @@ use Rattle.std.proofs.lemmas.Bool.{cases_lt, cases_eq}
 use Rattle.matroid_theory.specs.Rep.{Rep, size}
 use Rattle.matroid_theory.specs.Matroid.{members}
 use Rattle.matroid_theory.specs.Minor.{Matroid, image, IsMinorBy}
-use Rattle.matroid_theory.proofs.Sums.{same_number, other_number}
-use Rattle.matroid_theory.proofs.Masks.{mask, mask-below, members-mask}
-use Rattle.matroid_theory.proofs.Bases.{search_below}
+use Rattle.matrix_lemmas.proofs.Sums.{same_number, other_number}
+use Rattle.matrix_lemmas.proofs.Masks.{mask, mask-below, members-mask}
+use Rattle.matrix_lemmas.proofs.Bases.{search_below}
 use Rattle.minor_test.specs.Searches.{image_with}
 use Rattle.minor_test.specs.Twins.{swapped, IsSwapped, AreTwins, AreTwinsOf, KeepsOrder}
 use Rattle.minor_test.proofs.Images.{image_has, image_member}

@@ -9,7 +9,7 @@ use Rattle.std.proofs.lemmas.List.Folds.{list_all-map}
 use Rattle.arrayvec.specs.ArrayVec.{ArrayVec}
 use Rattle.matroid_theory.specs.Matrix.{IsIndependent, IsRankOf}
 use Rattle.matroid_theory.specs.Given as given
-use Rattle.matroid_theory.proofs.FieldLaws.{both_left, both_right}
+use Rattle.matrix_lemmas.proofs.FieldLaws.{both_left, both_right}
 use Rattle.formats.specs.Statement.{IsMatrix}
 use Rattle.elimination.specs.Columns.{column, matrix_of, height, AreColumns}
 use Rattle.small_lists.specs.Lists.{lists}

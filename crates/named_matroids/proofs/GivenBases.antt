@@ -9,10 +9,10 @@ use Rattle.matroid_theory.specs.Matroid.{members}
 use Rattle.matroid_theory.specs.Minor.{Matroid}
 use Rattle.matroid_theory.specs.Given.{Given, AllSets, ColumnsOver, DualOfColumns, IsColumnBasis, IsGivenBasis, IsGivenBy}
 use Rattle.matroid_theory.specs.Given as given
-use Rattle.matroid_theory.proofs.Masks.{mask, mask-below, members-mask, size-same, IsIndependent-same}
-use Rattle.matroid_theory.proofs.Bases.{rank_unique, size_most}
-use Rattle.matroid_theory.proofs.Rest.{size_front}
-use Rattle.matroid_theory.proofs.Built.{size_both}
+use Rattle.matrix_lemmas.proofs.Masks.{mask, mask-below, members-mask, size-same, IsIndependent-same}
+use Rattle.matrix_lemmas.proofs.Bases.{rank_unique, size_most}
+use Rattle.matroid_laws.proofs.Rest.{size_front}
+use Rattle.matroid_laws.proofs.Built.{size_both}
 use Rattle.elimination.specs.Columns.{matrix_of, height, IsRankOfColumns}
 use Rattle.small_lists.specs.Lists.{lists}
 use Rattle.named_matroids.specs.SmallMatroids.{IsSmallMatroid, IsDual}

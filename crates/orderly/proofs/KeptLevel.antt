@@ -7,8 +7,8 @@ use Rattle.matroid_theory.specs.Rep.{Rep, size}
 use Rattle.matroid_theory.specs.Order.{IsForm}
 use Rattle.matroid_theory.specs.Minor.{Matroid}
 use Rattle.matroid_theory.specs.Level.{Family, IsMember, IsLevelForm, IsLevel, IsTry, IsCount, followed_by}
-use Rattle.matroid_theory.proofs.Followed.{size_followed, shaped_pushed}
-use Rattle.matroid_theory.proofs.Parents.{last_try}
+use Rattle.matroid_laws.proofs.Followed.{size_followed, shaped_pushed}
+use Rattle.matroid_laws.proofs.Parents.{last_try}
 use Rattle.formats.specs.Request.{Request}
 use Rattle.formats.specs.Minors.{given_as}
 use Rattle.formats.specs.Levels.{AreGivenBy, Grows}

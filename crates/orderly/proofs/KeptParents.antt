@@ -9,7 +9,7 @@ use Rattle.matroid_theory.specs.Rep.{Rep, size}
 use Rattle.matroid_theory.specs.Order.{rep_cmp, IsForm}
 use Rattle.matroid_theory.specs.Level.{IsCount, IsRisingList, followed_by}
 use Rattle.matroid_theory.specs.Minor.{Matroid}
-use Rattle.matroid_theory.proofs.Levels.{rep_cmp-irreflexive}
+use Rattle.matroid_laws.proofs.Levels.{rep_cmp-irreflexive}
 use Rattle.level_driver.specs.Children.{IsCandidate}
 use Rattle.level_driver.proofs.Counts.{count_none, count_both, count_images}
 use Rattle.level_driver.proofs.Tries.{IsExtension, two_kinds}

@@ -11,9 +11,9 @@ use Rattle.std.proofs.lemmas.List.Kept.{AllPairs-cons}
 use Rattle.matroid_theory.specs.Rep.{Rep, size}
 use Rattle.matroid_theory.specs.Order.{rep_cmp}
 use Rattle.matroid_theory.specs.Level.{followed_by}
-use Rattle.matroid_theory.proofs.Levels.{columns_total}
-use Rattle.matroid_theory.proofs.Prefix.{slice_cmp-append}
-use Rattle.matroid_theory.proofs.Lists.{there}
+use Rattle.matroid_laws.proofs.Levels.{columns_total}
+use Rattle.matroid_laws.proofs.Prefix.{slice_cmp-append}
+use Rattle.matrix_lemmas.proofs.Lists.{there}
 
 -- ---- a list after another
 

@@ -14,11 +14,11 @@ use Rattle.matroid_theory.specs.Field.{times, raised, degree, IsField}
 use Rattle.matroid_theory.specs.Matrix.{Matrix, unit, matrix_product, sum_below}
 use Rattle.matroid_theory.specs.Rep.{Rep, size, count, order, matrix, shape, KeepsLimits}
 use Rattle.matroid_theory.specs.Move.{MoveTable, AllowsPower, IsMove, TakesTo, moved, move_of, row_place, scalar_place}
-use Rattle.matroid_theory.proofs.Equivalence.{allowed_zero}
-use Rattle.matroid_theory.proofs.FieldLaws.{field_laws}
-use Rattle.matroid_theory.proofs.Frobenius.{raised_below}
-use Rattle.matroid_theory.proofs.Sums.{sum_same, combination-unit, same_number, other_number}
-use Rattle.matroid_theory.proofs.Dimension.{unit_code}
+use Rattle.matroid_laws.proofs.Equivalence.{allowed_zero}
+use Rattle.matrix_lemmas.proofs.FieldLaws.{field_laws}
+use Rattle.matrix_lemmas.proofs.Frobenius.{raised_below}
+use Rattle.matrix_lemmas.proofs.Sums.{sum_same, combination-unit, same_number, other_number}
+use Rattle.matrix_lemmas.proofs.Dimension.{unit_code}
 use Rattle.product_rep.proofs.PiecesLemmas.{place_below}
 
 -- one more entry of a list that follows a function

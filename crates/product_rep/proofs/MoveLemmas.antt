@@ -9,9 +9,9 @@ use Rattle.matroid_theory.specs.Field.{times, raised, IsOrder, IsField}
 use Rattle.matroid_theory.specs.Matrix.{sum_below}
 use Rattle.matroid_theory.specs.Rep.{Rep, size, count, order, matrix, shape, column_of, KeepsLimits, IsProductColumn}
 use Rattle.matroid_theory.specs.Move.{MoveTable, IsMove, moved, move_of, row_place, scalar_place}
-use Rattle.matroid_theory.proofs.FieldLaws.{field_laws}
-use Rattle.matroid_theory.proofs.Frobenius.{raised_below}
-use Rattle.matroid_theory.proofs.Sums.{sum_same}
+use Rattle.matrix_lemmas.proofs.FieldLaws.{field_laws}
+use Rattle.matrix_lemmas.proofs.Frobenius.{raised_below}
+use Rattle.matrix_lemmas.proofs.Sums.{sum_same}
 use Rattle.product_rep.proofs.PiecesLemmas.{place_below}
 
 -- a code of a column of one factor, and how many there are

@@ -6,7 +6,7 @@ use Rattle.std.specs.Ordering.{ordering_then, nat_cmp}
 use Rattle.std.specs.declared.cmp.Ordering.{Ordering}
 use Rattle.matroid_theory.specs.Rep.{shape}
 use Rattle.matroid_theory.specs.Order.{rep_cmp}
-use Rattle.matroid_theory.proofs.Prefix.{slice_cmp-append}
+use Rattle.matroid_laws.proofs.Prefix.{slice_cmp-append}
 use Rattle.product_rep.specs.declared.rep.Rep.TheInside.{Inside}
 use Rattle.product_rep.specs.Pieces.{pieces, matrices, KeepsRep}
 use Rattle.product_rep.proofs.PiecesLemmas.{size-matrices}

@@ -7,7 +7,7 @@ use Rattle.matroid_theory.specs.Field.{degree, raised}
 use Rattle.matroid_theory.specs.Rep.{Rep, Shape, count, order, matrix, shape, KeepsLimits}
 use Rattle.matroid_theory.specs.Move.{MoveTable, IsMove, TakesTo, move_of}
 use Rattle.matroid_theory.specs.Powers.{IsRaised}
-use Rattle.matroid_theory.proofs.Semilinear.{with_power, power_here, power_elsewhere, power_move}
+use Rattle.matroid_laws.proofs.Semilinear.{with_power, power_here, power_elsewhere, power_move}
 use Rattle.product_rep.specs.Tables.{KeepsMove, IsIdentityTable}
 use Rattle.product_rep.proofs.IdentityLemmas.{unit_moved}
 

@@ -6,7 +6,7 @@ use Rattle.std.proofs.lemmas.Nat.{mul-add-lt}
 use Rattle.matroid_theory.specs.Matrix.{unit}
 use Rattle.matroid_theory.specs.Rep.{Rep, count, size, matrix}
 use Rattle.matroid_theory.specs.Minor.{Matroid}
-use Rattle.matroid_theory.proofs.First.{whole}
+use Rattle.matroid_laws.proofs.First.{whole}
 use Rattle.dual_theory.specs.Represented.{Represents, IsLeastOver, IsStandardOver, KeepsBasesAt, Completes, IsLeastCompletion}
 use Rattle.dual_theory.proofs.Searches.{exact_by_entries, none_begun}
 use Rattle.dual_theory.proofs.Entries.{made_one}

@@ -12,8 +12,8 @@ use Rattle.matroid_theory.specs.Matrix.{unit}
 use Rattle.matroid_theory.specs.Matroid.{members}
 use Rattle.matroid_theory.specs.Rep.{shape, size, matrix, IsProductColumn, KeepsLimits}
 use Rattle.matroid_theory.specs.Minor.{Matroid}
-use Rattle.matroid_theory.proofs.FieldLaws.{field_laws}
-use Rattle.matroid_theory.proofs.First.{row_below}
+use Rattle.matrix_lemmas.proofs.FieldLaws.{field_laws}
+use Rattle.matroid_laws.proofs.First.{row_below}
 use Rattle.dual_theory.specs.Represented.{IsToldAt, AgreeBefore, IsStandardOver, KeepsBasesAt}
 use Rattle.dual_theory.proofs.Told.{base_told}
 use Rattle.dual_theory.proofs.Filling.{over_same}

@@ -11,7 +11,7 @@ use Rattle.matroid_theory.specs.Rep.{Rep, KeepsLimits}
 use Rattle.matroid_theory.specs.Matroid.{members}
 use Rattle.matroid_theory.specs.Minor.{Matroid}
 use Rattle.dual_theory.specs.Represented.{IsStandardOver, KeepsBasesAt}
-use Rattle.matroid_theory.proofs.MaskCounts.{size-members}
+use Rattle.matrix_lemmas.proofs.MaskCounts.{size-members}
 use Rattle.std.specs.Int.RustNames.{count_ones}
 use Rattle.represent.specs.declared.told.Place.{Place}
 use Rattle.represent.specs.Sought.{cells, IsSought}

@@ -12,12 +12,12 @@ use Rattle.matroid_theory.specs.Matrix.{unit, combination, size_below, AreCoeffi
 use Rattle.matroid_theory.specs.Matroid.{members}
 use Rattle.matroid_theory.specs.Minor.{Matroid}
 use Rattle.matroid_theory.specs.Given.{Given, AllSets, ColumnsOver, DualOfColumns, elements, column_length, matrix_of_lists, IsColumnBasis, IsGivenBasis, IsGivenBy}
-use Rattle.matroid_theory.proofs.Sums.{sum_same}
-use Rattle.matroid_theory.proofs.FieldLaws.{field_laws}
-use Rattle.matroid_theory.proofs.Masks.{size-same, IsIndependent-same}
-use Rattle.matroid_theory.proofs.Bases.{set_bound}
-use Rattle.matroid_theory.proofs.Rest.{size_front}
-use Rattle.matroid_theory.proofs.Units.{units_independent}
+use Rattle.matrix_lemmas.proofs.Sums.{sum_same}
+use Rattle.matrix_lemmas.proofs.FieldLaws.{field_laws}
+use Rattle.matrix_lemmas.proofs.Masks.{size-same, IsIndependent-same}
+use Rattle.matrix_lemmas.proofs.Bases.{set_bound}
+use Rattle.matroid_laws.proofs.Rest.{size_front}
+use Rattle.matrix_lemmas.proofs.Units.{units_independent}
 use Rattle.formats.specs.Minors.{k4_columns, fano_columns, k5_columns, given_as}
 use Rattle.formats.specs.Statement.{MinorName, Uniform, Fano, FanoDual, NonFano, KFour, KFive, ByMatrix, IsMinorName, minor_words}
 use Rattle.dual_theory.proofs.Searches.{first_members}

@@ -2,7 +2,7 @@
 use Rattle.std.proofs.Common.{◌≡◌, ◌≢◌, ℕ, zero, suc, ◌+◌, ◌-◌, ◌*◌, ◌/◌, ◌%◌, ◌<◌, ◌≤◌, ap, sym, ◌∙◌, arith, inl, inr, List, length}
 use Rattle.std.proofs.lemmas.Bool.{cases_lt}
 use Rattle.std.proofs.lemmas.Nat.{div-mul-add, mod-mul-add, mul-add-lt}
-use Rattle.matroid_theory.proofs.First.{whole}
+use Rattle.matroid_laws.proofs.First.{whole}
 use Rattle.dual_theory.specs.Represented.{ComesBefore}
 use Rattle.represent.specs.Filled.{row_at, column_at}
 

@@ -7,13 +7,13 @@ use Rattle.std.proofs.Math.Nat.{pow-le-pow_right}
 use Rattle.matroid_theory.specs.Rep.{Rep, count, size, IsShaped, IsStandard, KeepsLimits}
 use Rattle.matroid_theory.specs.Field.{IsOrder}
 use Rattle.matroid_theory.specs.Matrix.{size_below}
-use Rattle.matroid_theory.proofs.Bases.{size_most}
+use Rattle.matrix_lemmas.proofs.Bases.{size_most}
 use Rattle.named_matroids.specs.SmallMatroids.{IsSmallMatroid}
 use Rattle.std.proofs.lemmas.List.Elements.{All-contains}
 use Rattle.matroid_theory.specs.Matroid.{members, IsBasis}
 use Rattle.matroid_theory.specs.Minor.{Matroid, AreBases}
-use Rattle.matroid_theory.proofs.Masks.{IsBasis-same}
-use Rattle.matroid_theory.proofs.Rest.{units_basis}
+use Rattle.matrix_lemmas.proofs.Masks.{IsBasis-same}
+use Rattle.matroid_laws.proofs.Rest.{units_basis}
 use Rattle.dual_theory.specs.Represented.{IsMatroidOf, IsBasedFirst}
 use Rattle.dual_theory.proofs.Searches.{first_members}
 use Rattle.represent.specs.Sought.{IsSought}

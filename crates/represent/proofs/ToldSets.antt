@@ -7,9 +7,9 @@ use Rattle.std.proofs.lemmas.Nat.{pow_pos, or_lt, pow_below, shl_below, one_shl}
 use Rattle.std.proofs.lemmas.Nat.Bits.{bit_at_or, bit_at_above, bit_at-zero, bit_at-pow_same, bit_at-pow_other, bit_at_cat_low, bit_at_cat_high, bit_at_mask_inside, bit_at_mask_below, bit_at_mask_above}
 use Rattle.std.proofs.Math.Nat.{pow-le-pow_right, two-pow-succ, mod-eq_of_lt}
 use Rattle.matroid_theory.specs.Matroid.{members}
-use Rattle.matroid_theory.proofs.Masks.{mask, mask-below, members-mask}
+use Rattle.matrix_lemmas.proofs.Masks.{mask, mask-below, members-mask}
 use Rattle.dual_theory.specs.Represented.{IsToldAt}
-use Rattle.matroid_theory.proofs.Masks.{same_mask}
+use Rattle.matrix_lemmas.proofs.Masks.{same_mask}
 use Rattle.represent.specs.declared.told.Place.{Place}
 use Rattle.represent.specs.Kept.{IsToldWith}
 

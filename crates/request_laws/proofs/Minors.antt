@@ -6,7 +6,7 @@ use Rattle.std.proofs.lemmas.Bool.{ltb-true}
 use Rattle.matroid_theory.specs.Field.{IsOrder}
 use Rattle.matroid_theory.specs.Minor.{Matroid}
 use Rattle.matroid_theory.specs.Given.{IsGivenBy, column_length, matrix_of_lists}
-use Rattle.matroid_theory.proofs.FieldLaws.{field_laws, both_left, both_right}
+use Rattle.matrix_lemmas.proofs.FieldLaws.{field_laws, both_left, both_right}
 use Rattle.formats.specs.Statement.{MinorName, Uniform, Fano, FanoDual, NonFano, KFour, KFive, ByMatrix, IsMinorName}
 use Rattle.formats.specs.Minors.{given_as, fano_columns, k4_columns, k5_columns}
 use Rattle.existence.proofs.Givens.{uniform_given, columns_given, dual_given}

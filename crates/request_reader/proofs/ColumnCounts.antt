@@ -9,7 +9,7 @@ use Rattle.std.proofs.lemmas.List.FromFn.{map-range_with_len_more}
 use Rattle.std.proofs.lemmas.List.Sums.{sum_by_push}
 use Rattle.std.proofs.lemmas.Grind.{common_steps, pow_more}
 use Rattle.matroid_theory.specs.Field.{IsOrder}
-use Rattle.matroid_theory.proofs.FieldLaws.{by_order}
+use Rattle.matrix_lemmas.proofs.FieldLaws.{by_order}
 use Rattle.formats.specs.Request.{subsets, product_of}
 
 -- how many columns have a support of so many rows

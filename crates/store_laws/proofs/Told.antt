@@ -10,9 +10,9 @@ use Rattle.std.proofs.lemmas.Cmp.{nat_list_cmp_total}
 use Rattle.std.proofs.lemmas.List.{length-map}
 use Rattle.matroid_theory.specs.Rep.{Rep}
 use Rattle.matroid_theory.specs.Level.{Family, IsLevel, IsLevelForm, IsTryFor}
-use Rattle.matroid_theory.proofs.Equivalence.{equivalent-symmetric, equivalent-transitive}
-use Rattle.matroid_theory.proofs.Forms.{one_form}
-use Rattle.matroid_theory.proofs.Levels.{count_unique}
+use Rattle.matroid_laws.proofs.Equivalence.{equivalent-symmetric, equivalent-transitive}
+use Rattle.matroid_laws.proofs.Forms.{one_form}
+use Rattle.matroid_laws.proofs.Levels.{count_unique}
 use Rattle.existence.proofs.Classes.{form_has_try, form_of_try}
 use Rattle.histories.specs.declared.entry.Entry.{Entry}
 use Rattle.histories.specs.History.{IsLegal}

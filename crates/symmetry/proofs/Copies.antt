@@ -5,7 +5,7 @@ use Rattle.std.proofs.lemmas.List.{get_or-set_same, get_or-set_other, length-set
 use Rattle.matroid_theory.specs.Field.{IsField, times, raised}
 use Rattle.matroid_theory.specs.Matrix.{sum_below}
 use Rattle.matroid_theory.specs.Move.{MoveTable, row_place}
-use Rattle.matroid_theory.proofs.Sums.{sum_same}
+use Rattle.matrix_lemmas.proofs.Sums.{sum_same}
 use Rattle.product_rep.specs.Tables.{KeepsMove}
 use Rattle.product_rep.proofs.PiecesLemmas.{place_below}
 use Rattle.symmetry.specs.Copies.{HasCopies}

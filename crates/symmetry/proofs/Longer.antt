@@ -7,10 +7,10 @@ use Rattle.matroid_theory.specs.Rep.{Rep, shape, count, size, order, matrix, IsS
 use Rattle.matroid_theory.specs.declared.Mode.{Mode}
 use Rattle.matroid_theory.specs.Move.{Move, IsMove, TakesTo, moved, AreEquivalent}
 use Rattle.matroid_theory.specs.Level.{followed_by}
-use Rattle.matroid_theory.proofs.FieldLaws.{field_laws}
-use Rattle.matroid_theory.proofs.Sums.{combination-same}
-use Rattle.matroid_theory.proofs.Followed.{matrix_before, matrix_last, size_followed, shaped_pushed}
-use Rattle.matroid_theory.proofs.Prefix.{at_last, at_last-before, at_last-own, kept, kept_below}
+use Rattle.matrix_lemmas.proofs.FieldLaws.{field_laws}
+use Rattle.matrix_lemmas.proofs.Sums.{combination-same}
+use Rattle.matroid_laws.proofs.Followed.{matrix_before, matrix_last, size_followed, shaped_pushed}
+use Rattle.matroid_laws.proofs.Prefix.{at_last, at_last-before, at_last-own, kept, kept_below}
 
 -- the columns v and u follow P, and u is v raised, multiplied by the move's matrix and scaled
 module _ (mode : Mode) (P : Rep) (m : Move) (shaped : IsShaped P) (valid : IsMove mode (shape P) m) (takes : TakesTo P m P)

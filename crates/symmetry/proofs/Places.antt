@@ -8,8 +8,8 @@ use Rattle.std.proofs.Math.ListN.{get_or-append}
 use Rattle.matroid_theory.specs.Field.{IsField, plus, times}
 use Rattle.matroid_theory.specs.Matrix.{sum_below}
 use Rattle.matroid_theory.specs.Rep.{IsProductColumn}
-use Rattle.matroid_theory.proofs.First.{row_below, whole}
-use Rattle.matroid_theory.proofs.Sums.{times_zero}
+use Rattle.matroid_laws.proofs.First.{row_below, whole}
+use Rattle.matrix_lemmas.proofs.Sums.{times_zero}
 use Rattle.product_rep.proofs.PiecesLemmas.{place_below}
 use Rattle.symmetry.specs.Images.{code_at}
 

@@ -5,9 +5,9 @@ use Rattle.matroid_theory.specs.Matroid.{Agrees, IsSimple}
 use Rattle.matroid_theory.specs.declared.Mode.{Mode}
 use Rattle.matroid_theory.specs.Move.{AreEquivalent}
 use Rattle.matroid_theory.specs.Level.{IsNormalised, followed_by}
-use Rattle.matroid_theory.proofs.Carried.{agrees_carried, simple_carried}
-use Rattle.matroid_theory.proofs.Followed.{column_last}
-use Rattle.matroid_theory.proofs.Normalised.{Lead, lead_or_zero, same_support, not_zero}
+use Rattle.matroid_laws.proofs.Carried.{agrees_carried, simple_carried}
+use Rattle.matroid_laws.proofs.Followed.{column_last}
+use Rattle.matroid_laws.proofs.Normalised.{Lead, lead_or_zero, same_support, not_zero}
 use Rattle.extension.specs.Admissible.{IsAdmissible}
 use Rattle.symmetry.specs.Images.{HasLeadOnes}
 

@@ -7,8 +7,8 @@ use Rattle.matroid_theory.specs.Field.{IsField, times}
 use Rattle.matroid_theory.specs.Rep.{Rep, Shape, shape, count, order, IsShaped, IsProductColumn}
 use Rattle.matroid_theory.specs.Move.{Move, MoveTable, IsMove, TakesTo, AreEquivalent, move_of}
 use Rattle.matroid_theory.specs.Level.{followed_by}
-use Rattle.matroid_theory.proofs.Frobenius.{times_nonzero}
-use Rattle.matroid_theory.proofs.Sums.{times_zero}
+use Rattle.matrix_lemmas.proofs.Frobenius.{times_nonzero}
+use Rattle.matrix_lemmas.proofs.Sums.{times_zero}
 use Rattle.symmetry.specs.Images.{code_at, mapped, AreLeadScalars, HasLeadOnes}
 use Rattle.symmetry.specs.Symmetric.{IsSymmetry}
 use Rattle.symmetry.proofs.Longer.{equivalent_images}

@@ -11,7 +11,7 @@ use Rattle.std.proofs.lemmas.Option.{get_or_from_slice_get, slice_get_within}
 use Rattle.std.proofs.lemmas.Slice.Zip.{all_zipped_more}
 use Rattle.matroid_theory.specs.Rep.{Rep, Shape, size}
 use Rattle.matroid_theory.specs.Level.{Family, IsLevel, IsLevelForm, followed_by}
-use Rattle.matroid_theory.proofs.Followed.{size_followed}
+use Rattle.matroid_laws.proofs.Followed.{size_followed}
 use Rattle.existence.proofs.Classes.{form_has_try}
 use Rattle.formats.specs.Request.{Request}
 use Rattle.formats.specs.Levels.{AreGivenBy, Grows}

@@ -5,8 +5,8 @@ use Rattle.std.proofs.lemmas.List.Elements.{Contains-append_left, Contains-appen
 use Rattle.std.proofs.lemmas.Slice.Zip.{AllZip-long}
 use Rattle.matroid_theory.specs.Rep.{Rep}
 use Rattle.matroid_theory.specs.Level.{Family, IsTry, IsCount}
-use Rattle.matroid_theory.proofs.Equivalence.{equivalent-symmetric, equivalent-transitive}
-use Rattle.matroid_theory.proofs.Forms.{one_form}
+use Rattle.matroid_laws.proofs.Equivalence.{equivalent-symmetric, equivalent-transitive}
+use Rattle.matroid_laws.proofs.Forms.{one_form}
 use Rattle.formats.specs.Request.{Request}
 use Rattle.formats.specs.Levels.{Grows, HasTries}
 use Rattle.histories.specs.declared.entry.Entry.{Entry}

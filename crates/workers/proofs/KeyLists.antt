@@ -6,7 +6,7 @@ use Rattle.std.proofs.lemmas.List.Sums.{sum_by-cons}
 use Rattle.std.proofs.lemmas.Slice.Eq.{bytes_eq-Decides}
 use Rattle.std.proofs.lemmas.Slice.Zip.{AllZip-long}
 use Rattle.matroid_theory.specs.Level.{IsCount}
-use Rattle.matroid_theory.proofs.Lists.{there}
+use Rattle.matrix_lemmas.proofs.Lists.{there}
 use Rattle.level_driver.proofs.Counts.{append_apart, map_apart, Contains-map, Contains-from_map, count_both, count_none, count_one, count_same}
 use Rattle.workers.specs.Keys.{AreKeysOf, times}
 

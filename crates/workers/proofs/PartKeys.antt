@@ -12,7 +12,7 @@ use Rattle.matroid_theory.specs.Order.{rep_cmp, IsForm}
 use Rattle.matroid_theory.specs.Move.{AreEquivalent}
 use Rattle.matroid_theory.specs.Minor.{Matroid}
 use Rattle.matroid_theory.specs.Level.{Family, followed_by}
-use Rattle.matroid_theory.proofs.Levels.{rep_cmp-irreflexive}
+use Rattle.matroid_laws.proofs.Levels.{rep_cmp-irreflexive}
 use Rattle.formats.specs.Request.{Request}
 use Rattle.formats.specs.Levels.{AreGivenBy, Grows}
 use Rattle.formats.specs.Minors.{given_as}

@@ -2,8 +2,8 @@ use Rattle.std.proofs.Common.{◌≡◌, ◌∙◌, ℕ, List, sym, ap, subst}
 use Rattle.matroid_theory.specs.declared.Mode.TheVariants.{Linear}
 use Rattle.matroid_theory.specs.Rep.{Rep}
 use Rattle.matroid_theory.specs.Minor.{Matroid}
-use Rattle.matroid_theory.proofs.Equivalence.{equivalent-reflexive}
-use Rattle.matroid_theory.proofs.GivenLemmas.{given_unique}
+use Rattle.matroid_laws.proofs.Equivalence.{equivalent-reflexive}
+use Rattle.matroid_laws.proofs.GivenLemmas.{given_unique}
 use Rattle.formats.specs.Listing.{form_text}
 use Rattle.formats.specs.Levels.{columns_of}
 use Rattle.formats.specs.Minors.{given_as}

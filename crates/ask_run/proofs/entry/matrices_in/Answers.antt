@@ -1,6 +1,6 @@
 use Rattle.std.proofs.Common.{◌≡◌, ℕ, ◌+◌, ◌<◌, sym, ◌∙◌, ap, subst, arith, add-one}
 use Rattle.matroid_theory.specs.Rep.{Rep, size, matrix}
-use Rattle.matroid_theory.proofs.Followed.{size_followed}
+use Rattle.matroid_laws.proofs.Followed.{size_followed}
 use Rattle.ask_run.specs.Layouts.{HasEntry}
 use Rattle.ask_run.specs.Texts.{texts_of}
 use Rattle.ask_run.proofs.Columns.{next_entries}

@@ -3,7 +3,7 @@ use Rattle.std.specs.List.{Contains}
 use Rattle.std.proofs.lemmas.List.{take_more, take_all}
 use Rattle.std.proofs.lemmas.List.Elements.{Contains-push, Contains-push_cases, Contains-append_left}
 use Rattle.std.proofs.lemmas.List.Kept.{AllPairs-from_increasing}
-use Rattle.matroid_theory.proofs.Lists.{rising_unique}
+use Rattle.matrix_lemmas.proofs.Lists.{rising_unique}
 use Rattle.base_tables.proofs.table.table_of.Goals as goal
 
 -- one more mask

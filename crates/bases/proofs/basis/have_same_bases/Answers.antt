@@ -2,7 +2,7 @@ use Rattle.std.proofs.Common.{◌≡◌, ◌≤◌, ◌<◌, ◌↔◌, ℕ, Boo
 use Rattle.std.proofs.lemmas.Bool.{false≢true}
 use Rattle.matroid_theory.specs.Rep.{count}
 use Rattle.matroid_theory.specs.Matroid.{IsBasis}
-use Rattle.matroid_theory.proofs.Agreement.{one_more}
+use Rattle.matroid_laws.proofs.Agreement.{one_more}
 use Rattle.bases.proofs.basis.have_same_bases.Goals as goal
 
 pub loop-factor-init : goal.loop-factor-init

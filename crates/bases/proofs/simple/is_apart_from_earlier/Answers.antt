@@ -7,7 +7,7 @@ use Rattle.column_sets.specs.Picked.{IsIndependentSet}
 use Rattle.bases.specs.FactorColumns.{IsFactorOf}
 use Rattle.bases.proofs.Factors.{independent_same}
 use Rattle.matroid_theory.specs.Matroid.{members, IsIndependentIn}
-use Rattle.matroid_theory.proofs.Pairs.{pair, pair_independent}
+use Rattle.matrix_lemmas.proofs.Pairs.{pair, pair_independent}
 use Rattle.bases.proofs.simple.is_apart_from_earlier.Goals as goal
 
 -- the answer in the terms of the factor

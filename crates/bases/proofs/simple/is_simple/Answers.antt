@@ -2,7 +2,7 @@ use Rattle.std.proofs.Common.{◌≡◌, ◌<◌, ℕ, arith, subst, inl, inr}
 use Rattle.std.proofs.lemmas.Bool.{cases_lt}
 use Rattle.matroid_theory.specs.Rep.{size}
 use Rattle.matroid_theory.specs.Matroid.{IsIndependentIn}
-use Rattle.matroid_theory.proofs.Pairs.{pair}
+use Rattle.matrix_lemmas.proofs.Pairs.{pair}
 use Rattle.bases.proofs.simple.is_simple.Goals as goal
 
 pub loop-factor-preserved : goal.loop-factor-preserved

@@ -2,7 +2,7 @@ use Rattle.std.proofs.Common.{◌≡◌, ◌≤◌, ℕ, arith, sym, ◌∙◌, 
 use Rattle.std.proofs.lemmas.Bool.{false≢true, cases_lt}
 use Rattle.matroid_theory.specs.Rep.{size}
 use Rattle.matroid_theory.specs.Matroid.{IsIndependentIn}
-use Rattle.matroid_theory.proofs.Pairs.{pair, pairs_both}
+use Rattle.matrix_lemmas.proofs.Pairs.{pair, pairs_both}
 use Rattle.bases.proofs.simple.is_simple_in.Goals as goal
 
 pub returns-then-not-is_apart_from_earlier : goal.returns-then-not-is_apart_from_earlier

@@ -1,7 +1,7 @@
 use Rattle.std.proofs.Common.{true, length}
 use Rattle.matroid_theory.specs.Matrix.{IsIndependent}
 use Rattle.matroid_theory.specs.Rep.{order}
-use Rattle.matroid_theory.proofs.Agreement.{one_more}
+use Rattle.matroid_laws.proofs.Agreement.{one_more}
 use Rattle.canonical_form.specs.Search.{chosen}
 use Rattle.canonical_form.proofs.coordinates.are_independent.Goals as goal
 

@@ -1,9 +1,9 @@
 use Rattle.std.proofs.Common.{◌≡◌, ◌+◌, ◌<◌, ℕ, true, false, List, length, sym, ◌∙◌, ap, subst, arith, rules}
 use Rattle.matroid_theory.specs.Field.{degree}
 use Rattle.matroid_theory.specs.Rep.{Shape, count, order}
-use Rattle.matroid_theory.proofs.Compared.{below_not_above, not_below_reversed}
-use Rattle.matroid_theory.proofs.Semilinear.{IsLeastBelow, raised_agrees, least_linear, least_first, least_kept, least_replaced, factor_below, power_below}
-use Rattle.matroid_theory.proofs.Orderings.{is_less, is_not_less}
+use Rattle.matroid_laws.proofs.Compared.{below_not_above, not_below_reversed}
+use Rattle.matroid_laws.proofs.Semilinear.{IsLeastBelow, raised_agrees, least_linear, least_first, least_kept, least_replaced, factor_below, power_below}
+use Rattle.matrix_lemmas.proofs.Orderings.{is_less, is_not_less}
 use Rattle.canonical_form.proofs.powers.+least_from.Goals as goal
 use Rattle.canonical_form.proofs.powers.+least_from.Goals.{then-eq, else-eq}
 

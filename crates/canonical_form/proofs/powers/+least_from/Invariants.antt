@@ -1,6 +1,6 @@
 use Rattle.std.proofs.Common.{◌-◌}
 use Rattle.matroid_theory.specs.Rep.{count}
-use Rattle.matroid_theory.proofs.Semilinear.{IsLeastBelow}
+use Rattle.matroid_laws.proofs.Semilinear.{IsLeastBelow}
 use Rattle.canonical_form.proofs.powers.+least_from.Given as goal
 
 abbrev pub decreases-least_from : goal.decreases-least_from

@@ -3,8 +3,8 @@ use Rattle.std.specs.declared.cmp.Ordering.{Ordering}
 use Rattle.std.specs.declared.cmp.Ordering.TheVariants.{Less, Equal, Greater}
 use Rattle.std.specs.Bool.{◌==◌}
 use Rattle.std.specs.Ordering.{ordering_index}
-use Rattle.matroid_theory.proofs.Levels.{columns_total}
-use Rattle.matroid_theory.proofs.Orderings.{at_most_chain, at_most_itself}
+use Rattle.matroid_laws.proofs.Levels.{columns_total}
+use Rattle.matrix_lemmas.proofs.Orderings.{at_most_chain, at_most_itself}
 use Rattle.canonical_form.specs.Search.{columns_cmp}
 use Rattle.canonical_form.specs.Found.{IsAtMost}
 use Rattle.canonical_form.proofs.Orders.{above_reversed}

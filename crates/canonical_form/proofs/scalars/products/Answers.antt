@@ -1,7 +1,7 @@
 use Rattle.std.proofs.Common.{◌≡◌, ◌<◌, ◌%◌, ◌+◌, ◌*◌, ◌≤◌, ℕ, List, length, slice_index, sym, ◌∙◌, ap, subst, arith}
 use Rattle.matroid_theory.specs.Field.{times, IsOrder}
 use Rattle.matroid_theory.specs.Rep.{count, order}
-use Rattle.matroid_theory.proofs.FieldLaws.{field_laws}
+use Rattle.matrix_lemmas.proofs.FieldLaws.{field_laws}
 use Rattle.canonical_form.proofs.Places.{by_place, field_at, code_at, some_factor, one_more_item}
 use Rattle.canonical_form.proofs.scalars.products.Goals as goal
 

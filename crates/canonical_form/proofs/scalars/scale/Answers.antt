@@ -1,8 +1,8 @@
 use Rattle.std.proofs.Common.{◌≡◌, ◌+◌, ◌*◌, zero, sym, ◌∙◌, ap, subst, arith, slice_index}
 use Rattle.matroid_theory.specs.Field.{times, IsOrder}
 use Rattle.matroid_theory.specs.Rep.{order}
-use Rattle.matroid_theory.proofs.FieldLaws.{field_laws}
-use Rattle.matroid_theory.proofs.Sums.{times_zero}
+use Rattle.matrix_lemmas.proofs.FieldLaws.{field_laws}
+use Rattle.matrix_lemmas.proofs.Sums.{times_zero}
 use Rattle.canonical_form.proofs.Leads.{leads_by_first}
 use Rattle.canonical_form.proofs.Places.{order_at, order_of, count_at}
 use Rattle.canonical_form.proofs.scalars.scale.Goals as goal

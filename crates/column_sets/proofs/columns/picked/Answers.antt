@@ -3,7 +3,7 @@ use Rattle.std.proofs.lemmas.List.Elements.{at_read}
 use Rattle.arrayvec.specs.ArrayVec.{ArrayVec}
 use Rattle.matroid_theory.specs.Matrix.{size_below}
 use Rattle.matroid_theory.specs.Matroid.{members}
-use Rattle.matroid_theory.proofs.Bases.{size_most}
+use Rattle.matrix_lemmas.proofs.Bases.{size_most}
 use Rattle.elimination.specs.Columns.{column}
 use Rattle.column_sets.proofs.PickedColumns.{more_picked, same_picked}
 use Rattle.column_sets.proofs.columns.picked.Goals as goal

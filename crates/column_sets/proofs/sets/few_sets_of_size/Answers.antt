@@ -2,8 +2,8 @@ use Rattle.std.proofs.Common.{◌≡◌, ◌≤◌, ℕ, ◌∙◌, ap, subst, s
 use Rattle.std.specs.Int.RustNames.{count_ones}
 use Rattle.arrayvec.specs.ArrayVec.{ArrayVec}
 use Rattle.matroid_theory.specs.Matroid.{members}
-use Rattle.matroid_theory.proofs.Bases.{size_most}
-use Rattle.matroid_theory.proofs.MaskCounts.{size-members}
+use Rattle.matrix_lemmas.proofs.Bases.{size_most}
+use Rattle.matrix_lemmas.proofs.MaskCounts.{size-members}
 use Rattle.column_sets.specs.Sets.{IsSetOfSize}
 use Rattle.column_sets.proofs.Counted.{room, one_more_set, no_more_sets}
 use Rattle.column_sets.proofs.SetLemmas.{more_taken, same_taken}

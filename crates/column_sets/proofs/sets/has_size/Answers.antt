@@ -2,7 +2,7 @@ use Rattle.std.proofs.Common.{◌≡◌, sym, ◌∙◌, eqb-true, eq-eqb}
 use Rattle.std.specs.Int.RustNames.{count_ones}
 use Rattle.matroid_theory.specs.Matrix.{size_below}
 use Rattle.matroid_theory.specs.Matroid.{members}
-use Rattle.matroid_theory.proofs.MaskCounts.{size-members}
+use Rattle.matrix_lemmas.proofs.MaskCounts.{size-members}
 use Rattle.column_sets.proofs.sets.has_size.Goals as goal
 
 pub returns : goal.returns

@@ -3,7 +3,7 @@ use Rattle.std.proofs.lemmas.Bool.{false≢true}
 use Rattle.matroid_theory.specs.Rep.{size, order, matrix, KeepsLimits}
 use Rattle.matroid_theory.specs.Matroid.{members}
 use Rattle.matroid_theory.specs.Connection.{IsRank}
-use Rattle.matroid_theory.proofs.Bases.{rank_unique}
+use Rattle.matrix_lemmas.proofs.Bases.{rank_unique}
 use Rattle.connectivity.specs.declared.side.Side.{Side}
 use Rattle.connectivity.proofs.LeftOut.{without, AreLacking, IsRest, none_rest, rest_with, rest_same, rest_within, full_rank, none_lack, rest_rank}
 use Rattle.connectivity.proofs.cosimplicity.keeps_rank.Goals as goal

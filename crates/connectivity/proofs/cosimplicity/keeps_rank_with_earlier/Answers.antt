@@ -1,7 +1,7 @@
 use Rattle.std.proofs.Common.{sym, ◌∙◌, arith, refl}
 use Rattle.std.proofs.lemmas.Bool.{false≢true}
 use Rattle.matroid_theory.specs.Connection.{IsRank}
-use Rattle.matroid_theory.proofs.Agreement.{one_more}
+use Rattle.matroid_laws.proofs.Agreement.{one_more}
 use Rattle.connectivity.proofs.LeftOut.{without}
 use Rattle.connectivity.proofs.cosimplicity.keeps_rank_with_earlier.Goals as goal
 

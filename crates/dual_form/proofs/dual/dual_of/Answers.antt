@@ -3,8 +3,8 @@ use Rattle.matroid_theory.specs.Rep.{Rep, size, shape, count, matrix, IsShaped, 
 use Rattle.matroid_theory.specs.Matroid.{Agrees}
 use Rattle.matroid_theory.specs.Move.{AreEquivalent}
 use Rattle.matroid_theory.specs.declared.Mode.{Mode}
-use Rattle.matroid_theory.proofs.Carried.{agrees_carried}
-use Rattle.matroid_theory.proofs.Equivalence.{equivalent-transitive}
+use Rattle.matroid_laws.proofs.Carried.{agrees_carried}
+use Rattle.matroid_laws.proofs.Equivalence.{equivalent-transitive}
 use Rattle.dual_theory.specs.Dual.{IsStandardDual}
 use Rattle.dual_theory.proofs.OrthogonalReps.{orthogonal_agrees}
 use Rattle.dual_theory.proofs.StandardDual.{standard_dual_orthogonal, standard_dual_has_bases}

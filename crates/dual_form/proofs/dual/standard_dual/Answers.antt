@@ -1,6 +1,6 @@
 use Rattle.std.proofs.Common.{◌≡◌, ℕ, ◌+◌, ◌*◌, ◌<◌, sym, ◌∙◌, ap, subst, List, length, slice_index, add-one}
 use Rattle.matroid_theory.specs.Rep.{size, count, matrix}
-use Rattle.matroid_theory.proofs.Followed.{size_followed}
+use Rattle.matroid_laws.proofs.Followed.{size_followed}
 use Rattle.dual_theory.specs.Dual.{dual_matrix}
 use Rattle.dual_form.proofs.Columns.{dual_column_follows, next_codes}
 use Rattle.dual_form.proofs.dual.standard_dual.Goals as goal

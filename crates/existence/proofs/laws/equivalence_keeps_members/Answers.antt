@@ -1,4 +1,4 @@
-use Rattle.matroid_theory.proofs.Equivalence.{equivalent-symmetric}
+use Rattle.matroid_laws.proofs.Equivalence.{equivalent-symmetric}
 use Rattle.existence.proofs.Classes.{member_carried}
 use Rattle.existence.proofs.laws.equivalence_keeps_members.Goals as goal
 

@@ -3,7 +3,7 @@ use Rattle.std.proofs.lemmas.Bool.{false≢true}
 use Rattle.matroid_theory.specs.Matrix.{size_below}
 use Rattle.matroid_theory.specs.Rep.{size, count}
 use Rattle.matroid_theory.specs.Matroid.{members, IsIndependentIn}
-use Rattle.matroid_theory.proofs.Agreement.{one_more}
+use Rattle.matroid_laws.proofs.Agreement.{one_more}
 use Rattle.extension.specs.Steps.{with_new}
 use Rattle.extension.proofs.Alike.{alike_in_factors, alike_in_columns}
 use Rattle.extension.proofs.admissible.has_alike_factors.Goals as goal

@@ -3,7 +3,7 @@ use Rattle.std.specs.List.{All, Contains}
 use Rattle.std.proofs.lemmas.Bool.{false≢true, cases_lt}
 use Rattle.std.proofs.lemmas.List.Elements.{All-contains}
 use Rattle.matroid_theory.specs.Rep.{count, KeepsLimits}
-use Rattle.matroid_theory.proofs.Followed.{shaped_pushed}
+use Rattle.matroid_laws.proofs.Followed.{shaped_pushed}
 use Rattle.extension.specs.declared.planes.Plane.{Plane}
 use Rattle.extension.specs.Planes.{ArePlanes, IsPlane, IsAlikeAt}
 use Rattle.extension.proofs.Followers.{alike_of_one}

@@ -4,8 +4,8 @@ use Rattle.matroid_theory.specs.Field.{IsFactors}
 use Rattle.matroid_theory.specs.Rep.{size, count}
 use Rattle.matroid_theory.specs.Matroid.{IsIndependentIn}
 use Rattle.matroid_theory.specs.Level.{followed_by, IsNormalised}
-use Rattle.matroid_theory.proofs.Agreement.{one_more}
-use Rattle.matroid_theory.proofs.Pairs.{pair}
+use Rattle.matroid_laws.proofs.Agreement.{one_more}
+use Rattle.matrix_lemmas.proofs.Pairs.{pair}
 use Rattle.extension.specs.Steps.{IsLead}
 use Rattle.extension.proofs.Nexts.{lead_of}
 use Rattle.extension.proofs.admissible.is_apart.Goals as goal

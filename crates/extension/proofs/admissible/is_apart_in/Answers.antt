@@ -4,8 +4,8 @@ use Rattle.std.proofs.lemmas.Bool.{false≢true}
 use Rattle.matroid_theory.specs.Rep.{size}
 use Rattle.matroid_theory.specs.Matroid.{IsIndependentIn}
 use Rattle.matroid_theory.specs.Level.{followed_by}
-use Rattle.matroid_theory.proofs.Agreement.{one_more}
-use Rattle.matroid_theory.proofs.Pairs.{pair}
+use Rattle.matroid_laws.proofs.Agreement.{one_more}
+use Rattle.matrix_lemmas.proofs.Pairs.{pair}
 use Rattle.extension.proofs.Parallel.{new_rows, new_column, old_column, multiple_parallel, apart_parallel}
 use Rattle.extension.proofs.admissible.is_apart_in.Goals as goal
 

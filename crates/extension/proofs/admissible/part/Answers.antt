@@ -3,7 +3,7 @@ use Rattle.std.specs.List.{slice_index, range_with_len}
 use Rattle.std.proofs.lemmas.List.FromFn.{map-range_with_len_more}
 use Rattle.matroid_theory.specs.Rep.{Rep, size, count, matrix}
 use Rattle.matroid_theory.specs.Level.{followed_by}
-use Rattle.matroid_theory.proofs.Followed.{matrix_last}
+use Rattle.matroid_laws.proofs.Followed.{matrix_last}
 use Rattle.product_rep.proofs.PiecesLemmas.{room}
 use Rattle.extension.proofs.admissible.part.Goals as goal
 

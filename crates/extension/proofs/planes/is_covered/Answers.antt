@@ -3,7 +3,7 @@ use Rattle.std.proofs.lemmas.Bool.{false≢true}
 use mathlib.Core.Bool.{true≢false}
 use Rattle.matroid_theory.specs.Rep.{size}
 use Rattle.matroid_theory.specs.Matroid.{members}
-use Rattle.matroid_theory.proofs.MaskCounts.{size-members}
+use Rattle.matrix_lemmas.proofs.MaskCounts.{size-members}
 use Rattle.bases.proofs.Factors.{independent_same}
 use Rattle.extension.proofs.planes.is_covered.Goals as goal
 

@@ -1,6 +1,6 @@
 use Rattle.std.proofs.Common.{◌≡◌, ℕ, List, length, slice_index, sym, ◌∙◌, ap, arith, refl}
 use Rattle.matroid_theory.specs.Rep.{count}
-use Rattle.matroid_theory.proofs.Agreement.{one_more}
+use Rattle.matroid_laws.proofs.Agreement.{one_more}
 use Rattle.elimination.specs.Columns.{column}
 use Rattle.extension.specs.Planes.{LiesOnIn}
 use Rattle.extension.proofs.PlaneLemmas.{read_column, part_rows, row_codes, part_codes, product_is}

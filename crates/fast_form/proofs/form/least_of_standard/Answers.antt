@@ -1,7 +1,7 @@
 use Rattle.std.proofs.Common.{sym, subst}
 use Rattle.matroid_theory.specs.declared.Mode.TheVariants.{Linear}
 use Rattle.matroid_theory.specs.Order.{IsForm}
-use Rattle.matroid_theory.proofs.Equivalence.{equivalent-reflexive}
+use Rattle.matroid_laws.proofs.Equivalence.{equivalent-reflexive}
 use Rattle.form_search.proofs.Finish.{found_form, some_form}
 use Rattle.form_states.proofs.Shapes.{shaped, whole}
 use Rattle.fast_form.proofs.form.least_of_standard.Goals as goal

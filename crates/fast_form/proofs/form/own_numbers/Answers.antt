@@ -4,7 +4,7 @@ use Rattle.std.proofs.Math.Nat.{mod-lt}
 use Rattle.std.proofs.Math.Seq.{ext_get_or, get_or-append_seam}
 use Rattle.std.proofs.Math.ListN.{get_or-append}
 use Rattle.matroid_theory.specs.Rep.{Rep, count, size, matrix}
-use Rattle.matroid_theory.proofs.First.{row_below}
+use Rattle.matroid_laws.proofs.First.{row_below}
 use Rattle.form_trails.specs.Least.{number}
 use Rattle.form_trails.specs.Numbers.{weighed}
 use Rattle.form_search.specs.Search.{numbers_of}

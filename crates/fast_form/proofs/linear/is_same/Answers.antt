@@ -2,8 +2,8 @@ use Rattle.std.proofs.Common.{sym, ◌∙◌, ap, subst}
 use Rattle.std.proofs.lemmas.Cmp.{tied_itself}
 use Rattle.matroid_theory.specs.declared.Mode.TheVariants.{Linear}
 use Rattle.matroid_theory.specs.Order.{rep_cmp, IsForm}
-use Rattle.matroid_theory.proofs.Forms.{one_form}
-use Rattle.matroid_theory.proofs.Levels.{columns_total, rep_cmp-equal}
+use Rattle.matroid_laws.proofs.Forms.{one_form}
+use Rattle.matroid_laws.proofs.Levels.{columns_total, rep_cmp-equal}
 use Rattle.fast_form.proofs.linear.is_same.Goals as goal
 
 pub returns : goal.returns

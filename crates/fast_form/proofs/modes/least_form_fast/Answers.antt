@@ -1,7 +1,7 @@
 use Rattle.std.proofs.Common.{sym, subst}
 use Rattle.matroid_theory.specs.declared.Mode.{Mode}
 use Rattle.matroid_theory.specs.Order.{IsForm}
-use Rattle.matroid_theory.proofs.Semilinear.{least_semilinear}
+use Rattle.matroid_laws.proofs.Semilinear.{least_semilinear}
 use Rattle.fast_form.proofs.modes.least_form_fast.Goals as goal
 
 pub returns-in-Semilinear-clause-form : goal.returns-in-Semilinear-clause-form

@@ -2,7 +2,7 @@ use Rattle.std.proofs.Common.{◌≡◌, ◌≢◌, ◌<◌, ℕ, true, List, le
 use mathlib.Core.Bool.{true≢false}
 use Rattle.matroid_theory.specs.Field.{degree}
 use Rattle.matroid_theory.specs.Rep.{Shape, count, order}
-use Rattle.matroid_theory.proofs.Semilinear.{raised_agrees, raised_standard, factor_below, power_below}
+use Rattle.matroid_laws.proofs.Semilinear.{raised_agrees, raised_standard, factor_below, power_below}
 use Rattle.fast_form.proofs.OwnForms.{one_power, not_one_power}
 use Rattle.fast_form.proofs.own.+is_least_from.Goals as goal
 

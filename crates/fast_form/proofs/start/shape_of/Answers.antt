@@ -1,7 +1,7 @@
 use Rattle.std.proofs.Common.{◌≡◌, ◌<◌, ◌≤◌, ◌∷◌, [], ℕ, List, length, slice_index, sym, ◌∙◌, ap, subst, arith}
 use Rattle.matroid_theory.specs.Field.{IsOrder}
 use Rattle.matroid_theory.specs.Rep.{count, order}
-use Rattle.matroid_theory.proofs.FieldLaws.{field_laws, order_most}
+use Rattle.matrix_lemmas.proofs.FieldLaws.{field_laws, order_most}
 use Rattle.form_states.proofs.Shapes.{by_three}
 use Rattle.fast_form.proofs.start.shape_of.Goals as goal
 

@@ -1,6 +1,6 @@
 use Rattle.std.proofs.Common.{◌≡◌, zero, sym, ◌∙◌, ap, arith}
 use Rattle.matroid_theory.specs.Field.{times}
-use Rattle.matroid_theory.proofs.Sums.{times_zero}
+use Rattle.matrix_lemmas.proofs.Sums.{times_zero}
 use Rattle.form_states.proofs.codes.inverse_in.Goals as goal
 
 pub returns-else-a-eq0-clause-nonzero : goal.returns-else-a-eq0-clause-nonzero

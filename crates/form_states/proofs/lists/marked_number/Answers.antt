@@ -1,7 +1,7 @@
 use Rattle.std.proofs.Common.{◌<◌, ◌*◌, ◌/◌, ◌%◌, ◌∙◌, ℕ, List, slice_index, ap, arith}
 use Rattle.std.proofs.Math.Nat.{mod-lt}
 use Rattle.matroid_theory.specs.Field.{times}
-use Rattle.matroid_theory.proofs.First.{row_below}
+use Rattle.matroid_laws.proofs.First.{row_below}
 use Rattle.form_trails.proofs.Numbers.{weighed_same}
 use Rattle.form_states.specs.Codes.{code}
 use Rattle.form_states.proofs.GroupSteps.{scaled_same}

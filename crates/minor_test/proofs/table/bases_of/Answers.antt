@@ -3,7 +3,7 @@ use Rattle.std.specs.Bool.{◌==◌}
 use Rattle.std.proofs.lemmas.Bool.{false≢true, eqb-true, or_cases, or_left, or_right, cases_lt}
 use Rattle.matroid_theory.specs.Rep.{Rep, size}
 use Rattle.matroid_theory.specs.Matroid.{members, IsBasis}
-use Rattle.matroid_theory.proofs.Sums.{same_number}
+use Rattle.matrix_lemmas.proofs.Sums.{same_number}
 use Rattle.minor_test.specs.declared.table.Table.{Table}
 use Rattle.matroid_theory.specs.Tables.{has}
 use Rattle.minor_test.proofs.table.bases_of.Goals as goal

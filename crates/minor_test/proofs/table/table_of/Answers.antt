@@ -4,7 +4,7 @@ use Rattle.std.specs.List.{Contains}
 use Rattle.std.proofs.lemmas.Bool.{false≢true, eqb-true, or_cases, or_left, or_right}
 use Rattle.std.proofs.lemmas.List.{take_more, take_all}
 use Rattle.std.proofs.lemmas.List.Elements.{Contains-push, Contains-push_cases, Contains-append_left}
-use Rattle.matroid_theory.proofs.Sums.{same_number}
+use Rattle.matrix_lemmas.proofs.Sums.{same_number}
 use Rattle.matroid_theory.specs.Tables.{has}
 use Rattle.minor_test.proofs.table.table_of.Goals as goal
 

@@ -3,7 +3,7 @@ use Rattle.std.proofs.lemmas.Bool.{false≢true}
 use Rattle.matroid_theory.specs.Matrix.{size_below}
 use Rattle.matroid_theory.specs.Rep.{size, KeepsLimits}
 use Rattle.matroid_theory.specs.Matroid.{members}
-use Rattle.matroid_theory.proofs.Masks.{mask, mask-below}
+use Rattle.matrix_lemmas.proofs.Masks.{mask, mask-below}
 use Rattle.minor_test.proofs.Embeddings.{room, contracted_mask}
 use Rattle.minor_test.proofs.Reordered.{reordered}
 use Rattle.minor_test.proofs.test.has_minor.Goals as goal

@@ -4,7 +4,7 @@ use Rattle.std.proofs.lemmas.Bool.{false≢true}
 use Rattle.matroid_theory.specs.Rep.{size}
 use Rattle.matroid_theory.specs.Matrix.{size_below}
 use Rattle.matroid_theory.specs.Matroid.{members}
-use Rattle.matroid_theory.proofs.MaskCounts.{size-members}
+use Rattle.matrix_lemmas.proofs.MaskCounts.{size-members}
 use Rattle.minor_test.proofs.Answers.{same_answer, answers_same}
 use Rattle.minor_test.proofs.test.may_be_contracted.Goals as goal
 use Rattle.minor_test.proofs.test.may_be_contracted.Goals.{then-rank-contracted, else-rank-contracted}

@@ -3,7 +3,7 @@ use Rattle.std.proofs.lemmas.Bool.{false≢true, cases_lt}
 use Rattle.matroid_theory.specs.Matrix.{size_below}
 use Rattle.matroid_theory.specs.Matroid.{members}
 use Rattle.matroid_theory.specs.Minor.{Matroid}
-use Rattle.matroid_theory.proofs.Bases.{size_most}
+use Rattle.matrix_lemmas.proofs.Bases.{size_most}
 use Rattle.bases.specs.declared.factor.FactorColumns.{FactorColumns}
 use Rattle.column_sets.specs.Sets.{IsSetOfSize}
 use Rattle.represent.specs.declared.told.Place.{Place}

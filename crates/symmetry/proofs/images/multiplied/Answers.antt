@@ -1,6 +1,6 @@
 use Rattle.std.proofs.Common.{ℕ, List, ◌≡◌, ◌+◌, ◌*◌, ◌<◌, ◌≤◌, ◌%◌, ◌/◌, ◌∙◌, sym, ap, subst, slice_index, length}
 use Rattle.matroid_theory.specs.Field.{times, IsField, IsFactors}
-use Rattle.matroid_theory.proofs.FieldLaws.{field_laws}
+use Rattle.matrix_lemmas.proofs.FieldLaws.{field_laws}
 use Rattle.symmetry.specs.Images.{code_at}
 use Rattle.symmetry.proofs.Places.{pushed, code_below, made-at, placed, column_of_codes, filled}
 use Rattle.symmetry.proofs.images.multiplied.Goals as goal

@@ -1,6 +1,6 @@
 use Rattle.std.proofs.Common.{sym, subst}
 use Rattle.matroid_theory.specs.Move.{TakesTo, move_of}
-use Rattle.matroid_theory.proofs.Levels.{rep_cmp-equal}
+use Rattle.matroid_laws.proofs.Levels.{rep_cmp-equal}
 use Rattle.symmetry.proofs.single.stays.Goals as goal
 
 pub returns-in-Equal : goal.returns-in-Equal

@@ -1,4 +1,4 @@
-use Rattle.matroid_theory.proofs.MaskCounts.{size-members}
+use Rattle.matrix_lemmas.proofs.MaskCounts.{size-members}
 use Rattle.connectivity.proofs.side.Side.size.Goals as goal
 
 pub returns : goal.returns

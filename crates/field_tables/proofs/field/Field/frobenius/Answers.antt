@@ -1,6 +1,6 @@
 use Rattle.std.proofs.Common.{subst, sym, ap, ◌∙◌, ℕ, ◌<◌}
 use Rattle.matroid_theory.specs.Field.{IsOrder, IsField}
-use Rattle.matroid_theory.proofs.FieldLaws.{field_laws}
+use Rattle.matrix_lemmas.proofs.FieldLaws.{field_laws}
 use Rattle.field_tables.specs.declared.tables.TheConstants.{POWERS}
 use Rattle.field_tables.proofs.Entries.{place, powers}
 use Rattle.field_tables.proofs.field.Field.frobenius.Goals as goal

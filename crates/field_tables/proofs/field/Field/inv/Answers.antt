@@ -1,6 +1,6 @@
 use Rattle.std.proofs.Common.{subst, sym, ap, ◌∙◌, ℕ, ◌<◌}
 use Rattle.matroid_theory.specs.Field.{IsOrder, IsField, times}
-use Rattle.matroid_theory.proofs.FieldLaws.{field_laws}
+use Rattle.matrix_lemmas.proofs.FieldLaws.{field_laws}
 use Rattle.field_tables.specs.declared.tables.TheConstants.{INVERSES}
 use Rattle.field_tables.proofs.Entries.{place, inverses}
 use Rattle.field_tables.proofs.field.Field.inv.Goals as goal

@@ -1,6 +1,6 @@
 use Rattle.std.proofs.Common.{subst}
 use Rattle.matroid_theory.specs.Field.{IsOrder}
-use Rattle.matroid_theory.proofs.FieldLaws.{field_laws}
+use Rattle.matrix_lemmas.proofs.FieldLaws.{field_laws}
 use Rattle.field_tables.proofs.field.Field.laws.Goals as goal
 
 pub returns : goal.returns

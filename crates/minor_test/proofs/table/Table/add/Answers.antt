@@ -1,5 +1,5 @@
 use Rattle.std.proofs.Common.{refl, rules}
-use Rattle.matroid_theory.proofs.TableBits.{has_more}
+use Rattle.matrix_lemmas.proofs.TableBits.{has_more}
 use Rattle.minor_test.proofs.table.Table.add.Goals as goal
 
 pub returns : goal.returns

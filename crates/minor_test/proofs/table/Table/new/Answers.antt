@@ -1,4 +1,4 @@
-use Rattle.matroid_theory.proofs.TableBits.{has_none}
+use Rattle.matrix_lemmas.proofs.TableBits.{has_none}
 use Rattle.minor_test.proofs.table.Table.new.Goals as goal
 
 pub returns : goal.returns

@@ -2,8 +2,8 @@ use Rattle.std.proofs.Common.{◌≡◌, ◌<◌, ◌*◌, ◌+◌, ℕ, ◌≤�
 use Rattle.std.proofs.lemmas.List.{get_or-replicate, length-replicate}
 use Rattle.matroid_theory.specs.Field.{IsOrder, degree}
 use Rattle.matroid_theory.specs.Matrix.{unit}
-use Rattle.matroid_theory.proofs.Dimension.{unit_code}
-use Rattle.matroid_theory.proofs.FieldLaws.{field_laws}
+use Rattle.matrix_lemmas.proofs.Dimension.{unit_code}
+use Rattle.matrix_lemmas.proofs.FieldLaws.{field_laws}
 use Rattle.matroid_theory.specs.Rep.{Rep, size, count}
 use Rattle.product_rep.proofs.PiecesLemmas.{place_below}
 use Rattle.product_rep.proofs.IdentityLemmas.{identity_valid, identity_takes}

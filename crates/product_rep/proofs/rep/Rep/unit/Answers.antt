@@ -6,8 +6,8 @@ use Rattle.matroid_theory.specs.Field.{IsOrder, IsFactors}
 use Rattle.matroid_theory.specs.Matrix.{unit}
 use Rattle.matroid_theory.specs.Rep.{Rep, size, count, matrix, IsProductColumn}
 use Rattle.matroid_theory.specs.Level.{followed_by}
-use Rattle.matroid_theory.proofs.FieldLaws.{field_laws}
-use Rattle.matroid_theory.proofs.Followed.{matrix_before, matrix_last, size_followed}
+use Rattle.matrix_lemmas.proofs.FieldLaws.{field_laws}
+use Rattle.matroid_laws.proofs.Followed.{matrix_before, matrix_last, size_followed}
 use Rattle.product_rep.proofs.rep.Rep.unit.Goals as goal
 
 -- the entries of the identity matrix are below the order of each field

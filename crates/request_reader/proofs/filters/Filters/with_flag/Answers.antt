@@ -2,7 +2,7 @@ use Rattle.formats.proofs.KindCounts.{on_from_not}
 use Rattle.request_reader.proofs.FilterValues.{connected_new, three_new, cosimple_new, distinct_new, connected_again, three_again, cosimple_again, distinct_again}
 use Rattle.request_reader.proofs.filters.Filters.with_flag.Goals as goal
 use Rattle.request_reader.proofs.filters.Filters.with_flag.Goals.{in_default-via-in-Connected+else-not-self, in_default-via-in-Three+else-not-self-2, in_default-via-in-Cosimple+else-not-self-3, in_default-via-in-Distinct+else-not-self-4}
-use Rattle.matroid_theory.proofs.FieldLaws.{off_from_not}
+use Rattle.matrix_lemmas.proofs.FieldLaws.{off_from_not}
 
 pub returns-in-Connected : goal.returns-in-Connected
 returns-in-Connected c = λ es h. connected_new es c.args.self c.args.flag h c.in-Connected.is (off_from_not _ c.if-not-self.true)

@@ -2,8 +2,8 @@ use Rattle.std.proofs.Common.{◌≡◌, List, ℕ, sym, ◌∙◌, ap, subst}
 use Rattle.matroid_theory.specs.Rep.{IsShaped, IsProductColumn}
 use Rattle.matroid_theory.specs.Move.{AreEquivalent}
 use Rattle.matroid_theory.specs.Level.{followed_by}
-use Rattle.matroid_theory.proofs.Equivalence.{equivalent-reflexive, equivalent-transitive}
-use Rattle.matroid_theory.proofs.Followed.{shaped_pushed}
+use Rattle.matroid_laws.proofs.Equivalence.{equivalent-reflexive, equivalent-transitive}
+use Rattle.matroid_laws.proofs.Followed.{shaped_pushed}
 use Rattle.symmetry.specs.Symmetric.{MovesOf, IsImage}
 use Rattle.symmetry.proofs.several.Symmetries.least_image.Goals as goal
 

@@ -1,7 +1,7 @@
 use Rattle.std.proofs.Common.{◌≡◌, ◌<◌, ◌+◌, ◌*◌, ℕ, List, length, sym, ◌∙◌, ap, subst, slice_index}
 use Rattle.matroid_theory.specs.Field.{IsField}
 use Rattle.matroid_theory.specs.Move.{MoveTable}
-use Rattle.matroid_theory.proofs.FieldLaws.{field_laws}
+use Rattle.matrix_lemmas.proofs.FieldLaws.{field_laws}
 use Rattle.product_rep.proofs.PiecesLemmas.{place_below}
 use Rattle.symmetry.proofs.Copies.{mapped_is}
 use Rattle.symmetry.proofs.single.OpenMove.code.Goals as goal

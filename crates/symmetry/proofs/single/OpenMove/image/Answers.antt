@@ -1,7 +1,7 @@
 use Rattle.std.proofs.Common.{◌≡◌, ◌<◌, ℕ, List, length, subst, slice_index}
 use Rattle.matroid_theory.specs.Field.{times}
 use Rattle.matroid_theory.specs.Rep.{Rep, order, count, IsProductColumn}
-use Rattle.matroid_theory.proofs.FieldLaws.{field_laws}
+use Rattle.matrix_lemmas.proofs.FieldLaws.{field_laws}
 use Rattle.symmetry.specs.Images.{code_at, AreLeadScalars}
 use Rattle.symmetry.proofs.Symmetric.{column_of_shape, image_equivalent, image_ones}
 use Rattle.symmetry.proofs.single.OpenMove.image.Goals as goal

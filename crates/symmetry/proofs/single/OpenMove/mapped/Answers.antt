@@ -2,8 +2,8 @@ use Rattle.std.proofs.Common.{◌≡◌, ◌<◌, ◌≤◌, ◌*◌, ◌%◌, �
 use Rattle.matroid_theory.specs.Field.{IsField}
 use Rattle.matroid_theory.specs.Move.{MoveTable}
 use Rattle.matroid_theory.specs.Rep.{IsProductColumn}
-use Rattle.matroid_theory.proofs.FieldLaws.{field_laws}
-use Rattle.matroid_theory.proofs.Sums.{sum_below-code}
+use Rattle.matrix_lemmas.proofs.FieldLaws.{field_laws}
+use Rattle.matrix_lemmas.proofs.Sums.{sum_below-code}
 use Rattle.product_rep.specs.Tables.{KeepsMove}
 use Rattle.symmetry.specs.Images.{code_at, mapped}
 use Rattle.symmetry.proofs.Places.{made-at, column_of_codes, filled}

@@ -1,9 +1,0 @@
-use Rattle.matroid_theory.specs.Level.{IsLevelForm, Passes}
-use Rattle.matroid_theory.proofs.Levels.{rising_list_unique}
-use Rattle.matroid_theory.proofs.laws.one_level.Goals as goal
-
-pub returns-clause-level : goal.returns-clause-level
-returns-clause-level c = λ q n. rising_list_unique (IsLevelForm q n)
-
-pub returns-clause-listed : goal.returns-clause-listed
-returns-clause-listed c = λ q n filters. rising_list_unique (λ M. IsLevelForm q n M × Passes q n filters M)

@@ -1,5 +1,0 @@
-use Rattle.matroid_theory.proofs.GivenLemmas.{given_unique}
-use Rattle.matroid_theory.proofs.laws.one_matroid.Goals as goal
-
-pub returns : goal.returns
-returns c = given_unique

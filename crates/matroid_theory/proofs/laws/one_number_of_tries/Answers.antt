@@ -1,6 +1,0 @@
-use Rattle.matroid_theory.specs.Level.{IsTry}
-use Rattle.matroid_theory.proofs.Levels.{count_unique}
-use Rattle.matroid_theory.proofs.laws.one_number_of_tries.Goals as goal
-
-pub returns : goal.returns
-returns c = λ q n. count_unique (IsTry q n)
