@@ -2,14 +2,14 @@
 use Rattle.std.specs.Prelude.{ℕ, ◌≡◌, ◌⊎◌, List, Option, codes}
 use Rattle.matroid_theory.specs.Rep.{Rep}
 use Rattle.matroid_theory.specs.declared.Mode.TheVariants.{Linear}
-use Rattle.matroid_theory.specs.Minor.{Matroid}
+use Rattle.matroid_theory.specs.Minor.{Matroid, IsMatroidOf}
 use Rattle.matroid_theory.specs.Given.{IsGivenBy}
 use Rattle.formats.specs.Minors.{given_as}
 use Rattle.formats.specs.Listing.{form_text}
 use Rattle.formats.specs.Levels.{columns_of, IsProperFront}
 use Rattle.formats.specs.Run.{Gains}
 use Rattle.dual_theory.specs.Dual.{IsDualForm}
-use Rattle.dual_theory.specs.Represented.{IsMatroidOf, Represents, IsLeastOver}
+use Rattle.dual_theory.specs.Represented.{Represents, IsLeastOver}
 use Rattle.ask_formats.specs.Question.{Question, Dual, OverName, OverForm, Asks}
 
 unfoldable pub none_text : List ℕ

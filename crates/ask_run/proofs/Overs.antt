@@ -2,7 +2,7 @@
 use Rattle.std.proofs.Common.{◌≡◌, ◌↔◌, ℕ, ◌≤◌, refl, sym, ◌∙◌, ap, subst, arith, inl, inr, List, [], ◌∷◌, drop, length, Option, Some, None, Result, Err}
 use Rattle.std.specs.Prelude.{MatchOption, IfSome, IsNone, IsErrOf}
 use Rattle.matroid_theory.specs.Rep.{Rep}
-use Rattle.matroid_theory.specs.Minor.{Matroid}
+use Rattle.matroid_theory.specs.Minor.{Matroid, IsMatroidOf}
 use Rattle.matroid_theory.specs.Given.{IsGivenBy}
 use Rattle.matroid_laws.proofs.GivenLemmas.{given_unique}
 use Rattle.formats.specs.Statement.{MinorName, Uniform, IsMinorName, minor_words, elements_of}
@@ -13,7 +13,7 @@ use Rattle.formats.proofs.Unique.{minor_same}
 use Rattle.named_matroids.specs.declared.spelling.NameFault.{NameFault}
 use Rattle.named_matroids.specs.declared.spelling.NameFault.TheVariants.{TooBig, Unknown}
 use Rattle.named_matroids.specs.Names.{NamesTooBig, NamesNone}
-use Rattle.dual_theory.specs.Represented.{IsMatroidOf, Represents, IsLeastOver}
+use Rattle.dual_theory.specs.Represented.{Represents, IsLeastOver}
 use Rattle.ask_formats.specs.Places.{word_at}
 use Rattle.ask_formats.specs.Question.{Question, Dual, OverName, OverForm, Asks, MayBeSought}
 use Rattle.ask_formats.specs.Answer.{none_text, IsLineOver, IsAnswer}

@@ -7,7 +7,7 @@ use Rattle.std.proofs.lemmas.List.Kept.{AllPairs-from_increasing}
 use Rattle.std.proofs.Math.Nat.{two-pow-succ}
 use Rattle.matroid_theory.specs.Rep.{Rep, shape, count, size, order, IsStandard}
 use Rattle.matroid_theory.specs.Matroid.{members, IsBasis}
-use Rattle.matroid_theory.specs.Minor.{Matroid}
+use Rattle.matroid_theory.specs.Minor.{Matroid, IsMatroidOf}
 use Rattle.matroid_theory.specs.Order.{rep_cmp}
 use Rattle.matroid_theory.specs.declared.Mode.TheVariants.{Linear}
 use Rattle.matroid_theory.specs.Move.{Move, IsMove, TakesTo}
@@ -18,7 +18,7 @@ use Rattle.matroid_laws.proofs.Levels.{rep_cmp-reversed, rep_cmp-equal}
 use Rattle.matroid_laws.proofs.Carried.{basis_carried}
 use Rattle.matroid_laws.proofs.Built.{standard_each}
 use Rattle.matrix_lemmas.proofs.Orderings.{neither}
-use Rattle.dual_theory.specs.Represented.{IsMatroidOf, Represents, IsLeastOver}
+use Rattle.dual_theory.specs.Represented.{Represents, IsLeastOver}
 
 -- ---- the matroid of a representation
 

@@ -5,8 +5,8 @@ use Rattle.std.proofs.lemmas.Bool.{cases_lt}
 use Rattle.std.proofs.lemmas.List.{take_more}
 use Rattle.std.proofs.lemmas.Option.{slice_get_within}
 use Rattle.matroid_theory.specs.Rep.{Rep}
-use Rattle.matroid_theory.specs.Minor.{Matroid}
-use Rattle.level_driver.specs.Listed.{IsMatroidOf, AreMatroidsOf, IsFirst}
+use Rattle.matroid_theory.specs.Minor.{Matroid, IsMatroidOf}
+use Rattle.level_driver.specs.Listed.{AreMatroidsOf, IsFirst}
 use Rattle.level_driver.proofs.Earlier.{IsEarliest, earliest, first}
 
 module _ {X : Type 0} where

@@ -4,9 +4,9 @@ use Rattle.std.specs.Prelude.{◌↔◌, Contains}
 use Rattle.matroid_theory.specs.Rep.{Rep, size}
 use Rattle.matroid_theory.specs.Matroid.{members, IsBasis}
 use Rattle.matroid_theory.specs.Move.{ArePermutation}
-use Rattle.matroid_theory.specs.Minor.{Matroid, HaveSameMatroid}
+use Rattle.matroid_theory.specs.Minor.{Matroid, HaveSameMatroid, IsMatroidOf}
 use Rattle.matrix_lemmas.proofs.Masks.{mask, mask-below, members-mask, IsBasis-same}
-use Rattle.level_driver.specs.Listed.{IsMatroidOf, AreIsomorphic}
+use Rattle.level_driver.specs.Listed.{AreIsomorphic}
 
 module _ (M N : Rep) (A B : Matroid) (a : IsMatroidOf M A) (b : IsMatroidOf N B) where
   pub isomorphic : HaveSameMatroid M N → AreIsomorphic A B

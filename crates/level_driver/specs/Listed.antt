@@ -1,7 +1,7 @@
 -- Which forms of a level a request lists.
 use Rattle.std.specs.Prelude.{◌≡◌, ℕ, ◌<◌, List, length, slice_get, IsTrue, IfSome, Some}
-use Rattle.matroid_theory.specs.Rep.{Rep, size}
-use Rattle.matroid_theory.specs.Minor.{Matroid, AreBases, AreIsomorphicBy, IsMinor}
+use Rattle.matroid_theory.specs.Rep.{Rep}
+use Rattle.matroid_theory.specs.Minor.{Matroid, IsMatroidOf, AreIsomorphicBy, IsMinor}
 use Rattle.matroid_theory.specs.Connection.{IsConnected, Is3Connected, IsCosimple}
 use Rattle.matroid_theory.specs.Level.{Family, Filters, IsLevel, IsListed}
 use Rattle.formats.specs.Request.{Request}
@@ -18,12 +18,6 @@ pub record PassesAlone (filters : Filters) (M : Rep) : Type 0 where
   pub three : IsTrue filters.three → Is3Connected M
   pub cosimple : IsTrue filters.cosimple → IsCosimple M
   pub has : IfSome filters.has (λ N. IsMinor N M)
-
--- N is the matroid of the first factor of M
-pub record IsMatroidOf (M : Rep) (N : Matroid) : Type 0 where
-  pub ranks : N.rank ≡ M.rank
-  pub sizes : N.size ≡ size M
-  pub bases : AreBases M N.bases
 
 -- the matroid of each form, in their order
 pub record AreMatroidsOf (forms : List Rep) (matroids : List Matroid) : Type 0 where

@@ -18,6 +18,12 @@ pub record AreBases (M : Rep) (bases : List ℕ) : Type 0 where
   pub rising : IsStrictlyIncreasing bases
   pub exact : (X : ℕ) → Contains bases X ↔ ((X < 2 ^ size M) × IsBasis M 0 (members X))
 
+-- N is the matroid of the first factor of M
+pub record IsMatroidOf (M : Rep) (N : Matroid) : Type 0 where
+  pub ranks : N.rank ≡ M.rank
+  pub sizes : N.size ≡ size M
+  pub bases : AreBases M N.bases
+
 -- whether the test passes at some number below n
 abbrev pub any_below : ℕ → (ℕ → Bool) → Bool
 any_below zero p = false

@@ -11,10 +11,10 @@ use Rattle.matrix_lemmas.proofs.Bases.{size_most}
 use Rattle.named_matroids.specs.SmallMatroids.{IsSmallMatroid}
 use Rattle.std.proofs.lemmas.List.Elements.{All-contains}
 use Rattle.matroid_theory.specs.Matroid.{members, IsBasis}
-use Rattle.matroid_theory.specs.Minor.{Matroid, AreBases}
+use Rattle.matroid_theory.specs.Minor.{Matroid, AreBases, IsMatroidOf}
 use Rattle.matrix_lemmas.proofs.Masks.{IsBasis-same}
 use Rattle.matroid_laws.proofs.Rest.{units_basis}
-use Rattle.dual_theory.specs.Represented.{IsMatroidOf, IsBasedFirst}
+use Rattle.dual_theory.specs.Represented.{IsBasedFirst}
 use Rattle.dual_theory.proofs.Searches.{first_members}
 use Rattle.represent.specs.Sought.{IsSought}
 

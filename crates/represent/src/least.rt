@@ -3,8 +3,8 @@ ghost use Rattle.std.specs.Prelude.{◌≡◌, ◌≤◌, ◌<◌, ◌-◌, ◌^
 ghost use Rattle.std.specs.List.{Contains};
 ghost use Rattle.matroid_theory.specs.Rep.{Rep as Matrices, IsStandard};
 ghost use Rattle.matroid_theory.specs.Matroid.{Agrees};
-ghost use Rattle.matroid_theory.specs.Minor.{Matroid};
-ghost use Rattle.dual_theory.specs.Represented.{IsMatroidOf, Represents, IsLeastOver};
+ghost use Rattle.matroid_theory.specs.Minor.{Matroid, IsMatroidOf};
+ghost use Rattle.dual_theory.specs.Represented.{Represents, IsLeastOver};
 ghost use Rattle.represent.specs.Sought.{matroid_of, IsSought};
 
 use crate::fill::fill;

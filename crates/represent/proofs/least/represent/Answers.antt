@@ -1,7 +1,7 @@
 use Rattle.std.proofs.Common.{◌≡◌, ℕ, List, length, sym, subst}
 use Rattle.matroid_theory.specs.Rep.{Rep, size}
-use Rattle.matroid_theory.specs.Minor.{Matroid, AreBases}
-use Rattle.dual_theory.specs.Represented.{IsMatroidOf, Represents}
+use Rattle.matroid_theory.specs.Minor.{Matroid, AreBases, IsMatroidOf}
+use Rattle.dual_theory.specs.Represented.{Represents}
 use Rattle.dual_theory.proofs.Representations.{one_matroid}
 use Rattle.represent.proofs.Targets.{standard_sought}
 use Rattle.represent.proofs.least.represent.Goals as goal
