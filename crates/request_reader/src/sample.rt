@@ -8,7 +8,7 @@ ghost use Rattle.request_reader.specs.Samples.{where_named};
 
 use crate::filters::Filters;
 use crate::request::Request;
-use crate::version::Version;
+use request_lines::Version;
 use arrayvec::ArrayVec;
 use formats::PrintMode;
 use matroid_theory::Mode;

@@ -3,11 +3,12 @@ ghost use Rattle.matroid_theory.specs.Given.{IsGivenBy};
 ghost use Rattle.named_matroids.specs.Names.{named_by};
 ghost use Rattle.formats.specs.Statement.{Statement};
 ghost use Rattle.formats.specs.Minors.{given_as};
-ghost use Rattle.request_reader.specs.Said.{IsSaid, IsWrong, refusal_at};
+ghost use Rattle.request_lines.specs.Said.{IsSaid};
+ghost use Rattle.request_reader.specs.Wrongs.{IsWrong, refusal_at};
 ghost use Rattle.request_reader.specs.Values.{Holds};
 
 use crate::filters::Filters;
-use crate::line::{NamedMinor, Said};
+use request_lines::{NamedMinor, Said};
 use arrayvec::ArrayVec;
 use formats::{PrintMode, Refusal};
 use matroid_theory::Mode;
