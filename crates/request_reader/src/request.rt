@@ -11,12 +11,12 @@ ghost use Rattle.request_lines.specs.Versions.{version_number};
 
 use crate::columns::column_count;
 use crate::filters::Filters;
-use request_lines::Version;
 use arrayvec::ArrayVec;
 use formats::{PrintMode, Refusal};
 use matroid_theory::Mode;
 use named_matroids::MinorItem;
 use product_rep::Factors;
+use request_lines::Version;
 use std::marker::Model;
 
 const MOST_RANK: u32 = 6;

@@ -8,12 +8,12 @@ ghost use Rattle.request_reader.specs.Wrongs.{IsWrong, refusal_at};
 ghost use Rattle.request_reader.specs.Values.{Holds};
 
 use crate::filters::Filters;
-use request_lines::{NamedMinor, Said};
 use arrayvec::ArrayVec;
 use formats::{PrintMode, Refusal};
 use matroid_theory::Mode;
 use named_matroids::MinorItem;
 use product_rep::Factors;
+use request_lines::{NamedMinor, Said};
 
 /// What may be wrong with a line that has a form, after others.
 #[derive(Clone, Copy)]
