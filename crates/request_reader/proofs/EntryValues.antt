@@ -10,20 +10,21 @@ use Rattle.formats.specs.declared.refusal.PrintMode.{PrintMode}
 use Rattle.formats.specs.Statement.{Statement, VersionIs, RankIs, FieldIs, SizeIs, EquivalenceIs, Forbids, Prints, kind_number}
 use Rattle.formats.specs.Minors.{given_as}
 use Rattle.formats.specs.Request.{count_of_kind, rank_in, field_in, size_in, forbidden_in}
-use Rattle.request_reader.specs.declared.filters.Flag.{Flag}
-use Rattle.request_reader.specs.declared.filters.Flag.TheVariants as flag
-use Rattle.request_reader.specs.declared.filters.Filter.{Filter}
-use Rattle.request_reader.specs.declared.filters.Filter.TheVariants as filter
+use Rattle.request_lines.specs.declared.flags.Flag.{Flag}
+use Rattle.request_lines.specs.declared.flags.Flag.TheVariants as flag
+use Rattle.request_lines.specs.declared.flags.Filter.{Filter}
+use Rattle.request_lines.specs.declared.flags.Filter.TheVariants as filter
 use Rattle.request_reader.specs.declared.filters.Filters.{Filters}
 use Rattle.request_reader.specs.declared.values.Values.{Values}
 use Rattle.request_reader.specs.declared.values.Wrong.{Wrong}
 use Rattle.request_reader.specs.declared.values.Wrong.TheVariants as wrong
-use Rattle.request_reader.specs.declared.line.NamedMinor.{NamedMinor}
-use Rattle.request_reader.specs.declared.line.NamedMinor.TheVariants as minor
-use Rattle.request_reader.specs.declared.line.Said.{Said}
-use Rattle.request_reader.specs.declared.line.Said.TheVariants as said
+use Rattle.request_lines.specs.declared.line.NamedMinor.{NamedMinor}
+use Rattle.request_lines.specs.declared.line.NamedMinor.TheVariants as minor
+use Rattle.request_lines.specs.declared.line.Said.{Said}
+use Rattle.request_lines.specs.declared.line.Said.TheVariants as said
 use Rattle.request_reader.specs.Filters.{HoldsFilters, IsNewFilter}
-use Rattle.request_reader.specs.Said.{flag_entry, IsFilter, IsSaid, IsWrong}
+use Rattle.request_lines.specs.Said.{flag_entry, IsFilter, IsSaid}
+use Rattle.request_reader.specs.Wrongs.{IsWrong}
 use Rattle.request_reader.specs.Values.{Holds, print_in, mode_in}
 use Rattle.request_reader.proofs.EntryCounts.{print_count, mode_count, given_end}
 use Rattle.request_reader.proofs.FilterValues.{filters_kept}

@@ -7,17 +7,18 @@ use Rattle.named_matroids.specs.Names.{NamedMatroid, named_by, IsSmallName}
 use Rattle.formats.specs.Statement.{Statement, ListsConnected, ListsThreeConnected, ListsCosimple, ListsDistinct, ListsWith}
 use Rattle.formats.specs.Minors.{given_as}
 use Rattle.formats.specs.Request.{count_of_kind, wanted_in}
-use Rattle.request_reader.specs.declared.filters.Flag.{Flag}
-use Rattle.request_reader.specs.declared.filters.Flag.TheVariants as flag
-use Rattle.request_reader.specs.declared.filters.Filter.{Filter}
-use Rattle.request_reader.specs.declared.filters.Filter.TheVariants as filter
+use Rattle.request_lines.specs.declared.flags.Flag.{Flag}
+use Rattle.request_lines.specs.declared.flags.Flag.TheVariants as flag
+use Rattle.request_lines.specs.declared.flags.Filter.{Filter}
+use Rattle.request_lines.specs.declared.flags.Filter.TheVariants as filter
 use Rattle.request_reader.specs.declared.filters.Filters.{Filters}
-use Rattle.request_reader.specs.declared.line.NamedMinor.{NamedMinor}
-use Rattle.request_reader.specs.declared.line.NamedMinor.TheVariants as minor
+use Rattle.request_lines.specs.declared.line.NamedMinor.{NamedMinor}
+use Rattle.request_lines.specs.declared.line.NamedMinor.TheVariants as minor
 use Rattle.request_reader.specs.declared.values.Wrong.{Wrong}
 use Rattle.request_reader.specs.declared.values.Wrong.TheVariants as wrong
 use Rattle.request_reader.specs.Filters.{wanted_of, HoldsFilters, IsNewFilter}
-use Rattle.request_reader.specs.Said.{flag_entry, IsFilter, IsWrong}
+use Rattle.request_lines.specs.Said.{flag_entry, IsFilter}
+use Rattle.request_reader.specs.Wrongs.{IsWrong}
 use Rattle.formats.proofs.KindCounts.{of_kind, count_end, count_kept, wanted_count, values_end, values_kept, flag_again, value_again, none_there}
 
 -- an entry that is no filter changes none

@@ -10,7 +10,7 @@ use Rattle.formats.proofs.Unique.{statements_split}
 use Rattle.request_reader.specs.declared.values.Values.{Values}
 use Rattle.request_reader.specs.declared.values.Wrong.{Wrong}
 use Rattle.request_reader.specs.declared.values.Wrong.TheVariants as wrong
-use Rattle.request_reader.specs.Said.{IsWrong, refusal_at}
+use Rattle.request_reader.specs.Wrongs.{IsWrong, refusal_at}
 use Rattle.request_reader.specs.Values.{Holds, AreSaid}
 
 -- so many lines were read, they say entries with these values, and the rest is left

@@ -1,5 +1,5 @@
 -- The requests of the samples, and their texts.
-use Rattle.std.proofs.Common.{◌≡◌, ◌∙◌, ℕ, ◌+◌, ◌≤◌, ◌<◌, ◌/◌, ◌%◌, ◌==◌, Bool, true, false, List, [], ◌∷◌, ◌++◌, map, length, refl, ap, subst, arith, lit≤, lit<}
+use Rattle.std.proofs.Common.{◌≡◌, ◌∙◌, ℕ, ◌+◌, ◌≤◌, ◌/◌, ◌%◌, ◌==◌, Bool, true, false, List, [], ◌∷◌, ◌++◌, map, length, refl, ap, subst, arith, lit≤, lit<}
 use Rattle.std.specs.List.{AllByRecursion}
 use Rattle.formats.specs.declared.refusal.PrintMode.TheVariants.{Counts}
 use Rattle.formats.specs.Statement.{Statement, MinorName, Fano, FanoDual, KFour, KFive, VersionIs, RankIs, FieldIs, SizeIs, Forbids, Prints, IsMinorName, elements_of, order_of_minor}

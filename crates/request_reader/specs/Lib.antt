@@ -1,9 +1,6 @@
 pub mod Filters
 pub mod Limits
-pub mod Versions
 pub mod Requested
-pub mod Said
-pub mod Spellings
+pub mod Wrongs
 pub mod Values
-pub mod Matrices
 pub mod Samples

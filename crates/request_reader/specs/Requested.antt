@@ -10,7 +10,7 @@ use Rattle.formats.specs.Minors.{given_as}
 use Rattle.formats.specs.Levels.{AreGivenBy}
 use Rattle.formats.specs.Request.{Request, IsWithinLimits}
 use Rattle.request_reader.specs.Filters.{wanted_of, IsWantedGiven}
-use Rattle.request_reader.specs.Versions.{version_number}
+use Rattle.request_lines.specs.Versions.{version_number}
 use Rattle.request_reader.specs.declared.request.Asked.{Asked}
 use Rattle.request_reader.specs.declared.request.Request.TheInside.{Inside}
 

@@ -3,14 +3,15 @@ ghost use Rattle.matroid_theory.specs.Given.{IsGivenBy};
 ghost use Rattle.named_matroids.specs.Names.{NamedMatroid, named_by};
 ghost use Rattle.formats.specs.Statement.{Statement};
 ghost use Rattle.formats.specs.Minors.{given_as};
-ghost use Rattle.request_reader.specs.Spellings.{flag_word};
-ghost use Rattle.request_reader.specs.Said.{flag_entry, IsFilter, IsWrong};
+ghost use Rattle.request_lines.specs.Spellings.{flag_word};
+ghost use Rattle.request_lines.specs.Said.{flag_entry, IsFilter};
+ghost use Rattle.request_reader.specs.Wrongs.{IsWrong};
 ghost use Rattle.request_reader.specs.Filters.{HoldsFilters, IsNewFilter};
-ghost use Rattle.request_reader.specs.declared.filters.Flag.{Flag};
+ghost use Rattle.request_lines.specs.declared.flags.Flag.{Flag};
 
-use crate::line::NamedMinor;
 use crate::values::Wrong;
 use named_matroids::MinorItem;
+use request_lines::{Filter, Flag, NamedMinor};
 
 /// Which forms are listed: those that pass each filter that is set.
 #[derive(Drop)]
@@ -25,37 +26,6 @@ pub struct Filters {
     pub distinct: bool,
     /// Only those that have this matroid as a minor.
     pub has: Option<MinorItem>,
-}
-
-/// A filter without a minor.
-#[derive(Clone, Copy)]
-pub enum Flag {
-    Connected,
-    Three,
-    Cosimple,
-    Distinct,
-}
-
-/// What a line with a filter says.
-#[derive(Drop)]
-pub enum Filter {
-    Flag(Flag),
-    Has(NamedMinor),
-}
-
-/// The filter that a word spells.
-pub fn flag_of(word: &[u8]) -> Option<Flag>
-    ensures { MatchOption result
-        ((flag : Flag) → word.now ≡ flag_word flag → ⊥)
-        (λ flag. word.now ≡ flag_word flag) }
-{
-    match word {
-        b"connected" => Some(Flag::Connected),
-        b"3conn" => Some(Flag::Three),
-        b"cosimple" => Some(Flag::Cosimple),
-        b"distinct" => Some(Flag::Distinct),
-        _ => None,
-    }
 }
 
 impl Filters {

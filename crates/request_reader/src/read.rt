@@ -2,15 +2,13 @@ ghost use Rattle.std.specs.Prelude.{◌≡◌, ◌≤◌, length, IfOk, IfErr};
 ghost use Rattle.formats.specs.Request.{most_bytes, version_of as version_of_lem, StandsFor};
 ghost use Rattle.formats.specs.Refusal.{HasRefusal};
 ghost use Rattle.request_reader.specs.Values.{AreSaid};
-ghost use Rattle.request_reader.specs.Versions.{version_number};
+ghost use Rattle.request_lines.specs.Versions.{version_number};
 
-use crate::cut::{is_skipped_line, next_line};
-use crate::line::said_by;
 use crate::request::{Asked, Request, request_for};
 use crate::values::Values;
-use crate::version::{Version, version_of};
 use formats::{PrintMode, Refusal, Word};
 use matroid_theory::Mode;
+use request_lines::{Version, is_skipped_line, next_line, said_by, version_of};
 
 const MOST_BYTES: usize = 65_536;
 

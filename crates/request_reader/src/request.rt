@@ -7,16 +7,16 @@ ghost use Rattle.formats.specs.Request.{IsWithinLimits, IsSizeInRange};
 ghost use Rattle.request_reader.specs.Filters.{wanted_of, wanted_matroid, IsWantedGiven};
 ghost use Rattle.request_reader.specs.Requested.{asked_request, counting_request, minors_of, AreGiven, AreNames, IsRequestOfVersion};
 ghost use Rattle.request_reader.specs.Limits.{IsLate};
-ghost use Rattle.request_reader.specs.Versions.{version_number};
+ghost use Rattle.request_lines.specs.Versions.{version_number};
 
 use crate::columns::column_count;
 use crate::filters::Filters;
-use crate::version::Version;
 use arrayvec::ArrayVec;
 use formats::{PrintMode, Refusal};
 use matroid_theory::Mode;
 use named_matroids::MinorItem;
 use product_rep::Factors;
+use request_lines::Version;
 use std::marker::Model;
 
 const MOST_RANK: u32 = 6;

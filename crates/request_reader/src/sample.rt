@@ -8,12 +8,12 @@ ghost use Rattle.request_reader.specs.Samples.{where_named};
 
 use crate::filters::Filters;
 use crate::request::Request;
-use crate::version::Version;
 use arrayvec::ArrayVec;
 use formats::PrintMode;
 use matroid_theory::Mode;
 use named_matroids::{MinorItem, Spelling, item_of};
 use product_rep::Factors;
+use request_lines::Version;
 
 /// The request of a number from 0 to 15: the counts of rank 4 over GF(2) to size 15, where the bits of the number, from the
 /// lowest, forbid `F7`, `F7*`, `K4` and `K5`.

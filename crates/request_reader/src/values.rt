@@ -3,16 +3,17 @@ ghost use Rattle.matroid_theory.specs.Given.{IsGivenBy};
 ghost use Rattle.named_matroids.specs.Names.{named_by};
 ghost use Rattle.formats.specs.Statement.{Statement};
 ghost use Rattle.formats.specs.Minors.{given_as};
-ghost use Rattle.request_reader.specs.Said.{IsSaid, IsWrong, refusal_at};
+ghost use Rattle.request_lines.specs.Said.{IsSaid};
+ghost use Rattle.request_reader.specs.Wrongs.{IsWrong, refusal_at};
 ghost use Rattle.request_reader.specs.Values.{Holds};
 
 use crate::filters::Filters;
-use crate::line::{NamedMinor, Said};
 use arrayvec::ArrayVec;
 use formats::{PrintMode, Refusal};
 use matroid_theory::Mode;
 use named_matroids::MinorItem;
 use product_rep::Factors;
+use request_lines::{NamedMinor, Said};
 
 /// What may be wrong with a line that has a form, after others.
 #[derive(Clone, Copy)]

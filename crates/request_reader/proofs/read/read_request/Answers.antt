@@ -1,7 +1,7 @@
 use Rattle.std.proofs.Common.{◌≡◌, subst}
 use Rattle.std.specs.Prelude.{IfOk}
 use Rattle.formats.specs.Request.{Request}
-use Rattle.request_reader.specs.Versions.{version_number}
+use Rattle.request_lines.specs.Versions.{version_number}
 use Rattle.request_reader.specs.Requested.{asked_request}
 use Rattle.request_reader.proofs.Outcomes.{request_from, accepted, refused, request_of_version, request_names}
 use Rattle.request_reader.proofs.read.read_request.Goals as goal

@@ -1,7 +1,7 @@
 use Rattle.std.proofs.Common.{◌≡◌, ◌∙◌, length, sym, subst, arith}
 use Rattle.std.proofs.lemmas.Bool.Decides.{nat_tests}
 use Rattle.formats.specs.Refusal.{HasRefusal}
-use Rattle.request_reader.specs.Versions.{version_number}
+use Rattle.request_lines.specs.Versions.{version_number}
 use Rattle.request_reader.proofs.LinesRead.{start_read, skip_line, say_line, wrong_line, all_read}
 use Rattle.request_reader.proofs.read.read_values.Goals as goal
 

@@ -1,5 +1,5 @@
 use Rattle.std.proofs.Common.{length}
-use Rattle.request_reader.specs.Versions.{version_number}
+use Rattle.request_lines.specs.Versions.{version_number}
 use Rattle.request_reader.proofs.LinesRead.{HasRead}
 use Rattle.request_reader.proofs.read.read_values.Given as goal
 

@@ -1,7 +1,7 @@
 use Rattle.std.proofs.Common.{◌≡◌, ◌∙◌, ◌<◌, [], ◌∷◌, ◌++◌, length, sym, ap, subst, arith}
 use Rattle.std.proofs.lemmas.Bool.Decides.{nat_tests}
-use Rattle.request_reader.specs.declared.line.NamedMinor.TheVariants.{Small}
-use Rattle.request_reader.specs.declared.line.Said.TheVariants.{Forbid}
+use Rattle.request_lines.specs.declared.line.NamedMinor.TheVariants.{Small}
+use Rattle.request_lines.specs.declared.line.Said.TheVariants.{Forbid}
 use Rattle.request_reader.specs.Values.{Holds}
 use Rattle.formats.proofs.KindCounts.{is_there, not_there}
 use Rattle.request_reader.proofs.EntryValues.{version_new, rank_new, field_new, size_new, forbid_new, filter_new, filter_wrong, print_new, mode_new, version_again, rank_again, field_again, size_again, ninth, too_big, print_again, mode_again}

@@ -1,0 +1,13 @@
+use Rattle.std.proofs.Common.{◌==◌, sym, arith}
+use Rattle.std.proofs.lemmas.List.Sums.{position_or_len_is}
+use Rattle.std.proofs.lemmas.Bool.Decides.{nat_tests}
+use Rattle.request_lines.proofs.cut.line_len.Goals as goal
+
+pub returns-clause-at : goal.returns-clause-at
+returns-clause-at c = sym
+    (position_or_len_is (λ b. b == 10) c.args.text.now _ 0 (omega arith) (λ k lt. c.loop-i.invariant k (omega arith))
+    (λ lt. absurd (omega arith)))
+
+pub returns-then-byte-eq10-clause-at : goal.returns-then-byte-eq10-clause-at
+returns-then-byte-eq10-clause-at c =
+    sym (position_or_len_is (λ b. b == 10) c.args.text.now _ 0 (omega arith) c.loop-i.invariant (λ lt. grind (arith, nat_tests)))

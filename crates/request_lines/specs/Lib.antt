@@ -1,0 +1,4 @@
+pub mod Versions
+pub mod Spellings
+pub mod Matrices
+pub mod Said
