@@ -33,7 +33,7 @@ members_or_mask X Y i = ap (λ b. b == 1) (bit_at_or X Y i) ∙ joined (bit_at X
 
 module _ (N : Matroid) (M : Rep) (C : ℕ) (below : C < 2 ^ size M) (tables : Tables) (t : AreTables N M tables) where
   -- the contracted set of an embedding is in a basis
-  pub in_basis : IsSmallMatroid N → (f : ℕ → ℕ) → IsMinorBy N M f (members C) → (X : ℕ) × (X < 2 ^ size M) × IsTrue (has tables.whole.words (bit_or C X))
+  pub in_basis : IsSmallMatroid N → (f : ℕ → ℕ) → IsMinorBy N M f (members C) → (X : ℕ) × (X < 2 ^ size M) × IsTrue (has tables.whole.now.words (bit_or C X))
   in_basis small f h = (
     X,
     mask-below (size M) S,
@@ -63,14 +63,14 @@ module _ (N : Matroid) (M : Rep) (C : ℕ) (below : C < 2 ^ size M) (tables : Ta
       with_mask i l = members_or_mask C X i ∙ ap (λ a. members C i || a) (members-mask (size M) S i l) ∙ again (image N.size f (members B) i) (members C i)
 
   -- and it is a basis exactly where the minor has the empty one
-  pub empty_alike : (f : ℕ → ℕ) → IsMinorBy N M f (members C) → has tables.minor.words 0 ≡ has tables.whole.words C
+  pub empty_alike : (f : ℕ → ℕ) → IsMinorBy N M f (members C) → has tables.minor.now.words 0 ≡ has tables.whole.now.words C
   empty_alike f h =
       let e : IsMinorBy (first N 0) M f (members C) = narrower N M 0 f (members C) (omega arith) h in
-      same_from_iff (has tables.minor.words 0) (has tables.whole.words C) (t.minor.exact 0 (lit< tt)) (t.whole.exact C below) (e.bases 0 (lit< tt))
+      same_from_iff (has tables.minor.now.words 0) (has tables.whole.now.words C) (t.minor.exact 0 (lit< tt)) (t.whole.exact C below) (e.bases 0 (lit< tt))
 
   -- so with none of the elements the search may begin
   pub begins : (images : Images) (sets : List ℕ) → images.list.items ≡ [] → images.used ≡ C → slice_index sets 0 ≡ C
-      → N.rank + size_below (size M) (members C) ≡ M.rank → has tables.minor.words 0 ≡ has tables.whole.words C →
+      → N.rank + size_below (size M) (members C) ≡ M.rank → has tables.minor.now.words 0 ≡ has tables.whole.now.words C →
       AreImagesOf N M C (length images.list.items) images sets
   begins images sets el eu es r e = subst (λ (n : ℕ). AreImagesOf N M C n images sets) (sym (ap (λ (xs : List ℕ). length xs) el)) (record {
     few = omega arith;
