@@ -1,5 +1,5 @@
 -- Planes: what tells, by one sum of products for each factor, whether a new column extends a set of columns to a basis.
-use Rattle.std.specs.Prelude.{ℕ, ◌+◌, ◌^◌, ◌<◌, ◌≡◌, ◌≢◌, ◌↔◌, ◌⊎◌, List, length, slice_index, true}
+use Rattle.std.specs.Prelude.{ℕ, ◌+◌, ◌^◌, ◌<◌, ◌≡◌, ◌≢◌, ◌↔◌, ◌⊎◌, List, length, slice_index, true, Option, Some, None}
 use Rattle.std.specs.List.{All, Contains}
 use Rattle.arrayvec.specs.ArrayVec.{ArrayVec}
 use Rattle.matroid_theory.specs.Field.{times}
@@ -9,6 +9,7 @@ use Rattle.matroid_theory.specs.Matroid.{members, IsIndependentIn}
 use Rattle.matroid_theory.specs.Level.{followed_by}
 use Rattle.elimination.specs.Columns.{column, IsColumn}
 use Rattle.extension.specs.declared.planes.Plane.{Plane}
+use Rattle.extension.specs.declared.planes.Planes.{Planes}
 
 -- the sum of the products of a row of r coefficients and column j
 abbrev pub product : ℕ → ℕ → List ℕ → Matrix → ℕ → ℕ
@@ -56,6 +57,11 @@ IsCovered M planes X = (¬ (IsIndependentIn M 0 (members X))) ⊎ ((plane : Plan
 pub record ArePlanes (M : Rep) (planes : List Plane) (from : ℕ) : Type 0 where
   pub each : All (IsPlane M) planes
   pub covered : (X : ℕ) → X < from → IsPlaneSet M X → IsCovered M planes X
+
+-- what is kept of the planes: nothing where there is one factor
+abbrev pub KnowsPlanes : Rep → Option Planes → Type 0
+KnowsPlanes M None = count M ≡ 1
+KnowsPlanes M (Some planes) = ArePlanes M planes.list.items planes.from
 
 -- M followed by v: v lies on the plane in every factor, or in none
 abbrev pub IsAlikeAt : Rep → List ℕ → Plane → Type 0

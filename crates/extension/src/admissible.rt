@@ -7,7 +7,7 @@ ghost use Rattle.matroid_theory.specs.Matroid.{members, IsIndependentIn, IsSimpl
 ghost use Rattle.matroid_theory.specs.Level.{followed_by, IsNormalised};
 ghost use Rattle.column_sets.specs.Picked.{IsIndependentSet};
 ghost use Rattle.extension.specs.Admissible.{IsAdmissible};
-ghost use Rattle.extension.specs.Planes.{ArePlanes};
+ghost use Rattle.extension.specs.Planes.{KnowsPlanes};
 ghost use Rattle.extension.specs.Steps.{with_new};
 
 use crate::agreement::is_alike_on;
@@ -20,12 +20,12 @@ use field_tables::{Column, Field, Mask};
 use product_rep::{ProductColumn, Rep};
 
 /// Whether the representation followed by a normalised column is simple and its factors agree.
-pub fn is_admissible(rep: &Rep, planes: &Planes, column: &ProductColumn) -> bool
+pub fn is_admissible(rep: &Rep, planes: &Option<Planes>, column: &ProductColumn) -> bool
     requires standard { IsStandard rep.now }
     requires simple { IsSimple rep.now }
     requires agrees { Agrees rep.now }
     requires room { size rep.now < 16 }
-    requires planes { ArePlanes rep.now planes.now.list.items planes.now.from }
+    requires planes { KnowsPlanes rep.now planes.now }
     requires normalised { IsNormalised rep.now.factors rep.now.rank column.now.items }
     ensures { IsTrue result ↔ IsAdmissible rep.now column.now.items }
 {
@@ -111,10 +111,10 @@ pub fn part(rep: &Rep, column: &ProductColumn, factor: usize) -> Column
 
 /// Whether each set of one column fewer than the rank is, together with the column, independent in every factor or in none:
 /// the planes tell, and where they don't cover all sets, these are tested one by one.
-fn is_alike(rep: &Rep, planes: &Planes, column: &ProductColumn) -> bool
+fn is_alike(rep: &Rep, planes: &Option<Planes>, column: &ProductColumn) -> bool
     requires agrees { Agrees rep.now }
     requires room { size rep.now < 16 }
-    requires planes { ArePlanes rep.now planes.now.list.items planes.now.from }
+    requires planes { KnowsPlanes rep.now planes.now }
     requires column { IsProductColumn rep.now.factors rep.now.rank column.now.items }
     ensures { IsTrue result ↔ ((X f : ℕ) → X < 2 ^ size rep.now → size_below (size rep.now) (members X) + 1 ≡ rep.now.rank →
         f < count rep.now →
@@ -122,9 +122,9 @@ fn is_alike(rep: &Rep, planes: &Planes, column: &ProductColumn) -> bool
         IsIndependentIn (followed_by rep.now column.now.items) f (with_new rep.now (members X)))) }
 {
     rep.laws();
-    if rep.factors().count() == 1 {
+    let Some(planes) = planes else {
         return true;
-    }
+    };
     is_alike_on(rep, planes.list.as_slice(), column) && is_alike_from(rep, planes.from, column)
 }
 

@@ -6,7 +6,7 @@ ghost use Rattle.matroid_theory.specs.Matrix.{size_below};
 ghost use Rattle.matroid_theory.specs.Rep.{size, count, order, column_of, KeepsLimits, IsStandard};
 ghost use Rattle.matroid_theory.specs.Matroid.{members, IsIndependentIn, Agrees};
 ghost use Rattle.bases.specs.FactorColumns.{IsFactorOf};
-ghost use Rattle.extension.specs.Planes.{IsNormal, IsPlaneSet, IsWithin, IsPlane, IsCovered, ArePlanes, LiesOn};
+ghost use Rattle.extension.specs.Planes.{IsNormal, IsPlaneSet, IsWithin, IsPlane, IsCovered, ArePlanes, KnowsPlanes, LiesOn};
 ghost use Rattle.extension.specs.declared.planes.Plane.{Plane};
 
 use crate::normals::normal;
@@ -30,17 +30,26 @@ pub struct Planes {
     pub from: u32,
 }
 
-/// The planes of a representation. One factor needs none, and of more than 512 the first are taken.
-pub fn planes_of(rep: &Rep) -> Planes
+/// The planes of a representation of more than one factor. One factor needs none.
+pub fn planes_of(rep: &Rep) -> Option<Planes>
     requires standard { IsStandard rep.now }
-    ensures planes { ArePlanes rep.now result.list.items result.from }
+    ensures { KnowsPlanes rep.now result }
+{
+    rep.laws();
+    if rep.factors().count() == 1 {
+        return None;
+    }
+    Some(first_planes(rep))
+}
+
+/// The planes of a representation: of more than 512 the first are taken.
+fn first_planes(rep: &Rep) -> Planes
+    requires standard { IsStandard rep.now }
+    ensures { ArePlanes rep.now result.list.items result.from }
 {
     rep.laws();
     let first = FactorColumns::of(rep, 0);
     let mut list = ArrayVec::new();
-    if rep.factors().count() == 1 {
-        return Planes { list, from: 0 };
-    }
     for set in 0..set_count(rep.size()) {
         if !is_covered(rep, &first, list.as_slice(), set as Mask) {
             let Some(plane) = plane_of(rep, set as Mask) else {

@@ -3,8 +3,8 @@ use Rattle.arrayvec.specs.ArrayVec.{ArrayVec}
 use Rattle.extension.specs.declared.planes.Plane.{Plane}
 use Rattle.extension.specs.Planes.{IsCovered, ArePlanes}
 use Rattle.extension.proofs.PlaneLemmas.{planes_kept, planes_pushed}
-use Rattle.extension.proofs.planes.planes_of.Goals as goal
-use Rattle.extension.proofs.planes.planes_of.Goals.{then-not-is_covered+in-Some+else-is_full, else-not-is_covered}
+use Rattle.extension.proofs.planes.first_planes.Goals as goal
+use Rattle.extension.proofs.planes.first_planes.Goals.{then-not-is_covered+in-Some+else-is_full, else-not-is_covered}
 
 pub loop-set-preserved : goal.loop-set-preserved
 loop-set-preserved c = elim c.if-not-is_covered.branch [

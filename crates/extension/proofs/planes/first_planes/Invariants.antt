@@ -1,5 +1,5 @@
 use Rattle.extension.specs.Planes.{ArePlanes}
-use Rattle.extension.proofs.planes.planes_of.Given as goal
+use Rattle.extension.proofs.planes.first_planes.Given as goal
 
 -- the planes cover the sets before this one
 abbrev pub invariant-loop-set : goal.invariant-loop-set
