@@ -6,7 +6,7 @@ ghost use Rattle.extension.specs.Admissible.{IsNextColumn, IsLastColumn, GivesNe
 ghost use Rattle.extension.specs.Planes.{KnowsPlanes};
 ghost use Rattle.extension.specs.Steps.{IsStart, KeepsColumns};
 
-use crate::admissible::is_admissible;
+use crate::admissible::refused_rows;
 use crate::normalised::following;
 use crate::planes::{Planes, planes_of};
 use product_rep::{ProductColumn, Rep};
@@ -68,7 +68,8 @@ impl Iterator for Columns {
     }
 }
 
-/// The first admissible column after the last one.
+/// The first admissible column after the last one. After a column that is refused, those that are refused with it are
+/// passed over.
 fn next_column(rep: &Rep, planes: &Option<Planes>, last: &ProductColumn) -> Option<ProductColumn>
     requires keeps { KeepsColumns (record { parent = rep.now; last = last.now.items }) }
     requires planes { KnowsPlanes rep.now planes.now }
@@ -78,10 +79,12 @@ fn next_column(rep: &Rep, planes: &Option<Planes>, last: &ProductColumn) -> Opti
     let factors = rep.factors();
     let rank = rep.rank();
     let mut before: ProductColumn = list_of(last.as_slice());
-    while let Some(column) = following(&factors, rank, before.as_slice()) {
-        if is_admissible(rep, planes, &column) {
+    let mut rows = rank;
+    while let Some(column) = following(&factors, rank, rows, before.as_slice()) {
+        let Some(refused) = refused_rows(rep, planes, &column) else {
             return Some(column);
-        }
+        };
+        rows = refused;
         before = column;
     }
     None

@@ -3,7 +3,7 @@ use Rattle.std.proofs.lemmas.List.{take_all}
 use Rattle.std.proofs.lemmas.List.Elements.{All-more, All-same}
 use Rattle.extension.specs.declared.planes.Plane.{Plane}
 use Rattle.extension.specs.Planes.{IsAlikeAt}
-use Rattle.extension.proofs.agreement.is_alike_on.Goals as goal
+use Rattle.extension.proofs.agreement.refusing_rows.Goals as goal
 
 pub loop-plane-preserved : goal.loop-plane-preserved
 loop-plane-preserved c =
@@ -12,6 +12,6 @@ loop-plane-preserved c =
     (subst (λ (plane : Plane). IsAlikeAt c.args.rep.now c.args.new.now.items plane) c.plane-item.is
     (c.is_alike_at.ensures.0 c.if-not-is_alike_at.false))
 
-pub returns-clause-yes : goal.returns-clause-yes
-returns-clause-yes c = λ _. All-same (IsAlikeAt c.args.rep.now c.args.new.now.items) c.args.planes.now _
+pub returns : goal.returns
+returns c = All-same (IsAlikeAt c.args.rep.now c.args.new.now.items) c.args.planes.now _
     (sym (take_all c.loop-plane.plane-index c.args.planes.now c.loop-plane-test.false)) c.loop-plane.invariant

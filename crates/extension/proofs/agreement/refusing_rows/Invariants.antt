@@ -1,7 +1,7 @@
 use Rattle.std.proofs.Common.{take}
 use Rattle.std.specs.List.{All}
 use Rattle.extension.specs.Planes.{IsAlikeAt}
-use Rattle.extension.proofs.agreement.is_alike_on.Given as goal
+use Rattle.extension.proofs.agreement.refusing_rows.Given as goal
 
 -- the planes before this one
 abbrev pub invariant-loop-plane : goal.invariant-loop-plane
