@@ -1,7 +1,7 @@
 -- Lists of numbers in rising order, with repeats.
-use Rattle.std.proofs.Common.{◌≡◌, ◌≢◌, ℕ, zero, suc, ◌+◌, ◌<◌, ◌≤◌, sym, ◌∙◌, ap, ap₂, subst, refl, arith, Bool, true, false, List, [], ◌∷◌, length, inl, inr, ◌⊎◌}
+use Rattle.std.proofs.Common.{◌≡◌, ◌≢◌, ℕ, suc, ◌+◌, ◌<◌, ◌≤◌, sym, ◌∙◌, ap, ap₂, refl, arith, true, List, [], ◌∷◌, inl, inr}
 use Rattle.std.specs.Bool.{◌==◌}
-use Rattle.std.specs.List.{slice_index, slice_index_or, count_by}
+use Rattle.std.specs.List.{count_by}
 use Rattle.std.specs.List.Sorted.{IsNonDecreasing}
 use Rattle.std.proofs.lemmas.Bool.{cases_eq, cases_order}
 use Rattle.matrix_lemmas.proofs.Sums.{same_number, other_number}
