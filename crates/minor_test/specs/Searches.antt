@@ -3,6 +3,7 @@ use Rattle.std.specs.Prelude.{ℕ, ◌<◌, ◌≤◌, ◌≡◌, ◌+◌, ◌^�
 use Rattle.matroid_theory.specs.Rep.{Rep, size}
 use Rattle.matroid_theory.specs.Matroid.{members}
 use Rattle.matroid_theory.specs.Minor.{Matroid, image, IsMinorBy}
+use Rattle.bases.specs.FactorColumns.{IsFactorOf}
 use Rattle.minor_test.specs.declared.search.Tables.{Tables}
 use Rattle.minor_test.specs.declared.search.Images.{Images}
 use Rattle.matroid_theory.specs.Tables.{has}
@@ -17,10 +18,11 @@ first N k = record N { size = k }
 abbrev pub BeginsWith : List ℕ → (ℕ → ℕ) → Type 0
 BeginsWith images f = (x : ℕ) → x < length images → f x ≡ slice_index images x
 
--- the tables of the bases of both, and twins of N
+-- the tables of the bases of both, the columns of M, and twins of N
 pub record AreTables (N : Matroid) (M : Rep) (tables : Tables) : Type 0 where
   pub minor : HasMasks N.bases tables.minor.now.words
   pub whole : HasBases M tables.whole.now.words
+  pub columns : IsFactorOf M 0 tables.columns.now.field tables.columns.now.columns.items
   pub twins : AreTwinsOf N tables.twins.now.items
 
 -- f(X) together with C, for X a set of numbers below n

@@ -9,6 +9,7 @@ ghost use Rattle.minor_test.specs.Searches.{AgreeBelow, AreImages, AreTables, Be
 use crate::table::{FullTable, SmallTable};
 use crate::twins::Twins;
 use arrayvec::ArrayVec;
+use bases::FactorColumns;
 use column_sets::{in_set, set_count};
 use field_tables::Mask;
 use named_matroids::Minor;
@@ -20,6 +21,8 @@ use small_lists::{followed_by, list_of};
 pub struct Tables<'a> {
     pub minor: &'a SmallTable,
     pub whole: &'a FullTable,
+    /// The columns of the first factor of the whole.
+    pub columns: &'a FactorColumns,
     /// For each element of the minor a twin before it, if there is one.
     pub twins: &'a Twins,
 }

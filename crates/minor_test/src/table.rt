@@ -50,16 +50,16 @@ impl<const W: usize> Table<W> {
     }
 }
 
-/// The masks of the bases of the first factor.
-pub fn bases_of(rep: &Rep) -> FullTable
+/// The masks of the bases of the first factor, whose columns these are.
+pub fn bases_of(rep: &Rep, first: &FactorColumns) -> FullTable
+    requires { IsFactorOf rep.now 0 first.now.field first.now.columns.items }
     ensures { HasBases rep.now result.words }
 {
     rep.laws();
-    let first = FactorColumns::of(rep, 0);
     let mut table = FullTable::new();
     for set in 0..set_count(rep.size()) {
         let set = set as Mask;
-        if is_basis(rep, &first, set) {
+        if is_basis(rep, first, set) {
             table.add(set);
         }
     }

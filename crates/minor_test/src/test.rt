@@ -1,18 +1,18 @@
-ghost use Rattle.std.specs.Prelude.{◌≡◌, ◌<◌, ◌≤◌, ◌+◌, ◌^◌, ◌↔◌, ℕ, IsTrue, IsFalse, IsNone, IfSome, length, slice_index, bit_or};
+ghost use Rattle.std.specs.Prelude.{◌≡◌, ◌<◌, ◌≤◌, ◌+◌, ◌^◌, ◌↔◌, ℕ, IsTrue, IsFalse, IsNone, IfSome, length, slice_index};
 ghost use Rattle.matroid_theory.specs.Rep.{size};
-ghost use Rattle.matroid_theory.specs.Matroid.{members, Agrees};
+ghost use Rattle.matroid_theory.specs.Matroid.{members, Agrees, IsIndependentIn};
 ghost use Rattle.matroid_theory.specs.Matrix.{size_below};
 ghost use Rattle.matroid_theory.specs.Minor.{IsMinorBy, IsMinor};
 ghost use Rattle.matroid_theory.specs.Tables.{has};
+ghost use Rattle.bases.specs.FactorColumns.{IsFactorOf};
 ghost use Rattle.minor_test.specs.Twins.{KeepsOrder};
 ghost use Rattle.minor_test.specs.Searches.{AreTables};
 
 use crate::search::{Images, Tables, complete};
 use crate::sought::Sought;
-use crate::table::FullTable;
 use crate::whole::Whole;
 use arrayvec::ArrayVec;
-use column_sets::{first_set, set_count};
+use column_sets::set_count;
 use field_tables::Mask;
 use named_matroids::Minor;
 use product_rep::Rep;
@@ -51,6 +51,7 @@ pub fn find_minor(whole: &Whole, sought: &Sought) -> Option<Embedding>
     let tables = Tables {
         minor: sought.table(),
         whole: whole.table(),
+        columns: whole.columns(),
         twins: sought.twins(),
     };
     embed(whole.rep(), sought.minor(), &tables)
@@ -118,32 +119,18 @@ fn by_contracting(
     complete(rep, minor, tables, contracted, &images, sets)
 }
 
-/// Whether the set has as many elements as the rank falls by and is in a basis, and is one exactly where the minor has the
-/// empty basis.
+/// Whether the set has as many elements as the rank falls by and is independent, and is a basis exactly where the minor has the
+/// empty one. No other set need be contracted.
 fn may_be_contracted(rep: &Rep, minor: &Minor, tables: &Tables, contracted: Mask) -> bool
     requires rank { minor.now.rank ≤ rep.now.rank }
     requires set { contracted < 2 ^ size rep.now }
+    requires columns { IsFactorOf rep.now 0 tables.now.columns.now.field tables.now.columns.now.columns.items }
     ensures { IsTrue result ↔ ((minor.now.rank + size_below (size rep.now) (members contracted) ≡ rep.now.rank) ×
-        ((X : ℕ) × (X < 2 ^ size rep.now) × IsTrue (has tables.now.whole.now.words (bit_or contracted X))) ×
+        IsIndependentIn rep.now 0 (members contracted) ×
         (has tables.now.minor.now.words 0 ≡ has tables.now.whole.now.words contracted)) }
 {
     rep.laws();
     minor.rank() + contracted.count_ones() as usize == rep.rank()
-        && is_in_basis(rep, tables.whole, contracted)
+        && tables.columns.is_independent(contracted)
         && tables.minor.contains(0) == tables.whole.contains(contracted)
-}
-
-/// Whether the set with another one is in the table.
-fn is_in_basis(rep: &Rep, table: &FullTable, set: Mask) -> bool
-    ensures { IsTrue result ↔ ((X : ℕ) × (X < 2 ^ size rep.now) × IsTrue (has table.now.words (bit_or set X))) }
-{
-    rep.laws();
-    first_set(rep.size(), |other| has_both(table, set, other)).is_some()
-}
-
-/// Whether the two sets together are in the table.
-fn has_both(table: &FullTable, set: Mask, other: Mask) -> bool
-    ensures { result ≡ has table.now.words (bit_or set other) }
-{
-    table.contains(set | other)
 }

@@ -36,13 +36,15 @@ at_place bases items k e l = subst (λ (xs : List ℕ). Contains xs (slice_index
 
 pub contains-requires : goal.contains-requires
 contains-requires c =
-    let small : IsSmallMatroid c.args.minor.now = c.laws.ensures in
-    (lit< tt, in_table c.args.minor.now.size c.exchanged.result small.size_most
-    (c.exchanged.ensures.below c.args.minor.now.size c.requires.element
-    (All-contains (λ X. X < 2 ^ c.args.minor.now.size) c.args.minor.now.bases
-    (slice_index c.bases-basis-items.result.now c.loop-basis.basis-index) small.below
-    (at_place c.args.minor.now.bases c.bases-basis-items.result.now c.loop-basis.basis-index c.bases-basis-items.ensures
-    c.loop-basis-test.true))))
+    let small : IsSmallMatroid c.args.minor.now = c.laws.ensures in (
+      lit< tt,
+      in_table c.args.minor.now.size c.exchanged.result small.size_most
+          (c.exchanged.ensures.below c.args.minor.now.size c.requires.element
+          (All-contains (λ X. X < 2 ^ c.args.minor.now.size) c.args.minor.now.bases
+          (slice_index c.bases-basis-items.result.now c.loop-basis.basis-index) small.below
+          (at_place c.args.minor.now.bases c.bases-basis-items.result.now c.loop-basis.basis-index c.bases-basis-items.ensures
+          c.loop-basis-test.true))),
+    )
 
 pub returns-then-not-contains : goal.returns-then-not-contains
 returns-then-not-contains c = (
