@@ -13,10 +13,10 @@ use Rattle.matrix_lemmas.proofs.Lists.{here, there, rest_pairs, first_pairs}
 pub rising_apart : (xs : List ℕ) → IsStrictlyIncreasing xs → AllPairs (λ x y. x ≢ y) xs
 rising_apart xs h i j d l m = let b : slice_index_or xs i d < slice_index_or xs j d = AllPairs-from_increasing xs h i j d l m in λ e. omega arith
 
-count_yes : (P : ℕ → Bool) (x : ℕ) (xs : List ℕ) → P x ≡ true → count_by P (x ∷ xs) ≡ 1 + count_by P xs
+pub count_yes : (P : ℕ → Bool) (x : ℕ) (xs : List ℕ) → P x ≡ true → count_by P (x ∷ xs) ≡ 1 + count_by P xs
 count_yes P x xs e = sum_by-cons (λ z. cond (P z) 1 0) x xs ∙ ap (λ b. cond b 1 0 + count_by P xs) e
 
-count_no : (P : ℕ → Bool) (x : ℕ) (xs : List ℕ) → P x ≡ false → count_by P (x ∷ xs) ≡ 0 + count_by P xs
+pub count_no : (P : ℕ → Bool) (x : ℕ) (xs : List ℕ) → P x ≡ false → count_by P (x ∷ xs) ≡ 0 + count_by P xs
 count_no P x xs e = sum_by-cons (λ z. cond (P z) 1 0) x xs ∙ ap (λ b. cond b 1 0 + count_by P xs) e
 
 one_more : (Q : ℕ → Bool) (y x : ℕ) → y ≡ x → Q x ≡ true → ◌≡◌ {A = ℕ} (cond (Q y) 1 0) 1

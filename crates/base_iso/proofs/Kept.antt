@@ -15,6 +15,7 @@ use Rattle.bases.specs.BaseLists.{IsBaseList}
 use Rattle.base_iso.specs.Started.{Begins}
 use Rattle.base_iso.specs.Counted.{pair_count, row, AreDegrees, ArePairCounts, IsSquare, KeepsLastCounts, AreAlike}
 use Rattle.base_iso.proofs.Injections.{count_most, count_all, rising_apart}
+use Rattle.base_iso.proofs.Rising.{rising_same}
 use Rattle.base_iso.proofs.Inverses.{relabelled, relabelled-below, relabelled-members, relabelled_apart, inverse_isomorphism}
 
 -- the bases that pass P go one to one to bases that pass Q, where sets that pass P go to sets that pass Q
@@ -77,21 +78,30 @@ count_places P (x ∷ xs) =
     ∙ sym (size_first (length xs) (λ i. P (slice_index (x ∷ xs) i)))
     ∙ ap (λ n. size_below n (λ i. P (slice_index (x ∷ xs) i))) (let e : suc (length xs) ≡ length (x ∷ xs) = omega arith in e)
 
--- equally many elements of each degree
-pub degrees_kept : (M N : Matroid) (p u : ℕ → ℕ) → AreIsomorphicBy M N p u → IsBaseList M → IsBaseList N → (xs ys : List ℕ) →
-    AreDegrees M xs → AreDegrees N ys → (d : ℕ)
-    → count_by (λ x. x == d) xs ≡ count_by (λ x. x == d) ys
-degrees_kept M N p u h a b xs ys s t d =
+-- the diagonal of the pair counts has the degrees
+pub diagonal_counted : (M : Matroid) (rows : List (ArrayVec ℕ)) → ArePairCounts M rows → (xs : List ℕ) → length xs ≡ length rows →
+    ((i : ℕ) → i < length rows → slice_index xs i ≡ slice_index (row rows i) i) → (d : ℕ)
+    → count_by (λ x. x == d) xs ≡ size_below M.size (λ i. pair_count M.bases i i == d)
+diagonal_counted M rows r xs e at d =
+    let s : length rows ≡ M.size = r.elements in
     count_places (λ x. x == d) xs
-    ∙ ap (λ n. size_below n (λ i. slice_index xs i == d)) s.elements
-    ∙ size-same M.size (λ i. slice_index xs i == d) (λ i. slice_index ys (p i) == d)
-    (λ i l. ap (λ x. x == d) (s.counted i l ∙ pair_kept M N p u h a b i i l l ∙ sym (t.counted (p i) (below i l))))
-    ∙ size_relabelled M.size p u h.labels (λ j. slice_index ys j == d)
-    ∙ ap (λ n. size_below n (λ i. slice_index ys i == d)) (sym h.sizes ∙ sym t.elements)
-    ∙ sym (count_places (λ x. x == d) ys)
+    ∙ ap (λ n. size_below n (λ i. slice_index xs i == d)) (e ∙ s)
+    ∙ size-same M.size (λ i. slice_index xs i == d) (λ i. pair_count M.bases i i == d)
+    (λ i l. ap (λ x. x == d) (at i (omega arith) ∙ (let c = r.counts i l in c.counted i l)))
+
+-- the degrees are the same
+pub degrees_kept : (M N : Matroid) (p u : ℕ → ℕ) → AreIsomorphicBy M N p u → IsBaseList M → IsBaseList N → (xs ys : List ℕ) →
+    AreDegrees M xs → AreDegrees N ys → xs ≡ ys
+degrees_kept M N p u h a b xs ys s t = rising_same xs ys s.rising t.rising same
   where
-    below : (i : ℕ) → i < M.size → p i < N.size
-    below i l = let v = h.labels in subst (λ (n : ℕ). p i < n) (sym h.sizes) (v.below i l)
+    same : (d : ℕ) → count_by (λ x. x == d) xs ≡ count_by (λ x. x == d) ys
+    same d =
+        s.counted d
+        ∙ size-same M.size (λ i. pair_count M.bases i i == d) (λ i. pair_count N.bases (p i) (p i) == d)
+        (λ i l. ap (λ x. x == d) (pair_kept M N p u h a b i i l l))
+        ∙ size_relabelled M.size p u h.labels (λ j. pair_count N.bases j j == d)
+        ∙ ap (λ n. size_below n (λ i. pair_count N.bases i i == d)) (sym h.sizes)
+        ∙ sym (t.counted d)
 
 -- an isomorphism that gives the first elements these labels keeps the pair counts of the last one
 pub last_counts_kept : (M N : Matroid) (p u : ℕ → ℕ) → AreIsomorphicBy M N p u → IsBaseList M → IsBaseList N →

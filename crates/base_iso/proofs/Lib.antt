@@ -7,3 +7,4 @@ mod Cuts
 mod Images
 mod Searches
 mod Within
+mod Rising

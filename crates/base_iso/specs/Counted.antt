@@ -1,6 +1,8 @@
 -- How many bases hold given elements.
-use Rattle.std.specs.Prelude.{ℕ, ◌<◌, ◌≡◌, ◌-◌, ◌&&◌, List, [], length, slice_index, slice_index_or, count_by}
+use Rattle.std.specs.Prelude.{ℕ, ◌<◌, ◌≡◌, ◌-◌, ◌==◌, ◌&&◌, List, [], length, slice_index, slice_index_or, count_by}
+use Rattle.std.specs.List.Sorted.{IsNonDecreasing}
 use Rattle.arrayvec.specs.ArrayVec.{ArrayVec}
+use Rattle.matroid_theory.specs.Matrix.{size_below}
 use Rattle.matroid_theory.specs.Matroid.{members}
 use Rattle.matroid_theory.specs.Minor.{Matroid}
 
@@ -8,10 +10,10 @@ use Rattle.matroid_theory.specs.Minor.{Matroid}
 abbrev pub pair_count : List ℕ → ℕ → ℕ → ℕ
 pair_count bases i j = count_by (λ X. members X i && members X j) bases
 
--- for each element of M, in how many bases it lies
+-- for each element of M, in how many bases it lies, in rising order
 pub record AreDegrees (M : Matroid) (degrees : List ℕ) : Type 0 where
-  pub elements : length degrees ≡ M.size
-  pub counted : (i : ℕ) → i < M.size → slice_index degrees i ≡ pair_count M.bases i i
+  pub rising : IsNonDecreasing degrees
+  pub counted : (d : ℕ) → count_by (λ x. x == d) degrees ≡ size_below M.size (λ i. pair_count M.bases i i == d)
 
 -- for each element of M, in how many bases it lies together with i
 pub record ArePairCountsOf (M : Matroid) (i : ℕ) (counts : List ℕ) : Type 0 where
@@ -26,6 +28,11 @@ row rows i = (slice_index_or rows i (record { items = [] })).items
 pub record ArePairCounts (M : Matroid) (rows : List (ArrayVec ℕ)) : Type 0 where
   pub elements : length rows ≡ M.size
   pub counts : (i : ℕ) → i < M.size → ArePairCountsOf M i (row rows i)
+
+-- the pair counts and the degrees of the bases of M
+pub record AreCounts (M : Matroid) (rows : List (ArrayVec ℕ)) (numbers : List ℕ) : Type 0 where
+  pub pairs : ArePairCounts M rows
+  pub degrees : AreDegrees M numbers
 
 -- n rows of n numbers
 pub record IsSquare (n : ℕ) (rows : List (ArrayVec ℕ)) : Type 0 where

@@ -1,9 +1,9 @@
 //! How many bases hold given elements, which an isomorphism keeps.
-ghost use Rattle.std.specs.Prelude.{◌≡◌, ◌<◌, ◌==◌, ◌↔◌, ℕ, IsTrue, false, length, count_by};
-ghost use Rattle.matroid_theory.specs.Minor.{AreIsomorphicBy};
-ghost use Rattle.bases.specs.BaseLists.{IsBaseList};
+ghost use Rattle.std.specs.Prelude.{◌≡◌, ◌<◌, ◌↔◌, ℕ, IsTrue, false, length, slice_index};
+ghost use Rattle.std.specs.List.Sorted.{IsPermutation, IsNonDecreasing};
+ghost use Rattle.matroid_theory.specs.Minor.{Matroid, AreIsomorphicBy};
 ghost use Rattle.base_iso.specs.Started.{AreLabels};
-ghost use Rattle.base_iso.specs.Counted.{pair_count, AreDegrees, ArePairCountsOf, ArePairCounts, IsSquare, KeepsLastCounts, AreAlike};
+ghost use Rattle.base_iso.specs.Counted.{pair_count, row, AreDegrees, ArePairCountsOf, ArePairCounts, IsSquare, KeepsLastCounts, AreAlike};
 
 use arrayvec::ArrayVec;
 use bases::BaseList;
@@ -13,59 +13,47 @@ use field_tables::Mask;
 /// For each two elements, how many bases hold both.
 pub type PairCounts = ArrayVec<ArrayVec<usize, 16>, 16>;
 
-/// Whether ranks, sizes and numbers of bases are the same, and for each number equally many elements lie in so many bases.
-/// No others are isomorphic.
-pub fn may_be_isomorphic(a: &BaseList, b: &BaseList) -> bool
+/// For each element, how many bases hold it, in rising order.
+pub type Degrees = ArrayVec<usize, 16>;
+
+/// How many bases of one matroid hold given elements.
+#[derive(Drop)]
+pub struct Counts {
+    pub pairs: PairCounts,
+    pub degrees: Degrees,
+}
+
+impl Counts {
+    /// Those of the bases of this list.
+    pub fn of(list: &BaseList) -> Counts
+        ensures pairs { ArePairCounts list.now result.pairs.items }
+        ensures degrees { AreDegrees list.now result.degrees.items }
+    {
+        let pairs = pair_counts(list);
+        let degrees = degrees(&pairs);
+        Counts { pairs, degrees }
+    }
+}
+
+/// Whether ranks, sizes and numbers of bases are the same. No others are isomorphic.
+pub fn are_alike(a: &BaseList, b: &BaseList) -> bool
     ensures alike { IsTrue result → AreAlike a.now b.now }
     ensures others { result ≡ false → (p u : ℕ → ℕ) → ¬ (AreIsomorphicBy a.now b.now p u) }
 {
     a.laws();
     b.laws();
-    are_alike(a, b) && have_same_degrees(a, b)
+    have_same_numbers(a, b)
 }
 
 /// Whether ranks, sizes and numbers of bases are the same.
-fn are_alike(a: &BaseList, b: &BaseList) -> bool
+fn have_same_numbers(a: &BaseList, b: &BaseList) -> bool
     ensures { IsTrue result ↔ AreAlike a.now b.now }
 {
     a.rank() == b.rank() && a.size() == b.size() && a.bases().len() == b.bases().len()
 }
 
-/// Whether for each number equally many elements lie in so many bases.
-fn have_same_degrees(a: &BaseList, b: &BaseList) -> bool
-    ensures { result ≡ false → (p u : ℕ → ℕ) → ¬ (AreIsomorphicBy a.now b.now p u) }
-{
-    let of_a = degrees(a);
-    let of_b = degrees(b);
-    for degree in of_a.as_slice() {
-        if occurrences(of_a.as_slice(), *degree) != occurrences(of_b.as_slice(), *degree) {
-            return false;
-        }
-    }
-    true
-}
-
-/// For each element, how many bases hold it.
-fn degrees(list: &BaseList) -> ArrayVec<usize, 16>
-    ensures degrees { AreDegrees list.now result.items }
-    ensures is_base_list { IsBaseList list.now }
-{
-    let mut degrees = ArrayVec::new();
-    for i in 0..list.size() {
-        degrees.push(pair_count(list.bases(), i, i));
-    }
-    degrees
-}
-
-/// How often a number is in a list.
-fn occurrences(numbers: &[usize], number: usize) -> usize
-    ensures { result ≡ count_by (λ x. x == number) numbers.now }
-{
-    numbers.iter().filter(|x| **x == number).count()
-}
-
 /// For each two elements, how many bases hold both.
-pub fn pair_counts(list: &BaseList) -> PairCounts
+fn pair_counts(list: &BaseList) -> PairCounts
     ensures { ArePairCounts list.now result.items }
 {
     let mut rows = PairCounts::new();
@@ -97,6 +85,44 @@ fn pair_count(bases: &[Mask], i: u8, j: u8) -> usize
         .iter()
         .filter(|set| in_set(**set, usize::from(i)) && in_set(**set, usize::from(j)))
         .count()
+}
+
+/// For each element, how many bases hold it, in rising order, by the pair counts.
+fn degrees(pairs: &PairCounts) -> Degrees
+    requires { IsSquare (length pairs.now.items) pairs.now.items }
+    ensures { (M : Matroid) → ArePairCounts M pairs.now.items → AreDegrees M result.items }
+{
+    let mut degrees = diagonal(pairs);
+    sort(&mut degrees);
+    degrees
+}
+
+/// Row by row, the number at the row's own place.
+fn diagonal(pairs: &PairCounts) -> Degrees
+    requires { IsSquare (length pairs.now.items) pairs.now.items }
+    ensures elements { length result.items ≡ length pairs.now.items }
+    ensures at { (i : ℕ) → i < length pairs.now.items → slice_index result.items i ≡ slice_index (row pairs.now.items i) i }
+{
+    let mut numbers = Degrees::new();
+    for (i, row) in pairs.as_slice().iter().enumerate() {
+        numbers.push(row.as_slice()[i]);
+    }
+    numbers
+}
+
+/// Puts the numbers in rising order.
+fn sort(numbers: &mut Degrees)
+    ensures permutation { IsPermutation numbers.old.items numbers.new.items }
+    ensures rising { IsNonDecreasing numbers.new.items }
+{
+    numbers.as_mut_slice().sort_unstable();
+}
+
+/// Whether the degrees are the same: whether for each number equally many elements lie in so many bases.
+pub fn are_same(a: &Degrees, b: &Degrees) -> bool
+    ensures { IsTrue result ↔ (a.now.items ≡ b.now.items) }
+{
+    a.as_slice() == b.as_slice()
 }
 
 /// Whether the last element that has a label lies with each that has one in as many bases as their labels lie together.

@@ -2,11 +2,12 @@
 #![tactic(auto)]
 
 mod carried;
+mod compared;
 mod counts;
 mod search;
 
 use arrayvec::ArrayVec;
-pub use search::isomorphism;
+pub use compared::{Counted, isomorphism, isomorphism_of};
 
 /// Labels of at most 16 elements: where each goes.
 pub type Labels = ArrayVec<u8, 16>;

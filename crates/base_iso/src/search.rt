@@ -6,39 +6,21 @@ ghost use Rattle.base_iso.specs.Counted.{ArePairCounts, AreAlike};
 
 use crate::Labels;
 use crate::carried::{carries_last, keeps_count};
-use crate::counts::{PairCounts, keeps_last_counts, may_be_isomorphic, pair_counts};
+use crate::counts::{PairCounts, keeps_last_counts};
 use bases::BaseList;
 use small_lists::followed_by;
 
-/// A relabelling that carries the bases of the one matroid exactly to those of the other; none where there is none.
-pub fn isomorphism(a: &BaseList, b: &BaseList) -> Option<Labels>
-    ensures found { IfSome result (λ labels. (u : ℕ → ℕ) × AreIsomorphicBy a.now b.now (slice_index labels.items) u) }
-    ensures all { IfSome result (λ labels. length labels.items ≡ a.now.size) }
-    ensures none { IsNone result → (p u : ℕ → ℕ) → ¬ (AreIsomorphicBy a.now b.now p u) }
-{
-    a.laws();
-    if !may_be_isomorphic(a, b) {
-        return None;
-    }
-    let counts = Counts {
-        of_a: pair_counts(a),
-        of_b: pair_counts(b),
-    };
-    try_labels(a, b, &counts, Labels::new())
-}
-
-/// The pair counts of both matroids.
-#[derive(Drop)]
-struct Counts {
-    of_a: PairCounts,
-    of_b: PairCounts,
-}
-
-/// An isomorphism that gives the first elements these labels; none where there is none.
-fn try_labels(a: &BaseList, b: &BaseList, counts: &Counts, labels: Labels) -> Option<Labels>
+/// An isomorphism that gives the first elements these labels; none where there is none. The pair counts of both matroids are known.
+pub fn try_labels(
+    a: &BaseList,
+    b: &BaseList,
+    of_a: &PairCounts,
+    of_b: &PairCounts,
+    labels: Labels,
+) -> Option<Labels>
     requires alike { AreAlike a.now b.now }
-    requires of_a { ArePairCounts a.now counts.now.of_a.items }
-    requires of_b { ArePairCounts b.now counts.now.of_b.items }
+    requires of_a { ArePairCounts a.now of_a.now.items }
+    requires of_b { ArePairCounts b.now of_b.now.items }
     requires labels { AreLabels a.now.size labels.items }
     requires bases { CarriesBases a.now b.now labels.items }
     ensures found { IfSome result (λ found. (u : ℕ → ℕ) × AreIsomorphicBy a.now b.now (slice_index found.items) u) }
@@ -49,8 +31,8 @@ fn try_labels(a: &BaseList, b: &BaseList, counts: &Counts, labels: Labels) -> Op
         return Some(labels);
     }
     for label in 0..a.size() {
-        if let Some(longer) = extended(a, b, counts, &labels, label) {
-            if let Some(found) = try_labels(a, b, counts, longer) {
+        if let Some(longer) = extended(a, b, of_a, of_b, &labels, label) {
+            if let Some(found) = try_labels(a, b, of_a, of_b, longer) {
                 return Some(found);
             }
         }
@@ -62,13 +44,14 @@ fn try_labels(a: &BaseList, b: &BaseList, counts: &Counts, labels: Labels) -> Op
 fn extended(
     a: &BaseList,
     b: &BaseList,
-    counts: &Counts,
+    of_a: &PairCounts,
+    of_b: &PairCounts,
     labels: &Labels,
     label: u8,
 ) -> Option<Labels>
     requires alike { AreAlike a.now b.now }
-    requires of_a { ArePairCounts a.now counts.now.of_a.items }
-    requires of_b { ArePairCounts b.now counts.now.of_b.items }
+    requires of_a { ArePairCounts a.now of_a.now.items }
+    requires of_b { ArePairCounts b.now of_b.now.items }
     requires labels { AreLabels a.now.size labels.now.items }
     requires bases { CarriesBases a.now b.now labels.now.items }
     requires few { length labels.now.items < a.now.size }
@@ -83,7 +66,7 @@ fn extended(
         return None;
     }
     let longer: Labels = followed_by(labels.as_slice(), label);
-    if may_begin(a, b, counts, longer.as_slice()) {
+    if may_begin(a, b, of_a, of_b, longer.as_slice()) {
         Some(longer)
     } else {
         None
@@ -92,10 +75,16 @@ fn extended(
 
 /// Whether an isomorphism may give the first elements these labels, as far as the last of them tells: by its pair counts, by
 /// the number of bases of labelled elements, and by those of them that it is in.
-fn may_begin(a: &BaseList, b: &BaseList, counts: &Counts, labels: &[u8]) -> bool
+fn may_begin(
+    a: &BaseList,
+    b: &BaseList,
+    of_a: &PairCounts,
+    of_b: &PairCounts,
+    labels: &[u8],
+) -> bool
     requires alike { AreAlike a.now b.now }
-    requires of_a { ArePairCounts a.now counts.now.of_a.items }
-    requires of_b { ArePairCounts b.now counts.now.of_b.items }
+    requires of_a { ArePairCounts a.now of_a.now.items }
+    requires of_b { ArePairCounts b.now of_b.now.items }
     requires labels { AreLabels a.now.size labels.now }
     requires some { 0 < length labels.now }
     ensures bases { IsTrue result → CarriesLast a.now.bases b.now.bases labels.now }
@@ -103,7 +92,7 @@ fn may_begin(a: &BaseList, b: &BaseList, counts: &Counts, labels: &[u8]) -> bool
 {
     a.laws();
     b.laws();
-    keeps_last_counts(&counts.of_a, &counts.of_b, labels)
+    keeps_last_counts(of_a, of_b, labels)
         && keeps_count(a.bases(), b.bases(), labels)
         && carries_last(a.bases(), b.bases(), labels)
 }

@@ -12,7 +12,7 @@ use Rattle.std.proofs.lemmas.List.Sorted.{IsPermutation-keeps}
 use Rattle.matroid_theory.specs.declared.Mode.TheVariants.{Linear}
 use Rattle.matroid_theory.specs.Field.{plus, times, negative, inverse, raised, IsField}
 use Rattle.matroid_theory.specs.Matrix.{Matrix, combination, unit, IsIndependent}
-use Rattle.matroid_theory.specs.Rep.{Rep, shape, count, size, order, matrix, IsStandard, KeepsLimits}
+use Rattle.matroid_theory.specs.Rep.{Rep, shape, count, size, order, matrix, IsStandard, IsProductColumn, KeepsLimits}
 use Rattle.matroid_theory.specs.Move.{Move, ArePermutation, IsMove, TakesTo}
 use Rattle.matrix_lemmas.proofs.FieldLaws.{field_laws}
 use Rattle.matrix_lemmas.proofs.Sums.{plus_zero_right, sum_same, sum_plus, times_zero, same_number, other_number, combination-scaled}
@@ -21,11 +21,12 @@ use Rattle.matrix_lemmas.proofs.Steps.{Independent, all_coefficients}
 use Rattle.matroid_laws.proofs.Standard.{standard_by, set_of_independent}
 use Rattle.matroid_laws.proofs.Built.{standard_made}
 use Rattle.matrix_lemmas.proofs.Lists.{distinct_length}
+use Rattle.matrix_lemmas.proofs.Columns.{column_with, column_with-at, column_with_codes}
 use Rattle.matroid_theory.specs.Exchange.{exchange}
 use Rattle.matrix_lemmas.proofs.Exchanges.{exchange_one, exchange_two, exchange_other, exchanged_permutation}
 use Rattle.matrix_lemmas.proofs.Dimension.{times_unit_column}
 use Rattle.matroid_laws.proofs.First.{same_column}
-use Rattle.canonical_form.specs.Search.{later, chosen, IsOrderedBasis, AreScalars, AreOthers, AreCoordinates, IsScaled, IsCandidate, AreOfClass}
+use Rattle.canonical_form.specs.Search.{later, chosen, IsOrderedBasis, AreScalars, AreOthers, AreCoordinates, AreOtherCoordinates, IsCandidate, AreOfClass}
 use Rattle.canonical_form.proofs.Whole.{independent_same}
 
 -- ---- a list without repeats that has each number below n, and the places in it
@@ -154,11 +155,17 @@ module _ (q : ℕ) (F : IsField q) (r : ℕ) where
 
 -- ---- columns that are made of the basis, in any order
 
--- v is made of column k of M
+-- v has the coordinates of column k of M with its rows multiplied by the scalars, each factor scaled in some way
 record IsFrom (M : Rep) (basis scalars : List ℕ) (k : ℕ) (v : List ℕ) : Type 0 where
   pub coordinates : List ℕ
   pub are_coordinates : AreCoordinates M basis k coordinates
-  pub scaled : IsScaled M scalars coordinates v
+  pub column : IsProductColumn M.factors M.rank v
+  pub scale : ℕ → ℕ
+  pub scale_code : (f : ℕ) → f < count M → scale f < order M f
+  pub scale_nonzero : (f : ℕ) → f < count M → scale f ≢ 0
+  pub entries : (i f : ℕ) → i < M.rank → f < count M →
+      slice_index v (i * count M + f) ≡ times (order M f) (scale f)
+      (times (order M f) (slice_index scalars (i * count M + f)) (slice_index coordinates (i * count M + f)))
 
 IsFrom-same : (M : Rep) (basis scalars : List ℕ) (k k' : ℕ) (v v' : List ℕ) → k ≡ k' → v ≡ v' → IsFrom M basis scalars k v → IsFrom M basis scalars k' v'
 IsFrom-same M basis scalars k k' v v' e d h = subst (IsFrom M basis scalars k') d (subst (λ (x : ℕ). IsFrom M basis scalars x v) e h)
@@ -226,7 +233,7 @@ module _ (M : Rep) (basis scalars : List ℕ) (columns : List (List ℕ)) (h : K
   row_scalar_at f i = slice_index scalars (i * count M + f)
 
   scale_of : (f t : ℕ) → t < length columns → ℕ
-  scale_of f t l = let x = w.each t l in let y = x.scaled in y.scale f
+  scale_of f t l = let x = w.each t l in x.scale f
 
   scale : (f t : ℕ) → (t < length columns) ⊎ (length columns ≤ t) → ℕ
   scale f t (inl l) = scale_of f t l
@@ -269,13 +276,13 @@ module _ (M : Rep) (basis scalars : List ℕ) (columns : List (List ℕ)) (h : K
   unfolding row_scalar_at scale_of
   scalar_codes f j l = by_columns (λ j. column_scalar f j < order M f)
       (λ i m. let F = field f l in subst (λ (x : ℕ). x < order M f) (sym (first_scalar f i m)) (F.inverse_below (row_scalar_at f i) (g.column.codes i f m l)))
-      (λ t m. let c = later_scalar f t m in let x = w.each t c.0 in subst (λ (x : ℕ). x < order M f) (sym c.1) (x.scaled.scale_code f l)) j
+      (λ t m. let c = later_scalar f t m in let x = w.each t c.0 in subst (λ (x : ℕ). x < order M f) (sym c.1) (x.scale_code f l)) j
 
   scalar_nonzero : (f j : ℕ) → f < count M → j < size M → column_scalar f j ≢ 0
   unfolding row_scalar_at scale_of
   scalar_nonzero f j l = by_columns (λ j. column_scalar f j ≢ 0)
       (λ i m z. inverse_nonzero (order M f) (field f l) (row_scalar_at f i) (g.column.codes i f m l) (g.nonzero i f m l) (sym (first_scalar f i m) ∙ z))
-      (λ t m z. let c = later_scalar f t m in let x = w.each t c.0 in x.scaled.scale_nonzero f l (sym c.1 ∙ z)) j
+      (λ t m z. let c = later_scalar f t m in let x = w.each t c.0 in x.scale_nonzero f l (sym c.1 ∙ z)) j
 
   basis_set : (f : ℕ) → f < count M → IsIndependent (order M f) M.rank (size M) (matrix M f) (λ k. nat_lt (w.place k) M.rank)
   basis_set f l =
@@ -307,7 +314,7 @@ module _ (M : Rep) (basis scalars : List ℕ) (columns : List (List ℕ)) (h : K
         ∙ (λ z. times (order M f) (e z) (times (order M f) (inverse (order M f) (first_scalar f i n z)) (c i)))
         ∙ ap (λ y. times (order M f) (scale_of f t o') (times (order M f) y (c i)))
         (inverse_twice (order M f) F M.rank (row_scalar_at f i) (g.column.codes i f n l) (g.nonzero i f n l))
-        ∙ sym (x.scaled.entries i f n l)
+        ∙ sym (x.entries i f n l)
 
     later_columns : later N ≡ columns
     later_columns =
@@ -324,7 +331,7 @@ module _ (M : Rep) (basis scalars : List ℕ) (columns : List (List ℕ)) (h : K
             let x = w.each t l in
             let F = h.fields in
             same_column M.rank (count M) (slice_index_or N.columns (M.rank + t) []) (slice_index_or columns t [])
-            (takes.shaped.lengths (M.rank + t) (omega arith) ∙ ap (λ s. s.rank * length s.factors) takes.same_shape) x.scaled.column.rows F.some
+            (takes.shaped.lengths (M.rank + t) (omega arith) ∙ ap (λ s. s.rank * length s.factors) takes.same_shape) x.column.rows F.some
             (λ f i a n. ap (λ s. slice_index (slice_index_or N.columns (M.rank + t) []) (i * length s.factors + f)) (sym takes.same_shape) ∙ entry f i t a n l)
 
   of_class : AreOfClass M columns
@@ -411,15 +418,65 @@ module _ (M : Rep) (basis others : List ℕ) (h : KeepsLimits M) (b : IsOrderedB
         (sym (ap (λ (x : ℕ). slice_index (basis ++ others) (x + t)) (sym b.full) ∙ get_or-append-add basis others t 0)) refl (each t l);
   }
 
+-- the other columns, scaled, in any order
 pub candidate_made : (M : Rep) (basis scalars : List ℕ) (columns : List (List ℕ)) → KeepsLimits M → IsOrderedBasis M basis →
     AreScalars M scalars → IsCandidate M basis scalars columns → AreOfClass M columns
 candidate_made M basis scalars columns h b g c =
     of_class M basis scalars columns h b g (IsPermutation-keeps c.scaled (AreMade M basis scalars) in_order (made_exchanged M basis scalars) columns c.permuted)
   where
-    in_order : AreMade M basis scalars c.scaled
-    in_order =
+    each : (t : ℕ) → t < length c.scaled → IsFrom M basis scalars (slice_index c.are_coordinates.others t) (slice_index_or c.scaled t [])
+    each t l =
         let a = c.are_coordinates in
         let k : length c.scaled ≡ length c.coordinates = c.count_is in
         let n : length c.coordinates ≡ length a.others = a.count_is in
-        made_in_order M basis a.others h b a.are_others scalars c.scaled (k ∙ n)
-        (λ t l. record { coordinates = slice_index_or c.coordinates t []; are_coordinates = a.each t (omega arith); scaled = c.each t (omega arith) })
+        let s = c.each t (omega arith) in
+        record {
+          coordinates = slice_index_or c.coordinates t [];
+          are_coordinates = a.each t (omega arith);
+          column = s.column;
+          scale = s.scale;
+          scale_code = s.scale_code;
+          scale_nonzero = s.scale_nonzero;
+          entries = s.entries;
+        }
+
+    in_order : AreMade M basis scalars c.scaled
+    in_order = let a = c.are_coordinates in made_in_order M basis a.others h b a.are_others scalars c.scaled (c.count_is ∙ a.count_is) each
+
+-- the other columns as they are, with scalars that are all 1
+pub coordinates_made : (M : Rep) (basis : List ℕ) (columns : List (List ℕ)) → KeepsLimits M → IsOrderedBasis M basis →
+    AreOtherCoordinates M basis columns → AreOfClass M columns
+coordinates_made M basis columns h b a =
+    of_class M basis ones columns h b are_scalars (made_in_order M basis a.others h b a.are_others ones columns a.count_is each)
+  where
+    ones : List ℕ
+    ones = column_with M.rank (count M) (λ _ _. 1)
+
+    field_of : (f : ℕ) → f < count M → IsField (order M f)
+    field_of f l = field_laws (order M f) (h.shaped.orders f l)
+
+    one_at : (i f : ℕ) → i < M.rank → f < count M → slice_index ones (i * count M + f) ≡ 1
+    one_at i f l m = column_with-at M.rank (count M) (λ _ _. 1) f i l m
+
+    are_scalars : AreScalars M ones
+    are_scalars = record {
+      column = column_with_codes M.factors M.rank (λ _ _. 1) (λ f i l m. let F = field_of f l in F.two);
+      nonzero = λ i f l m z. (let e : 1 ≡ zero = sym (one_at i f l m) ∙ z in absurd (omega arith));
+    }
+
+    each : (t : ℕ) → t < length columns → IsFrom M basis ones (slice_index a.others t) (slice_index_or columns t [])
+    each t l =
+        let n : length columns ≡ length a.others = a.count_is in
+        let c = a.each t (omega arith) in
+        record {
+          coordinates = slice_index_or columns t [];
+          are_coordinates = c;
+          column = c.column;
+          scale = λ _. 1;
+          scale_code = λ f l. (let F = field_of f l in F.two);
+          scale_nonzero = λ f l z. absurd (omega arith);
+          entries = λ i f l m.
+              (let F = field_of f m in
+              sym (ap (times (order M f) 1) (ap (λ x. times (order M f) x (slice_index (slice_index_or columns t []) (i * count M + f))) (one_at i f l m)
+              ∙ F.times_one _ (c.column.codes i f l m)) ∙ F.times_one _ (c.column.codes i f l m)));
+        }

@@ -1,5 +1,5 @@
 -- What is reached from a representation, and the member of its class that is the form.
-use Rattle.std.proofs.Common.{◌≡◌, ◌≢◌, ℕ, ◌+◌, ◌<◌, ◌≤◌, refl, sym, ◌∙◌, ap, subst, arith, List, [], ◌++◌, length, take, drop, cond, inl, inr}
+use Rattle.std.proofs.Common.{◌≡◌, ◌≢◌, ℕ, ◌<◌, ◌≤◌, refl, sym, ◌∙◌, ap, subst, arith, List, [], ◌++◌, length, take, drop, cond, inl, inr}
 use Rattle.std.specs.Bool.{nat_lt}
 use Rattle.std.specs.List.{slice_index_or}
 use Rattle.std.specs.Cmp.Lexicographic.{slice_cmp}
@@ -180,7 +180,18 @@ same_later N P p s t s' t' e d =
     ∙ (λ i. first_columns_of N P p s t s' t' e i ++ (ap (λ s. drop s.rank P.columns) (sym e) ∙ d) i)
     ∙ take-append-drop N.rank N.columns)
 
--- a member of the class whose later columns are not above those of any standard member is its form
+-- a standard representation whose later columns are of the class is equivalent
+pub class_equivalent : (M N : Rep) (columns : List (List ℕ)) → KeepsLimits M → IsShaped N → shape N ≡ shape M → IsStandard N → later N ≡ columns
+    → AreOfClass M columns → AreEquivalent Linear M N
+class_equivalent M N columns h s e t d c = subst (AreEquivalent Linear M) member c.equivalent
+  where
+    some : 0 < count N
+    some = subst (λ s. 0 < length s.factors) (sym e) (let F = h.fields in F.some)
+
+    member : c.member ≡ N
+    member = let x = c.equivalent in same_later N c.member some s t x.takes.shaped c.standard (x.takes.same_shape ∙ sym e) (c.later_are ∙ sym d)
+
+-- and where its later columns are not above those of any standard member, it is the form
 pub class_form : (M N : Rep) (columns : List (List ℕ)) → KeepsLimits M → Agrees M → IsShaped N → shape N ≡ shape M → IsStandard N → later N ≡ columns
     → AreOfClass M columns
     → ((m : Move) (L : Rep) → Reaches M m L → columns_cmp columns (later L) ≢ Greater)
@@ -200,8 +211,5 @@ class_form M N columns h a s e t d c least = (
     some : 0 < count N
     some = subst (λ s. 0 < length s.factors) (sym e) (let F = h.fields in F.some)
 
-    member : c.member ≡ N
-    member = let x = c.equivalent in same_later N c.member some s t x.takes.shaped c.standard (x.takes.same_shape ∙ sym e) (c.later_are ∙ sym d)
-
     equivalent : AreEquivalent Linear M N
-    equivalent = subst (AreEquivalent Linear M) member c.equivalent
+    equivalent = class_equivalent M N columns h s e t d c

@@ -23,6 +23,10 @@ pub record Reaches (M : Rep) (m : Move) (N : Rep) : Type 0 where
 abbrev pub PicksFirst : List ℕ → Move → Type 0
 PicksFirst columns m = (i : ℕ) → i < length columns → m.label i ≡ slice_index columns i
 
+-- nothing is reached whose first columns come from these
+abbrev pub NoneBegins : Rep → List ℕ → Type 0
+NoneBegins M columns = (m : Move) (N : Rep) → Reaches M m N → ¬ (PicksFirst columns m)
+
 -- what the move multiplies row i of factor f by, against row 0
 abbrev pub row_scalar : Rep → Move → ℕ → ℕ → ℕ
 row_scalar M m f i = times (order M f) (m.scalar f 0) (inverse (order M f) (m.scalar f i))

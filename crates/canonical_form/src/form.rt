@@ -42,7 +42,7 @@ pub fn linear_form(rep: &Rep) -> Rep
 }
 
 /// The standard representation of that shape with these later columns.
-fn standard(rep: &Rep, columns: &ColumnList) -> Rep
+pub fn standard(rep: &Rep, columns: &ColumnList) -> Rep
     requires { AreOfClass rep.now columns.now }
     ensures shape { shape result ≡ shape rep.now }
     ensures shaped { IsShaped result }

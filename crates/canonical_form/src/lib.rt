@@ -10,5 +10,7 @@ mod form;
 mod powers;
 mod scalars;
 mod search;
+mod standard;
 
 pub use form::least_form;
+pub use standard::some_standard;

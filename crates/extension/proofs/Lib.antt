@@ -4,6 +4,6 @@ pub mod Values
 pub mod Followers
 pub mod Alike
 pub mod Parallel
-pub mod PlaneLemmas
 pub mod Nexts
+pub mod PlaneLemmas
 pub mod Runs

@@ -5,16 +5,17 @@ use Rattle.std.specs.Ordering.{nat_cmp}
 use Rattle.std.specs.declared.cmp.Ordering.TheVariants.{Less, Greater}
 use Rattle.std.proofs.lemmas.Bool.{cases_lt, cases_eq}
 use Rattle.std.proofs.lemmas.Nat.{div-mul-add, mod-mul-add, mul-add-lt}
+use Rattle.std.proofs.Math.Nat.{mul-le-mul, le_refl}
 use Rattle.matroid_theory.specs.Field.{IsFactors, IsField}
 use Rattle.matroid_theory.specs.Rep.{IsProductColumn}
 use Rattle.matroid_theory.specs.Level.{IsNormalised}
 use Rattle.matrix_lemmas.proofs.FieldLaws.{order_most, field_laws}
 use Rattle.matroid_laws.proofs.First.{whole, row_below}
-use Rattle.extension.specs.Steps.{IsStart, CanRise, IsLastRise, IsLead, IsRaised, IsNextNormalised, IsLastNormalised}
+use Rattle.extension.specs.Steps.{IsStart, CanRise, IsLastRise, IsLead, IsRaised, AgreeOnRows, IsNextNormalised, IsLastNormalised}
 use Rattle.extension.proofs.Places.{DiffersAt, first_difference, differing_less, not_greater}
 
 -- a place of an earlier row comes before a later row
-row_before : (a b c f : ℕ) → a < b → f < c → a * c + f < b * c
+pub row_before : (a b c f : ℕ) → a < b → f < c → a * c + f < b * c
 row_before a b c f l m = let h : a * c + f < c * b = mul-add-lt a c f b l m in omega arith
 
 module _ (factors : List ℕ) (fs : IsFactors factors) (rank : ℕ) where
@@ -91,11 +92,15 @@ module _ (factors : List ℕ) (fs : IsFactors factors) (rank : ℕ) where
     below = λ n. absurd (n z);
   }
 
-  -- where no place from m on can rise, a normalised column that agrees before m is nowhere above
-  at_most : (v w : List ℕ) (lead m : ℕ) → HasLead lead v → IsNormalised factors rank w →
-      ((p : ℕ) → m ≤ p → p < rank * count → ¬ (CanRise factors lead v p)) → ((p : ℕ) → p < m → slice_index v p ≡ slice_index w p) →
-      (p : ℕ) → p < rank * count → slice_index w p ≤ slice_index v p
-  at_most v w lead m h n none same p l =
+  -- the places of the first rows
+  pub places_most : (rows : ℕ) → rows ≤ rank → rows * count ≤ rank * count
+  places_most rows l = mul-le-mul l (le_refl count)
+
+  -- where no place from m up to a width can rise, a normalised column that agrees before m is nowhere above before the width
+  at_most : (v w : List ℕ) (lead m width : ℕ) → width ≤ rank * count → HasLead lead v → IsNormalised factors rank w →
+      ((p : ℕ) → m ≤ p → p < width → ¬ (CanRise factors lead v p)) → ((p : ℕ) → p < m → slice_index v p ≡ slice_index w p) →
+      (p : ℕ) → p < width → slice_index w p ≤ slice_index v p
+  at_most v w lead m width most h n none same p l =
       elim (cases_lt p m) [
         | inl b ↦ (let e : slice_index v p ≡ slice_index w p = same p b in omega arith)
         | inr g ↦ elim (cases_eq (p / count) lead) [
@@ -113,20 +118,21 @@ module _ (factors : List ℕ) (fs : IsFactors factors) (rank : ℕ) where
       ]
     where
       row : p / count < rank
-      row = row_below p count rank fs.some l
+      row = row_below p count rank fs.some (omega arith)
 
-      zero_row : (i : ℕ) → i < rank → i ≢ lead → slice_index v (i * count) ≡ 0 → slice_index w (i * count) ≡ 0
+      zero_row : (i : ℕ) → i ≤ p / count → i ≢ lead → slice_index v (i * count) ≡ 0 → slice_index w (i * count) ≡ 0
       zero_row i r ne z = elim (cases_lt (i * count) m) [
         | inl b ↦ sym (same (i * count) b) ∙ z
         | inr g ↦ absurd (none (i * count) g
-            (let k : i * count + 0 < rank * count = row_before i rank count 0 r fs.some in omega arith) (row_rises v lead i ne z))
+            (let k : i * count ≤ p / count * count = mul-le-mul r (le_refl count) in
+            let e : p / count * count + p % count ≡ p = whole p count fs.some in omega arith) (row_rises v lead i ne z))
       ]
 
       in_zero_row : p / count ≢ lead → slice_index v p ≡ 0 → slice_index w p ≡ 0
       in_zero_row ne z =
           let a : slice_index v (p / count * count) ≡ 0 = ap (slice_index v) (row_place (p / count))
           ∙ h.support (p / count) (p % count) 0 row (factor_below p) fs.some (at_place v p ∙ z) in
-          let b : slice_index w (p / count * count) ≡ 0 = zero_row (p / count) row ne a in
+          let b : slice_index w (p / count * count) ≡ 0 = zero_row (p / count) (le_refl (p / count)) ne a in
           sym (at_place w p) ∙ n.support (p / count) 0 (p % count) row fs.some (factor_below p) (ap (slice_index w) (sym (row_place (p / count))) ∙ b)
 
       in_lead : p / count ≡ lead → slice_index w p ≤ slice_index v p
@@ -134,7 +140,7 @@ module _ (factors : List ℕ) (fs : IsFactors factors) (rank : ℕ) where
           let r : lead < rank = subst (λ (x : ℕ). x < rank) e row in
           let o : slice_index v p ≡ 1 = sym (at_place v p) ∙ ap (λ x. slice_index v (x * count + p % count)) e ∙ h.ones r (p % count) (factor_below p) in
           elim (cases_lt n.lead lead) [
-            | inl b ↦ (let z : slice_index w (n.lead * count) ≡ 0 = zero_row n.lead n.lead_below (λ e. absurd (omega arith))
+            | inl b ↦ (let z : slice_index w (n.lead * count) ≡ 0 = zero_row n.lead (omega arith) (λ e. absurd (omega arith))
                 (ap (slice_index v) (row_place n.lead) ∙ h.zeros n.lead 0 b fs.some) in
                 let k : slice_index w (n.lead * count) ≡ 1 = ap (slice_index w) (row_place n.lead) ∙ n.ones 0 fs.some in absurd (omega arith))
             | inr g ↦ elim (cases_lt lead n.lead) [
@@ -162,12 +168,13 @@ module _ (factors : List ℕ) (fs : IsFactors factors) (rank : ℕ) where
 
   -- ---- the raised column is normalised
 
-  module _ (v s : List ℕ) (lead k : ℕ) (h : HasLead lead v) (last : IsLastRise factors (rank * count) lead v k) (r : IsRaised count (rank * count) k v s) where
+  module _ (v s : List ℕ) (lead k : ℕ) (h : HasLead lead v) (below : k < rank * count) (c : CanRise factors lead v k)
+      (r : IsRaised count (rank * count) k v s) where
     abbrev row : ℕ
     row = k / count
 
     row_rank : row < rank
-    row_rank = row_below k count rank fs.some last.place_below
+    row_rank = row_below k count rank fs.some below
 
     split : row * count + k % count ≡ k
     split = whole k count fs.some
@@ -201,7 +208,7 @@ module _ (factors : List ℕ) (fs : IsFactors factors) (rank : ℕ) where
     new_below : slice_index v k + 1 < slice_index factors (k % count)
     new_below = elim (cases_eq (slice_index v k) 0) [
       | inl z ↦ (let t : 1 < slice_index factors (k % count) = two (k % count) (factor_below k) in omega arith)
-      | inr n ↦ (let c : CanRise factors lead v k = last.can_rise in c.below n)
+      | inr n ↦ c.below n
     ]
 
     raised_code : (i f : ℕ) → i < rank → f < count → slice_index s (i * count + f) < slice_index factors f
@@ -230,7 +237,6 @@ module _ (factors : List ℕ) (fs : IsFactors factors) (rank : ℕ) where
     row_nonzero f l z = elim (own_row f l) [
       | inl w ↦ (let a : slice_index v (row * count + f) ≡ 0 = sym w.1 ∙ z in
           let b : slice_index v k ≡ 0 = sym (at_place v k) ∙ h.support row f (k % count) row_rank l (factor_below k) a in
-          let c : CanRise factors lead v k = last.can_rise in
           let d : k % count ≡ 0 = c.first b in
           let o : f < k % count = w.0 in
           absurd (omega arith))
@@ -257,7 +263,7 @@ module _ (factors : List ℕ) (fs : IsFactors factors) (rank : ℕ) where
     new_lead l f m =
         let z : slice_index v k ≡ 0 = sym (at_place v k) ∙ h.zeros row (k % count) l (factor_below k) in
         elim (own_row f m) [
-          | inl w ↦ (let c : CanRise factors lead v k = last.can_rise in let d : k % count ≡ 0 = c.first z in
+          | inl w ↦ (let d : k % count ≡ 0 = c.first z in
               let o : f < k % count = w.0 in absurd (omega arith))
           | inr o ↦ elim o [
             | inl w ↦ (let a : slice_index s (row * count + f) ≡ slice_index v k + 1 = w.1 in omega arith)
@@ -276,7 +282,6 @@ module _ (factors : List ℕ) (fs : IsFactors factors) (rank : ℕ) where
         support = raised_support;
       }
       | inr g ↦ (
-          let c : CanRise factors lead v k = last.can_rise in
           let ne : row ≢ lead = c.apart in
           let b : lead < row = omega arith in
           let m : row < rank = row_rank in
@@ -292,11 +297,10 @@ module _ (factors : List ℕ) (fs : IsFactors factors) (rank : ℕ) where
     ]
 
   -- a code that can rise is small
-  pub rise_small : (v : List ℕ) (lead k : ℕ) → IsLastRise factors (rank * count) lead v k → slice_index v k < 255
-  rise_small v lead k last = elim (cases_eq (slice_index v k) 0) [
+  pub rise_small : (v : List ℕ) (lead k : ℕ) → CanRise factors lead v k → slice_index v k < 255
+  rise_small v lead k c = elim (cases_eq (slice_index v k) 0) [
     | inl z ↦ omega arith
-    | inr n ↦ (let c : CanRise factors lead v k = last.can_rise in
-        let b : slice_index v k + 1 < slice_index factors (k % count) = c.below n in
+    | inr n ↦ (let b : slice_index v k + 1 < slice_index factors (k % count) = c.below n in
         let m : slice_index factors (k % count) ≤ 13 = order_most (slice_index factors (k % count)) (fs.fields (k % count) (factor_below k)) in omega arith)
   ]
 
@@ -320,28 +324,45 @@ module _ (factors : List ℕ) (fs : IsFactors factors) (rank : ℕ) where
     )
   ]
 
-  -- no column comes after one where no place can rise
-  pub last_normalised : (v : List ℕ) (lead : ℕ) → IsStart factors rank v → IsLead count rank v lead →
-      ((p : ℕ) → p < rank * count → ¬ (CanRise factors lead v p)) → IsLastNormalised factors rank v
-  last_normalised v lead s h none w n l =
+  -- columns that differ in the first rows differ there first
+  differs_early : (v w : List ℕ) (rows d : ℕ) → DiffersAt v w d → ¬ (AgreeOnRows count rows v w) → d < rows * count
+  differs_early v w rows d x n = elim (cases_lt d (rows * count)) [
+    | inl b ↦ b
+    | inr g ↦ absurd (n (λ p l. x.before p (omega arith)))
+  ]
+
+  -- a column that comes later differs somewhere
+  pub agree_nowhere : (v w : List ℕ) → IsStart factors rank v → IsNormalised factors rank w → slice_cmp nat_cmp v w ≡ Less → ¬ (AgreeOnRows count rank v w)
+  agree_nowhere v w s n l a =
       let (d, x) = start_difference v w s n l in
-      let a : slice_index w d ≤ slice_index v d = at_most v w lead 0 (has_lead v lead s h) n (λ p _. none p)
-      (λ p m. absurd (omega arith)) d
-      (let b : d < length w = x.place_below in let k : length w ≡ rank * count = normalised_length w n in omega arith) in
+      let b : d < length w = x.place_below in
+      let m : length w ≡ rank * count = normalised_length w n in
+      let e : slice_index v d ≡ slice_index w d = a d (omega arith) in
+      let y : slice_index v d < slice_index w d = x.lower in
+      omega arith
+
+  -- where no place of the first rows can rise, no later column differs there
+  pub last_normalised : (v : List ℕ) (lead rows : ℕ) → rows ≤ rank → IsStart factors rank v → IsLead count rank v lead →
+      ((p : ℕ) → p < rows * count → ¬ (CanRise factors lead v p)) → IsLastNormalised factors rank rows v
+  last_normalised v lead rows most s h none w n differ l =
+      let (d, x) = start_difference v w s n l in
+      let a : slice_index w d ≤ slice_index v d = at_most v w lead 0 (rows * count) (places_most rows most) (has_lead v lead s h) n (λ p _. none p)
+      (λ p m. absurd (omega arith)) d (differs_early v w rows d x differ) in
       let b : slice_index v d < slice_index w d = x.lower in
       omega arith
 
-  pub next_normalised : (v s : List ℕ) (lead k : ℕ) → IsStart factors rank v → IsLead count rank v lead →
-      IsLastRise factors (rank * count) lead v k → IsRaised count (rank * count) k v s → IsNextNormalised factors rank v s
-  next_normalised v s lead k start h last r = record {
-    normalised = raised_normalised v s lead k (has_lead v lead start h) last r;
+  pub next_normalised : (v s : List ℕ) (lead k rows : ℕ) → rows ≤ rank → IsStart factors rank v → IsLead count rank v lead →
+      IsLastRise factors (rows * count) lead v k → IsRaised count (rank * count) k v s → IsNextNormalised factors rank rows v s
+  next_normalised v s lead k rows most start h last r = record {
+    normalised = raised_normalised v s lead k (has_lead v lead start h) below last.can_rise r;
     after = differing_less k v s (elim start [ inl e ↦ inl (ap (λ (xs : List ℕ). length xs) e) | inr m ↦ inr (normalised_length v m ∙ sym r.rows) ]) (record {
-      place_below = subst (λ (n : ℕ). k < n) (sym r.rows) last.place_below;
+      place_below = subst (λ (n : ℕ). k < n) (sym r.rows) below;
       before = λ p l. sym (r.before p l);
       lower = (let e : slice_index s k ≡ slice_index v k + 1 = r.at in omega arith);
     });
-    first = λ w n l g.
+    first = λ w n differ l g.
         let (d, x) = start_difference v w start n l in
+        let early : d < rows * count = differs_early v w rows d x differ in
         let b : d < length w = x.place_below in
         let m : length w ≡ rank * count = normalised_length w n in
         let o : length s ≡ length w = r.rows ∙ sym m in
@@ -354,8 +375,8 @@ module _ (factors : List ℕ) (fs : IsFactors factors) (rank : ℕ) where
               let f : Less ≡ Greater = sym e ∙ g in cc)
           | inr c ↦ elim (cases_lt k d) [
             | inl t ↦ (
-                let a : slice_index w d ≤ slice_index v d = at_most v w lead (k + 1) (has_lead v lead start h) n
-                (λ p y. last.last p (omega arith)) (λ p y. x.before p (omega arith)) d (omega arith) in
+                let a : slice_index w d ≤ slice_index v d = at_most v w lead (k + 1) (rows * count) (places_most rows most)
+                (has_lead v lead start h) n (λ p y. last.last p (omega arith)) (λ p y. x.before p (omega arith)) d early in
                 let y : slice_index v d < slice_index w d = x.lower in
                 absurd (omega arith))
             | inr t ↦ (
@@ -365,6 +386,9 @@ module _ (factors : List ℕ) (fs : IsFactors factors) (rank : ℕ) where
         ];
   }
     where
+      below : k < rank * count
+      below = let l : k < rows * count = last.place_below in let m : rows * count ≤ rank * count = places_most rows most in omega arith
+
       same_place : (w : List ℕ) → IsNormalised factors rank w → DiffersAt v w k → (p : ℕ) → p < length w → slice_index s p ≤ slice_index w p
       same_place w n x p l =
           let e : slice_index s k ≡ slice_index v k + 1 = r.at in
@@ -372,7 +396,7 @@ module _ (factors : List ℕ) (fs : IsFactors factors) (rank : ℕ) where
           elim (cases_lt p k) [
             | inl b ↦ (let z : slice_index s p ≡ slice_index w p = r.before p b ∙ x.before p b in omega arith)
             | inr c ↦ elim (cases_lt k p) [
-              | inl b ↦ at_least v s w k last.place_below r n (λ z. absurd (omega arith)) p b
+              | inl b ↦ at_least v s w k below r n (λ z. absurd (omega arith)) p b
                   (let m : length w ≡ rank * count = normalised_length w n in omega arith)
               | inr b ↦ (let z : k ≡ p = omega arith in
                   subst (λ (z : ℕ). slice_index s z ≤ slice_index w z) z

@@ -4,6 +4,8 @@ use Rattle.std.proofs.Common.{Bool, true, false, ◌||◌, inl, inr, [], ◌∷�
 use Rattle.std.specs.Bool.{◌==◌}
 use Rattle.std.specs.Int.{bit_at}
 use Rattle.std.specs.List.{All}
+use Rattle.std.specs.List.Sorted.{IsPermutation}
+use Rattle.std.proofs.lemmas.List.Sorted.{All-permutation, Contains-permutation}
 use Rattle.std.proofs.lemmas.Bool.{cases_lt, cases_eq, cases_Bool}
 use Rattle.std.proofs.lemmas.List.Elements.{All-contains, All-push, Contains-push, Contains-append_left}
 use Rattle.std.proofs.lemmas.List.{get_or_read}
@@ -14,12 +16,12 @@ use Rattle.matroid_theory.specs.Field.{plus, times, IsField}
 use Rattle.matroid_theory.specs.Matrix.{Matrix, sum_below, combination, unit, size_below, AreCoefficients, IsIndependent}
 use Rattle.matroid_theory.specs.Rep.{Rep, size, count, order, matrix, column_of, IsShaped, KeepsLimits, IsProductColumn}
 use Rattle.matroid_theory.specs.Matroid.{members, IsIndependentIn, Agrees}
-use Rattle.matroid_theory.specs.Level.{followed_by}
+use Rattle.matroid_theory.specs.Level.{IsNormalised, followed_by}
 use Rattle.matroid_laws.proofs.Agreement.{one_more}
 use Rattle.matrix_lemmas.proofs.Bases.{with_element, with_own, with_other, size_with, smaller_independent, augmentation, set_bound}
 use Rattle.matrix_lemmas.proofs.Dimension.{unit_code}
 use Rattle.matrix_lemmas.proofs.FieldLaws.{field_laws}
-use Rattle.matroid_laws.proofs.Followed.{matrix_before, size_followed, shaped_pushed}
+use Rattle.matroid_laws.proofs.Followed.{matrix_before, matrix_last, size_followed, shaped_pushed}
 use Rattle.matrix_lemmas.proofs.Frobenius.{times_nonzero}
 use Rattle.matrix_lemmas.proofs.Invertible.{combination_zero}
 use Rattle.matrix_lemmas.proofs.Masks.{size-same, IsIndependent-same}
@@ -31,10 +33,14 @@ use Rattle.elimination.specs.Columns.{column, IsColumn, AreColumns}
 use Rattle.elimination.proofs.Lists.{column_before, column_last}
 use Rattle.extension.specs.declared.planes.Plane.{Plane}
 use Rattle.extension.specs.Planes.{product, IsNormal, LiesOnIn, LiesOn, IsPlaneSet, IsWithin, IsPlane, IsCovered, ArePlanes, IsAlikeAt}
-use Rattle.extension.specs.Steps.{with_new}
+use Rattle.extension.specs.Admissible.{IsAdmissible}
+use Rattle.extension.specs.Steps.{AgreeOnRows, IsRefused, with_new}
 use Rattle.product_rep.proofs.MoveLemmas.{column-entry}
 use Rattle.extension.proofs.Parallel.{column_is}
-use Rattle.extension.proofs.Followers.{IsAlikeWith, in_whole, size_new}
+use Rattle.extension.proofs.Followers.{IsAlikeWith, in_whole, size_new, alike_of_agrees, followed_shaped}
+use Rattle.extension.proofs.Nexts.{row_before, normalised_length}
+use Rattle.std.proofs.Math.Nat.{le_refl}
+use Rattle.std.proofs.lemmas.Grind.{same_number_lists}
 
 module _ (q : ℕ) (F : IsField q) (r : ℕ) (row : List ℕ) where
   -- the products with the columns of a combination that is zero
@@ -256,6 +262,58 @@ module _ (M : Rep) (v : List ℕ) (r : KeepsLimits M) (agrees : Agrees M) (c : I
             (alike_before M r.shaped agrees 0 g some m (members p.set) s.full p.independent) ne)) z)
       ]
 
+-- ---- columns with the same first rows
+
+module _ (M : Rep) (r : KeepsLimits M) (agrees : Agrees M) (v : List ℕ) where
+  -- on a plane that is 0 after these rows, they lie alike
+  plane_prefix : (w : List ℕ) (plane : Plane) → IsPlane M plane → AgreeOnRows (count M) plane.rows v w → (f : ℕ) → f < count M →
+      product (order M f) M.rank (column plane.normals.items f) (matrix (followed_by M w) f) (size M)
+      ≡ product (order M f) M.rank (column plane.normals.items f) (matrix (followed_by M v) f) (size M)
+  plane_prefix w plane p same f l = sum_same q F M.rank
+      (λ i. times q (slice_index row i) (matrix (followed_by M w) f i (size M))) (λ i. times q (slice_index row i) (matrix (followed_by M v) f i (size M)))
+      (λ i m. elim (cases_lt i plane.rows) [
+        | inl b ↦ ap (times q (slice_index row i)) (matrix_last M w f i ∙ sym (same (i * count M + f) (row_before i plane.rows (count M) f b l))
+            ∙ sym (matrix_last M v f i))
+        | inr g ↦ zero i g m (matrix (followed_by M w) f i (size M)) ∙ sym (zero i g m (matrix (followed_by M v) f i (size M)))
+      ])
+    where
+      q : ℕ
+      q = order M f
+
+      F : IsField q
+      F = let s = r.shaped in field_laws q (s.orders f l)
+
+      row : List ℕ
+      row = column plane.normals.items f
+
+      zero : (i : ℕ) → plane.rows ≤ i → i < M.rank → (x : ℕ) → times q (slice_index row i) x ≡ 0
+      zero i g m x = ap (λ y. times q y x) (p.zeros f i l g m) ∙ zero_times q F x
+
+  -- so all are refused with one that lies on the plane in some factors and not in others
+  pub plane_refused : (plane : Plane) → IsPlane M plane → ¬ (IsAlikeAt M v plane) → IsRefused M v plane.rows
+  plane_refused plane p unlike = record {
+    most = p.rows_most;
+    none = λ w a same.
+        let alike : IsAlikeAt M w plane = alike_on_plane M w r agrees (let n = a.normalised in n.is_column) plane p
+        (alike_of_agrees M w (followed_shaped M w r a.normalised) (let fs = r.fields in fs.some) a.agrees) in
+        let lies = λ (f : ℕ) (l : f < count M). plane_prefix w plane p same f l in
+        unlike (λ f l. (
+          λ z. sym (lies f l) ∙ (alike f l).0 (lies 0 (let fs = r.fields in fs.some) ∙ z),
+          λ z. sym (lies 0 (let fs = r.fields in fs.some)) ∙ (alike f l).1 (lies f l ∙ z),
+        ));
+  }
+
+-- a column that isn't admissible is the only one with all its rows
+pub whole_refused : (M : Rep) (v : List ℕ) → KeepsLimits M → IsNormalised M.factors M.rank v → ¬ (IsAdmissible M v) → IsRefused M v M.rank
+whole_refused M v r n refused = record {
+  most = le_refl M.rank;
+  none = λ w a same.
+      let m = a.normalised in
+      let l : length v ≡ length w = normalised_length M.factors r.fields M.rank v n ∙ sym (normalised_length M.factors r.fields M.rank w m) in
+      let e : length v ≡ M.rank * count M = normalised_length M.factors r.fields M.rank v n in
+      refused (subst (λ (x : List ℕ). IsAdmissible M x) (sym (same_number_lists v w l (λ p b. same p (omega arith)))) a);
+}
+
 -- ---- a row and a column, in lists
 
 pub last_below : (M : Rep) (v : List ℕ) → size M < size (followed_by M v)
@@ -355,4 +413,11 @@ planes_pushed M planes n plane h p w = record {
         | inr v ↦ inr (v.0, Contains-append_left planes (plane ∷ []) v.0 v.1, v.2)
       ])
       (λ _. inr (plane, Contains-push planes plane, w));
+}
+
+-- planes in another order
+pub planes_moved : (M : Rep) (planes moved : List Plane) (n : ℕ) → ArePlanes M planes n → IsPermutation planes moved → ArePlanes M moved n
+planes_moved M planes moved n h s = record {
+  each = All-permutation (IsPlane M) planes moved s h.each;
+  covered = λ X l x. elim (h.covered X l x) [ inl d ↦ inl d | inr v ↦ inr (v.0, Contains-permutation planes moved v.0 s v.1, v.2) ];
 }

@@ -1,5 +1,5 @@
 -- Planes: what tells, by one sum of products for each factor, whether a new column extends a set of columns to a basis.
-use Rattle.std.specs.Prelude.{ℕ, ◌+◌, ◌^◌, ◌<◌, ◌≡◌, ◌≢◌, ◌↔◌, ◌⊎◌, List, length, slice_index, true}
+use Rattle.std.specs.Prelude.{ℕ, ◌+◌, ◌^◌, ◌<◌, ◌≤◌, ◌≡◌, ◌≢◌, ◌↔◌, ◌⊎◌, List, length, slice_index, true, Option, Some, None}
 use Rattle.std.specs.List.{All, Contains}
 use Rattle.arrayvec.specs.ArrayVec.{ArrayVec}
 use Rattle.matroid_theory.specs.Field.{times}
@@ -9,6 +9,7 @@ use Rattle.matroid_theory.specs.Matroid.{members, IsIndependentIn}
 use Rattle.matroid_theory.specs.Level.{followed_by}
 use Rattle.elimination.specs.Columns.{column, IsColumn}
 use Rattle.extension.specs.declared.planes.Plane.{Plane}
+use Rattle.extension.specs.declared.planes.Planes.{Planes}
 
 -- the sum of the products of a row of r coefficients and column j
 abbrev pub product : ℕ → ℕ → List ℕ → Matrix → ℕ → ℕ
@@ -38,11 +39,14 @@ pub record IsPlaneSet (M : Rep) (X : ℕ) : Type 0 where
 abbrev pub IsWithin : Rep → ℕ → Plane → Type 0
 IsWithin M X plane = (j : ℕ) → j < size M → members X j ≡ true → members plane.elements j ≡ true
 
--- a plane with a normal in each factor, on which its elements lie, among them an independent set of one column fewer than the rank
+-- a plane with a normal in each factor that is 0 after the plane's rows, and on which its elements lie, among them an independent set
+-- of one column fewer than the rank
 pub record IsPlane (M : Rep) (plane : Plane) : Type 0 where
   pub normals : (f : ℕ) → f < count M → IsNormal (order M f) M.rank (column plane.normals.items f)
+  pub zeros : (f i : ℕ) → f < count M → plane.rows ≤ i → i < M.rank → slice_index (column plane.normals.items f) i ≡ 0
   pub count : length plane.normals.items ≡ count M
   pub lies_on : (j : ℕ) → j < size M → members plane.elements j ≡ true → LiesOn M plane.normals.items j
+  pub rows_most : plane.rows ≤ M.rank
   pub set : ℕ
   pub is_set : IsPlaneSet M set
   pub independent : IsIndependentIn M 0 (members set)
@@ -56,6 +60,11 @@ IsCovered M planes X = (¬ (IsIndependentIn M 0 (members X))) ⊎ ((plane : Plan
 pub record ArePlanes (M : Rep) (planes : List Plane) (from : ℕ) : Type 0 where
   pub each : All (IsPlane M) planes
   pub covered : (X : ℕ) → X < from → IsPlaneSet M X → IsCovered M planes X
+
+-- what is kept of the planes: nothing where there is one factor
+abbrev pub KnowsPlanes : Rep → Option Planes → Type 0
+KnowsPlanes M None = count M ≡ 1
+KnowsPlanes M (Some planes) = ArePlanes M planes.list.items planes.from
 
 -- M followed by v: v lies on the plane in every factor, or in none
 abbrev pub IsAlikeAt : Rep → List ℕ → Plane → Type 0

@@ -3,10 +3,10 @@ use Rattle.std.specs.Prelude.{ℕ, ◌+◌, ◌*◌, ◌/◌, ◌%◌, ◌<◌, 
 use Rattle.std.specs.Cmp.Lexicographic.{slice_cmp}
 use Rattle.std.specs.Ordering.{nat_cmp}
 use Rattle.std.specs.declared.cmp.Ordering.TheVariants.{Less, Greater}
-use Rattle.matroid_theory.specs.Rep.{Rep, size, KeepsLimits, IsStandard}
+use Rattle.matroid_theory.specs.Rep.{Rep, size, count, KeepsLimits, IsStandard}
 use Rattle.matroid_theory.specs.Matroid.{Agrees, IsSimple}
 use Rattle.matroid_theory.specs.Level.{IsNormalised}
-use Rattle.extension.specs.Admissible.{ColumnsAfter}
+use Rattle.extension.specs.Admissible.{ColumnsAfter, IsAdmissible}
 
 -- a normalised column, or none yet
 abbrev pub IsStart : List ℕ → ℕ → List ℕ → Type 0
@@ -47,15 +47,26 @@ pub record IsRaised (count width place : ℕ) (v raised : List ℕ) : Type 0 whe
   pub in_row : (p : ℕ) → place < p → p < width → p / count ≡ place / count → slice_index raised p ≡ 1
   pub later_rows : (p : ℕ) → place < p → p < width → p / count ≢ place / count → slice_index raised p ≡ 0
 
--- v is the first normalised column after u
-pub record IsNextNormalised (factors : List ℕ) (rank : ℕ) (u v : List ℕ) : Type 0 where
+-- two columns of so many codes a row have the same codes in the first rows
+abbrev pub AgreeOnRows : ℕ → ℕ → List ℕ → List ℕ → Type 0
+AgreeOnRows count rows u v = (p : ℕ) → p < rows * count → slice_index u p ≡ slice_index v p
+
+-- v is the first normalised column after u of those that differ from u in the first rows
+pub record IsNextNormalised (factors : List ℕ) (rank rows : ℕ) (u v : List ℕ) : Type 0 where
   pub normalised : IsNormalised factors rank v
   pub after : slice_cmp nat_cmp u v ≡ Less
-  pub first : (w : List ℕ) → IsNormalised factors rank w → slice_cmp nat_cmp u w ≡ Less → slice_cmp nat_cmp v w ≢ Greater
+  pub first : (w : List ℕ) → IsNormalised factors rank w → ¬ (AgreeOnRows (length factors) rows u w) → slice_cmp nat_cmp u w ≡ Less →
+      slice_cmp nat_cmp v w ≢ Greater
 
--- no normalised column comes after u
-abbrev pub IsLastNormalised : List ℕ → ℕ → List ℕ → Type 0
-IsLastNormalised factors rank u = (w : List ℕ) → IsNormalised factors rank w → ¬ (slice_cmp nat_cmp u w ≡ Less)
+-- no normalised column that differs from u in the first rows comes after u
+abbrev pub IsLastNormalised : List ℕ → ℕ → ℕ → List ℕ → Type 0
+IsLastNormalised factors rank rows u = (w : List ℕ) → IsNormalised factors rank w → ¬ (AgreeOnRows (length factors) rows u w) →
+    ¬ (slice_cmp nat_cmp u w ≡ Less)
+
+-- none of the columns that agree with v on the first rows is admissible
+pub record IsRefused (M : Rep) (v : List ℕ) (rows : ℕ) : Type 0 where
+  pub most : rows ≤ M.rank
+  pub none : (w : List ℕ) → IsAdmissible M w → ¬ (AgreeOnRows (count M) rows v w)
 
 -- a set of the columns of M with one column more
 abbrev pub with_new : Rep → (ℕ → Bool) → ℕ → Bool

@@ -1,4 +1,4 @@
-ghost use Rattle.std.specs.Prelude.{◌≡◌, ◌<◌, ◌≤◌, ◌+◌, ◌*◌, ◌^◌, ◌↔◌, ◌==◌, ◌||◌, ℕ, IsTrue, IsFalse, length, slice_index};
+ghost use Rattle.std.specs.Prelude.{◌≡◌, ◌<◌, ◌≤◌, ◌+◌, ◌*◌, ◌^◌, ◌↔◌, ◌==◌, ◌||◌, ℕ, IsTrue, IsFalse, MatchOption, length, slice_index};
 ghost use Rattle.elimination.specs.Columns.{IsColumn};
 ghost use Rattle.matroid_theory.specs.Field.{times};
 ghost use Rattle.matroid_theory.specs.Rep.{size, count, column_of, KeepsLimits, IsStandard, IsProductColumn};
@@ -7,10 +7,10 @@ ghost use Rattle.matroid_theory.specs.Matroid.{members, IsIndependentIn, IsSimpl
 ghost use Rattle.matroid_theory.specs.Level.{followed_by, IsNormalised};
 ghost use Rattle.column_sets.specs.Picked.{IsIndependentSet};
 ghost use Rattle.extension.specs.Admissible.{IsAdmissible};
-ghost use Rattle.extension.specs.Planes.{ArePlanes};
-ghost use Rattle.extension.specs.Steps.{with_new};
+ghost use Rattle.extension.specs.Planes.{KnowsPlanes};
+ghost use Rattle.extension.specs.Steps.{IsRefused, with_new};
 
-use crate::agreement::is_alike_on;
+use crate::agreement::refusing_rows;
 use crate::normalised::lead;
 use crate::planes::Planes;
 use arrayvec::ArrayVec;
@@ -19,18 +19,26 @@ use column_sets::{first_of_size, set_count};
 use field_tables::{Column, Field, Mask};
 use product_rep::{ProductColumn, Rep};
 
-/// Whether the representation followed by a normalised column is simple and its factors agree.
-pub fn is_admissible(rep: &Rep, planes: &Planes, column: &ProductColumn) -> bool
+/// `None` where the representation followed by a normalised column is simple and its factors agree, and otherwise a number
+/// of rows: it isn't so with any column that has the same first rows.
+pub fn refused_rows(rep: &Rep, planes: &Option<Planes>, column: &ProductColumn) -> Option<usize>
     requires standard { IsStandard rep.now }
     requires simple { IsSimple rep.now }
     requires agrees { Agrees rep.now }
     requires room { size rep.now < 16 }
-    requires planes { ArePlanes rep.now planes.now.list.items planes.now.from }
+    requires planes { KnowsPlanes rep.now planes.now }
     requires normalised { IsNormalised rep.now.factors rep.now.rank column.now.items }
-    ensures { IsTrue result ↔ IsAdmissible rep.now column.now.items }
+    ensures { MatchOption result (IsAdmissible rep.now column.now.items) (IsRefused rep.now column.now.items) }
 {
     rep.laws();
-    is_alike(rep, planes, column) && is_apart(rep, column)
+    if let Some(rows) = unlike_rows(rep, planes, column) {
+        return Some(rows);
+    }
+    if is_apart(rep, column) {
+        None
+    } else {
+        Some(rep.rank())
+    }
 }
 
 /// Whether in every factor the column is parallel to none of the representation.
@@ -109,23 +117,32 @@ pub fn part(rep: &Rep, column: &ProductColumn, factor: usize) -> Column
     part
 }
 
-/// Whether each set of one column fewer than the rank is, together with the column, independent in every factor or in none:
-/// the planes tell, and where they don't cover all sets, these are tested one by one.
-fn is_alike(rep: &Rep, planes: &Planes, column: &ProductColumn) -> bool
+/// `None` where each set of one column fewer than the rank is, together with the column, independent in every factor or in
+/// none: the planes tell, and where they don't cover all sets, these are tested one by one. Otherwise a number of rows: it
+/// isn't so with any column that has the same first rows.
+fn unlike_rows(rep: &Rep, planes: &Option<Planes>, column: &ProductColumn) -> Option<usize>
     requires agrees { Agrees rep.now }
     requires room { size rep.now < 16 }
-    requires planes { ArePlanes rep.now planes.now.list.items planes.now.from }
-    requires column { IsProductColumn rep.now.factors rep.now.rank column.now.items }
-    ensures { IsTrue result ↔ ((X f : ℕ) → X < 2 ^ size rep.now → size_below (size rep.now) (members X) + 1 ≡ rep.now.rank →
+    requires planes { KnowsPlanes rep.now planes.now }
+    requires normalised { IsNormalised rep.now.factors rep.now.rank column.now.items }
+    ensures { MatchOption result ((X f : ℕ) → X < 2 ^ size rep.now → size_below (size rep.now) (members X) + 1 ≡ rep.now.rank →
         f < count rep.now →
         (IsIndependentIn (followed_by rep.now column.now.items) 0 (with_new rep.now (members X)) ↔
-        IsIndependentIn (followed_by rep.now column.now.items) f (with_new rep.now (members X)))) }
+        IsIndependentIn (followed_by rep.now column.now.items) f (with_new rep.now (members X))))
+        (IsRefused rep.now column.now.items) }
 {
     rep.laws();
-    if rep.factors().count() == 1 {
-        return true;
+    let Some(planes) = planes else {
+        return None;
+    };
+    if let Some(rows) = refusing_rows(rep, planes.list.as_slice(), column) {
+        return Some(rows);
     }
-    is_alike_on(rep, planes.list.as_slice(), column) && is_alike_from(rep, planes.from, column)
+    if is_alike_from(rep, planes.from, column) {
+        None
+    } else {
+        Some(rep.rank())
+    }
 }
 
 /// Whether the sets whose masks aren't below `from` are so: none are left where the planes tell of all.

@@ -1,5 +1,5 @@
 // What the planes of a representation tell of a new column.
-ghost use Rattle.std.specs.Prelude.{◌≡◌, ◌<◌, ◌↔◌, ℕ, IsTrue, false, length, slice_index};
+ghost use Rattle.std.specs.Prelude.{◌≡◌, ◌<◌, ◌↔◌, ℕ, IsTrue, MatchOption, length, slice_index};
 ghost use Rattle.std.specs.List.{All, Contains};
 ghost use Rattle.elimination.specs.Columns.{column, IsColumn};
 ghost use Rattle.matroid_theory.specs.Rep.{size, count, order, column_of, KeepsLimits, IsProductColumn};
@@ -13,23 +13,23 @@ use arrayvec::ArrayVec;
 use field_tables::Column;
 use product_rep::{Factors, ProductColumn, Rep};
 
-/// Whether the column lies on each of the planes in every factor or in none.
-pub fn is_alike_on(rep: &Rep, planes: &[Plane], new: &ProductColumn) -> bool
+/// The rows of the first of the planes on which the column lies in some factors and not in others.
+pub fn refusing_rows(rep: &Rep, planes: &[Plane], new: &ProductColumn) -> Option<usize>
     requires is_rep { KeepsLimits rep.now }
     requires room { size rep.now < 16 }
     requires planes { All (IsPlane rep.now) planes.now }
     requires column { IsProductColumn rep.now.factors rep.now.rank new.now.items }
-    ensures yes { IsTrue result → All (IsAlikeAt rep.now new.now.items) planes.now }
-    ensures no { result ≡ false → ((plane : Plane) × Contains planes.now plane × ¬ (IsAlikeAt rep.now new.now.items plane)) }
+    ensures { MatchOption result (All (IsAlikeAt rep.now new.now.items) planes.now)
+        (λ rows. (plane : Plane) × Contains planes.now plane × (plane.rows ≡ rows) × ¬ (IsAlikeAt rep.now new.now.items plane)) }
 {
     let factors = rep.factors();
     let parts = parts(rep, new);
     for plane in planes {
         if !is_alike_at(rep, &factors, new, plane, parts.as_slice()) {
-            return false;
+            return Some(plane.rows);
         }
     }
-    true
+    None
 }
 
 /// Whether the column, which has these parts, lies on the plane in every factor or in none.

@@ -3,10 +3,10 @@ ghost use Rattle.std.specs.Iterator.{at_most};
 ghost use Rattle.matroid_theory.specs.Rep.{size, KeepsLimits, IsStandard};
 ghost use Rattle.matroid_theory.specs.Matroid.{Agrees, IsSimple};
 ghost use Rattle.extension.specs.Admissible.{IsNextColumn, IsLastColumn, GivesNext, value, above_values};
-ghost use Rattle.extension.specs.Planes.{ArePlanes};
+ghost use Rattle.extension.specs.Planes.{KnowsPlanes};
 ghost use Rattle.extension.specs.Steps.{IsStart, KeepsColumns};
 
-use crate::admissible::is_admissible;
+use crate::admissible::refused_rows;
 use crate::normalised::following;
 use crate::planes::{Planes, planes_of};
 use product_rep::{ProductColumn, Rep};
@@ -19,13 +19,13 @@ use std::marker::Model;
 #[derive(Drop)]
 pub struct Columns {
     rep: Rep,
-    planes: Planes,
+    planes: Option<Planes>,
     last: ProductColumn,
 }
 
 impl Model for Columns {
     ghost use Rattle.extension.specs.Admissible.{ColumnsAfter};
-    ghost use Rattle.extension.specs.Planes.{ArePlanes};
+    ghost use Rattle.extension.specs.Planes.{KnowsPlanes};
     ghost use Rattle.extension.specs.Steps.{KeepsColumns};
 
     ghost Value = { ColumnsAfter };
@@ -33,7 +33,7 @@ impl Model for Columns {
     ghost view = { λ columns. record { parent = columns.rep; last = columns.last.items } };
 
     ghost invariant = { λ columns. KeepsColumns (record { parent = columns.rep; last = columns.last.items })
-        × ArePlanes columns.rep columns.planes.list.items columns.planes.from };
+        × KnowsPlanes columns.rep columns.planes };
 }
 
 impl Columns {
@@ -68,20 +68,23 @@ impl Iterator for Columns {
     }
 }
 
-/// The first admissible column after the last one.
-fn next_column(rep: &Rep, planes: &Planes, last: &ProductColumn) -> Option<ProductColumn>
+/// The first admissible column after the last one. After a column that is refused, those that are refused with it are
+/// passed over.
+fn next_column(rep: &Rep, planes: &Option<Planes>, last: &ProductColumn) -> Option<ProductColumn>
     requires keeps { KeepsColumns (record { parent = rep.now; last = last.now.items }) }
-    requires planes { ArePlanes rep.now planes.now.list.items planes.now.from }
+    requires planes { KnowsPlanes rep.now planes.now }
     ensures { MatchOption result (IsLastColumn (record { parent = rep.now; last = last.now.items }))
         (λ v. IsNextColumn (record { parent = rep.now; last = last.now.items }) v.items) }
 {
     let factors = rep.factors();
     let rank = rep.rank();
     let mut before: ProductColumn = list_of(last.as_slice());
-    while let Some(column) = following(&factors, rank, before.as_slice()) {
-        if is_admissible(rep, planes, &column) {
+    let mut rows = rank;
+    while let Some(column) = following(&factors, rank, rows, before.as_slice()) {
+        let Some(refused) = refused_rows(rep, planes, &column) else {
             return Some(column);
-        }
+        };
+        rows = refused;
         before = column;
     }
     None

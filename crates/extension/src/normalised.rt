@@ -6,17 +6,24 @@ ghost use Rattle.extension.specs.Steps.{IsStart, CanRise, IsLastRise, IsLead, Is
 
 use product_rep::{Factors, ProductColumn};
 
-/// The first normalised column after this one, which is normalised, or empty for the first of all.
-pub fn following(factors: &Factors, rank: usize, column: &[u8]) -> Option<ProductColumn>
+/// The first normalised column after this one, which is normalised, or empty for the first of all, of those that differ from
+/// it in the first rows.
+pub fn following(
+    factors: &Factors,
+    rank: usize,
+    rows: usize,
+    column: &[u8],
+) -> Option<ProductColumn>
     requires low { 0 < rank }
     requires high { rank ≤ 6 }
+    requires rows { rows ≤ rank }
     requires start { IsStart factors.now rank column.now }
-    ensures { MatchOption result (IsLastNormalised factors.now rank column.now)
-        (λ v. IsNextNormalised factors.now rank column.now v.items) }
+    ensures { MatchOption result (IsLastNormalised factors.now rank rows column.now)
+        (λ v. IsNextNormalised factors.now rank rows column.now v.items) }
 {
     let count = factors.count();
     let lead = lead(column, count, rank);
-    let place = last_rise(factors, rank, column, lead)?;
+    let place = last_rise(factors, rows, column, lead)?;
     Some(raised(column, count, rank * count, place))
 }
 
@@ -34,14 +41,14 @@ pub fn lead(column: &[u8], count: usize, rank: usize) -> usize
     rank
 }
 
-/// The last place where the code can rise.
-fn last_rise(factors: &Factors, rank: usize, column: &[u8], lead: usize) -> Option<usize>
-    requires { rank ≤ 6 }
+/// The last place of the first rows where the code can rise.
+fn last_rise(factors: &Factors, rows: usize, column: &[u8], lead: usize) -> Option<usize>
+    requires { rows ≤ 6 }
     ensures { MatchOption result
-        ((p : ℕ) → p < rank * length factors.now → ¬ (CanRise factors.now lead column.now p))
-        (λ place. IsLastRise factors.now (rank * length factors.now) lead column.now place) }
+        ((p : ℕ) → p < rows * length factors.now → ¬ (CanRise factors.now lead column.now p))
+        (λ place. IsLastRise factors.now (rows * length factors.now) lead column.now place) }
 {
-    let width = rank * factors.count();
+    let width = rows * factors.count();
     for place in (0..width).rev() {
         if can_rise(factors, column, lead, place) {
             return Some(place);

@@ -1,12 +1,13 @@
 // The planes of a representation: each tells whether a new column extends a set of columns to a basis.
 ghost use Rattle.std.specs.Prelude.{◌≡◌, ◌<◌, ◌≤◌, ◌+◌, ◌^◌, ◌↔◌, ℕ, IsTrue, IfSome, IsSome, true, false, length, slice_index};
 ghost use Rattle.std.specs.List.{Contains};
+ghost use Rattle.std.specs.List.Sorted.{IsPermutation};
 ghost use Rattle.elimination.specs.Columns.{column, IsColumn, AreColumns};
 ghost use Rattle.matroid_theory.specs.Matrix.{size_below};
 ghost use Rattle.matroid_theory.specs.Rep.{size, count, order, column_of, KeepsLimits, IsStandard};
 ghost use Rattle.matroid_theory.specs.Matroid.{members, IsIndependentIn, Agrees};
 ghost use Rattle.bases.specs.FactorColumns.{IsFactorOf};
-ghost use Rattle.extension.specs.Planes.{IsNormal, IsPlaneSet, IsWithin, IsPlane, IsCovered, ArePlanes, LiesOn};
+ghost use Rattle.extension.specs.Planes.{IsNormal, IsPlaneSet, IsWithin, IsPlane, IsCovered, ArePlanes, KnowsPlanes, LiesOn};
 ghost use Rattle.extension.specs.declared.planes.Plane.{Plane};
 
 use crate::normals::normal;
@@ -16,11 +17,13 @@ use column_sets::{in_set, set_count};
 use field_tables::{Column, Mask};
 use product_rep::Rep;
 
-/// A normal for each factor, and the columns that lie on the plane in every factor.
+/// A normal for each factor, the columns that lie on the plane in every factor, and a number of rows after which each normal
+/// is 0: whether a column lies on the plane depends on its first rows alone.
 #[derive(Default, Drop)]
 pub struct Plane {
     pub normals: ArrayVec<Column, 3>,
     pub elements: Mask,
+    pub rows: usize,
 }
 
 /// The planes of the sets of one column fewer than the rank whose masks are below `from`.
@@ -30,17 +33,35 @@ pub struct Planes {
     pub from: u32,
 }
 
-/// The planes of a representation. One factor needs none, and of more than 512 the first are taken.
-pub fn planes_of(rep: &Rep) -> Planes
+/// The planes of a representation of more than one factor, those of fewer rows first. One factor needs none.
+pub fn planes_of(rep: &Rep) -> Option<Planes>
     requires standard { IsStandard rep.now }
-    ensures planes { ArePlanes rep.now result.list.items result.from }
+    ensures { KnowsPlanes rep.now result }
+{
+    rep.laws();
+    if rep.factors().count() == 1 {
+        return None;
+    }
+    let mut planes = first_planes(rep);
+    sort_by_rows(planes.list.as_mut_slice());
+    Some(planes)
+}
+
+/// Puts planes of fewer rows before others, since one on which a column doesn't lie alike refuses more columns at once.
+fn sort_by_rows(planes: &mut [Plane])
+    ensures { IsPermutation planes.old planes.new }
+{
+    planes.sort_unstable_by_key(|plane| plane.rows);
+}
+
+/// The planes of a representation: of more than 512 the first are taken.
+fn first_planes(rep: &Rep) -> Planes
+    requires standard { IsStandard rep.now }
+    ensures { ArePlanes rep.now result.list.items result.from }
 {
     rep.laws();
     let first = FactorColumns::of(rep, 0);
     let mut list = ArrayVec::new();
-    if rep.factors().count() == 1 {
-        return Planes { list, from: 0 };
-    }
     for set in 0..set_count(rep.size()) {
         if !is_covered(rep, &first, list.as_slice(), set as Mask) {
             let Some(plane) = plane_of(rep, set as Mask) else {
@@ -110,10 +131,43 @@ fn plane_of(rep: &Rep, set: Mask) -> Option<Plane>
     }
     let elements = elements(rep, normals.as_slice());
     if is_subset(set, elements) {
-        Some(Plane { normals, elements })
+        let rows = nonzero_rows(rep, normals.as_slice());
+        Some(Plane {
+            normals,
+            elements,
+            rows,
+        })
     } else {
         None
     }
+}
+
+/// The number of rows up to the last one that isn't 0 in each of the normals.
+fn nonzero_rows(rep: &Rep, normals: &[Column]) -> usize
+    requires count { length normals.now ≡ count rep.now }
+    requires normals { (f : ℕ) → f < count rep.now → IsColumn (order rep.now f) rep.now.rank (column normals.now f) }
+    ensures most { result ≤ rep.now.rank }
+    ensures zeros { (f i : ℕ) → f < count rep.now → result ≤ i → i < rep.now.rank → slice_index (column normals.now f) i ≡ 0 }
+{
+    rep.laws();
+    let mut rows = 0;
+    for factor in 0..rep.factors().count() {
+        rows = rows.max(nonzero_length(normals[factor].as_slice()));
+    }
+    rows
+}
+
+/// The number of codes up to the last one that isn't 0.
+fn nonzero_length(codes: &[u8]) -> usize
+    ensures most { result ≤ length codes.now }
+    ensures zeros { (i : ℕ) → result ≤ i → i < length codes.now → slice_index codes.now i ≡ 0 }
+{
+    for i in (0..codes.len()).rev() {
+        if codes[i] != 0 {
+            return i + 1;
+        }
+    }
+    0
 }
 
 /// The columns that lie on the plane with these normals.

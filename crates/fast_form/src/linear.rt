@@ -8,14 +8,13 @@ ghost use Rattle.matroid_theory.specs.Move.{AreEquivalent};
 ghost use Rattle.matroid_theory.specs.Order.{IsForm};
 
 use crate::form::{decided, least_of_standard};
-use canonical_form::least_form;
-use matroid_theory::Mode;
+use canonical_form::some_standard;
 use product_rep::{ProductColumn, Rep, compare};
 use std::cmp::Ordering;
 
 /// The form of the class of a representation whose factors agree: of the standard representations that are equivalent to it by
-/// linear moves, the one that is not above any other. It is found fast where the representation is standard; any other goes
-/// through the plain program.
+/// linear moves, the one that is not above any other. The search begins with a standard representation: this one, or some other
+/// of its class.
 pub fn least_linear(rep: &Rep) -> Rep
     requires { Agrees rep.now }
     ensures form { IsForm linear result }
@@ -24,7 +23,7 @@ pub fn least_linear(rep: &Rep) -> Rep
     if is_standard(rep) {
         least_of_standard(rep)
     } else {
-        least_form(rep, Mode::Linear)
+        least_of_standard(&some_standard(rep))
     }
 }
 

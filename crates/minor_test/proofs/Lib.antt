@@ -5,4 +5,5 @@ pub mod NextImage
 pub mod Contracted
 pub mod Covered
 pub mod Reordered
+pub mod SmallSets
 pub mod TwinSets

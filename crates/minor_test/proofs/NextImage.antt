@@ -103,11 +103,11 @@ module _ (N : Matroid) (M : Rep) (C n : ℕ) (images : Images) (sets : List ℕ)
       mask_below X m = or_lt (size M) (slice_index sets X) (2 ^ j) (h.sets_below X m) (pow_below j (size M) l)
 
       module _ (tables : Tables) (t : AreTables N M tables) (room : 2 ^ suc n ≤ 2 ^ 16) where
-        in_minor : (X : ℕ) → X < 2 ^ n → IsTrue (has tables.minor.words (2 ^ n + X)) ↔ Contains N.bases (2 ^ n + X)
+        in_minor : (X : ℕ) → X < 2 ^ n → IsTrue (has tables.minor.now.words (2 ^ n + X)) ↔ Contains N.bases (2 ^ n + X)
         in_minor X m = t.minor.exact (2 ^ n + X) (let d : 2 ^ suc n ≡ 2 ^ n + 2 ^ n = two-pow-succ n in omega arith)
 
         in_whole : (X : ℕ) → X < 2 ^ n →
-            IsTrue (has tables.whole.words (bit_or (slice_index sets X) (2 ^ j))) ↔ IsBasis M 0
+            IsTrue (has tables.whole.now.words (bit_or (slice_index sets X) (2 ^ j))) ↔ IsBasis M 0
             (image_with (suc n) new (members C) (members (2 ^ n + X)))
         in_whole X m =
             let w = t.whole.exact (bit_or (slice_index sets X) (2 ^ j)) (mask_below X m) in (
@@ -140,7 +140,7 @@ module _ (N : Matroid) (M : Rep) (C n : ℕ) (images : Images) (sets : List ℕ)
 
         pub next_carries : IsMinorBy (first N (n + 1)) M new (members C) → CarriesNext tables (2 ^ n) sets j
         next_carries g X o =
-            same_from_iff (has tables.minor.words (2 ^ n + X)) (has tables.whole.words (bit_or (slice_index sets X) (2 ^ j)))
+            same_from_iff (has tables.minor.now.words (2 ^ n + X)) (has tables.whole.now.words (bit_or (slice_index sets X) (2 ^ j)))
             (in_minor X o) (in_whole X o)
             ((subst (λ (y : ℕ). IsMinorBy (first N y) M new (members C)) (add-one n) g).bases (2 ^ n + X)
             (let d : 2 ^ suc n ≡ 2 ^ n + 2 ^ n = two-pow-succ n in omega arith))

@@ -3,6 +3,7 @@ use Rattle.std.specs.Prelude.{ℕ, ◌<◌, ◌≤◌, ◌≡◌, ◌+◌, ◌^�
 use Rattle.matroid_theory.specs.Rep.{Rep, size}
 use Rattle.matroid_theory.specs.Matroid.{members}
 use Rattle.matroid_theory.specs.Minor.{Matroid, image, IsMinorBy}
+use Rattle.bases.specs.FactorColumns.{IsFactorOf}
 use Rattle.minor_test.specs.declared.search.Tables.{Tables}
 use Rattle.minor_test.specs.declared.search.Images.{Images}
 use Rattle.matroid_theory.specs.Tables.{has}
@@ -17,11 +18,12 @@ first N k = record N { size = k }
 abbrev pub BeginsWith : List ℕ → (ℕ → ℕ) → Type 0
 BeginsWith images f = (x : ℕ) → x < length images → f x ≡ slice_index images x
 
--- the tables of the bases of both, and twins of N
+-- the tables of the bases of both, the columns of M, and twins of N
 pub record AreTables (N : Matroid) (M : Rep) (tables : Tables) : Type 0 where
-  pub minor : HasMasks N.bases tables.minor.words
-  pub whole : HasBases M tables.whole.words
-  pub twins : AreTwinsOf N tables.twins.items
+  pub minor : HasMasks N.bases tables.minor.now.words
+  pub whole : HasBases M tables.whole.now.words
+  pub columns : IsFactorOf M 0 tables.columns.now.field tables.columns.now.columns.items
+  pub twins : AreTwinsOf N tables.twins.now.items
 
 -- f(X) together with C, for X a set of numbers below n
 abbrev pub image_with : ℕ → (ℕ → ℕ) → (ℕ → Bool) → (ℕ → Bool) → ℕ → Bool
@@ -50,4 +52,4 @@ IsNext N M C images j = IsMinorBy (first N (length images + 1)) M (slice_index (
 
 -- of n sets of elements, each with the next element is a basis exactly where its image with the contracted set is one
 abbrev pub CarriesNext : Tables → ℕ → List ℕ → ℕ → Type 0
-CarriesNext tables n sets j = (X : ℕ) → X < n → has tables.minor.words (n + X) ≡ has tables.whole.words (bit_or (slice_index sets X) (2 ^ j))
+CarriesNext tables n sets j = (X : ℕ) → X < n → has tables.minor.now.words (n + X) ≡ has tables.whole.now.words (bit_or (slice_index sets X) (2 ^ j))

@@ -6,8 +6,10 @@ ghost use Rattle.matroid_theory.specs.Minor.{IsMinorBy};
 ghost use Rattle.minor_test.specs.Twins.{KeepsOrder};
 ghost use Rattle.minor_test.specs.Searches.{AgreeBelow, AreImages, AreTables, BeginsWith, CarriesNext, IsNext};
 
-use crate::table::Table;
+use crate::table::{FullTable, SmallTable};
+use crate::twins::Twins;
 use arrayvec::ArrayVec;
+use bases::FactorColumns;
 use column_sets::{in_set, set_count};
 use field_tables::Mask;
 use named_matroids::Minor;
@@ -16,11 +18,13 @@ use small_lists::{followed_by, list_of};
 
 /// The bases of the minor and of the whole matroid.
 #[derive(Drop)]
-pub struct Tables {
-    pub minor: Table,
-    pub whole: Table,
+pub struct Tables<'a> {
+    pub minor: &'a SmallTable,
+    pub whole: &'a FullTable,
+    /// The columns of the first factor of the whole.
+    pub columns: &'a FactorColumns,
     /// For each element of the minor a twin before it, if there is one.
-    pub twins: ArrayVec<Option<u8>, 10>,
+    pub twins: &'a Twins,
 }
 
 /// The images of the first elements.
@@ -49,7 +53,7 @@ pub fn complete(
     requires sets { length sets.old ≡ 1024 }
     ensures found { IfSome result (λ list. IsMinorBy minor.now rep.now (slice_index list.items) (members contracted)) }
     ensures all { IfSome result (λ list. length list.items ≡ minor.now.size) }
-    ensures none { IsNone result → (f : ℕ → ℕ) → BeginsWith images.now.list.items f → KeepsOrder tables.now.twins.items f →
+    ensures none { IsNone result → (f : ℕ → ℕ) → BeginsWith images.now.list.items f → KeepsOrder tables.now.twins.now.items f →
         ¬ (IsMinorBy minor.now rep.now f (members contracted)) }
     ensures kept { AgreeBelow (2 ^ length images.now.list.items) sets.old sets.new }
 {

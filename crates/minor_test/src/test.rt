@@ -1,18 +1,18 @@
-ghost use Rattle.std.specs.Prelude.{◌≡◌, ◌<◌, ◌≤◌, ◌+◌, ◌^◌, ◌↔◌, ℕ, IsTrue, IsNone, IfSome, length, slice_index, bit_or};
+ghost use Rattle.std.specs.Prelude.{◌≡◌, ◌<◌, ◌≤◌, ◌+◌, ◌^◌, ◌↔◌, ℕ, IsTrue, IsFalse, IsNone, IfSome, length, slice_index};
 ghost use Rattle.matroid_theory.specs.Rep.{size};
-ghost use Rattle.matroid_theory.specs.Matroid.{members, Agrees};
+ghost use Rattle.matroid_theory.specs.Matroid.{members, Agrees, IsIndependentIn};
 ghost use Rattle.matroid_theory.specs.Matrix.{size_below};
 ghost use Rattle.matroid_theory.specs.Minor.{IsMinorBy, IsMinor};
 ghost use Rattle.matroid_theory.specs.Tables.{has};
-ghost use Rattle.minor_test.specs.Tables.{HasBases};
+ghost use Rattle.bases.specs.FactorColumns.{IsFactorOf};
 ghost use Rattle.minor_test.specs.Twins.{KeepsOrder};
 ghost use Rattle.minor_test.specs.Searches.{AreTables};
 
 use crate::search::{Images, Tables, complete};
-use crate::table::{Table, bases_of, table_of};
-use crate::twins::twins_of;
+use crate::sought::Sought;
+use crate::whole::Whole;
 use arrayvec::ArrayVec;
-use column_sets::{first_set, set_count};
+use column_sets::set_count;
 use field_tables::Mask;
 use named_matroids::Minor;
 use product_rep::Rep;
@@ -34,34 +34,60 @@ pub fn has_minor(rep: &Rep, minor: &Minor) -> Option<Embedding>
     ensures contracted { IfSome result (λ e. e.contracted < 2 ^ size rep.now) }
     ensures none { IsNone result → ¬ (IsMinor minor.now rep.now) }
 {
-    rep.laws();
-    if !leaves_room(rep, minor) {
-        return None;
+    if leaves_room(rep, minor) {
+        find_minor(&Whole::of(rep), &Sought::of(minor))
+    } else {
+        None
     }
-    let table = table_of(minor.bases());
-    let tables = Tables {
-        twins: twins_of(minor, &table),
-        minor: table,
-        whole: bases_of(rep),
-    };
-    let mut sets = [0; 1024];
-    for set in 0..set_count(rep.size()) {
-        let contracted = set as Mask;
-        if let Some(image) = by_contracting(rep, minor, &tables, contracted, &mut sets) {
-            return Some(Embedding { image, contracted });
-        }
-    }
-    None
 }
 
-/// Whether the rank is at most that of the whole matroid, and there are elements enough for the minor and for what is
-/// contracted.
-fn leaves_room(rep: &Rep, minor: &Minor) -> bool
-    ensures { IsTrue result ↔ ((minor.now.rank ≤ rep.now.rank) × (minor.now.size + rep.now.rank ≤ size rep.now + minor.now.rank)) }
+/// The same, where both are made ready.
+pub fn find_minor(whole: &Whole, sought: &Sought) -> Option<Embedding>
+    ensures found { IfSome result (λ e. IsMinorBy sought.now whole.now (slice_index e.image.items) (members e.contracted)) }
+    ensures images { IfSome result (λ e. length e.image.items ≡ sought.now.size) }
+    ensures contracted { IfSome result (λ e. e.contracted < 2 ^ size whole.now) }
+    ensures none { IsNone result → ¬ (IsMinor sought.now whole.now) }
+{
+    let tables = Tables {
+        minor: sought.table(),
+        whole: whole.table(),
+        columns: whole.columns(),
+        twins: sought.twins(),
+    };
+    embed(whole.rep(), sought.minor(), &tables)
+}
+
+/// Whether the rank of the matroid is at most that of the representation, and there are elements enough for the matroid and for
+/// what is contracted. Where not, it is no minor.
+pub fn leaves_room(rep: &Rep, minor: &Minor) -> bool
+    ensures room { IsTrue result ↔ ((minor.now.rank ≤ rep.now.rank) × (minor.now.size + rep.now.rank ≤ size rep.now + minor.now.rank)) }
+    ensures no_minor { IsFalse result → ¬ (IsMinor minor.now rep.now) }
 {
     rep.laws();
     minor.laws();
     minor.rank() <= rep.rank() && minor.size() + rep.rank() <= rep.size() + minor.rank()
+}
+
+/// An embedding of the minor, if there is one.
+fn embed(rep: &Rep, minor: &Minor, tables: &Tables) -> Option<Embedding>
+    requires { AreTables minor.now rep.now tables.now }
+    ensures found { IfSome result (λ e. IsMinorBy minor.now rep.now (slice_index e.image.items) (members e.contracted)) }
+    ensures images { IfSome result (λ e. length e.image.items ≡ minor.now.size) }
+    ensures contracted { IfSome result (λ e. e.contracted < 2 ^ size rep.now) }
+    ensures none { IsNone result → ¬ (IsMinor minor.now rep.now) }
+{
+    rep.laws();
+    if !leaves_room(rep, minor) {
+        return None;
+    }
+    let mut sets = [0; 1024];
+    for set in 0..set_count(rep.size()) {
+        let contracted = set as Mask;
+        if let Some(image) = by_contracting(rep, minor, tables, contracted, &mut sets) {
+            return Some(Embedding { image, contracted });
+        }
+    }
+    None
 }
 
 /// Images of the elements, with this set contracted. The sets are written over.
@@ -78,7 +104,7 @@ fn by_contracting(
     requires sets { length sets.old ≡ 1024 }
     ensures found { IfSome result (λ list. IsMinorBy minor.now rep.now (slice_index list.items) (members contracted)) }
     ensures all { IfSome result (λ list. length list.items ≡ minor.now.size) }
-    ensures none { IsNone result → (f : ℕ → ℕ) → KeepsOrder tables.now.twins.items f →
+    ensures none { IsNone result → (f : ℕ → ℕ) → KeepsOrder tables.now.twins.now.items f →
         ¬ (IsMinorBy minor.now rep.now f (members contracted)) }
 {
     minor.laws();
@@ -93,25 +119,18 @@ fn by_contracting(
     complete(rep, minor, tables, contracted, &images, sets)
 }
 
-/// Whether the set has as many elements as the rank falls by and is in a basis, and is one exactly where the minor has the
-/// empty basis.
+/// Whether the set has as many elements as the rank falls by and is independent, and is a basis exactly where the minor has the
+/// empty one. No other set need be contracted.
 fn may_be_contracted(rep: &Rep, minor: &Minor, tables: &Tables, contracted: Mask) -> bool
     requires rank { minor.now.rank ≤ rep.now.rank }
     requires set { contracted < 2 ^ size rep.now }
+    requires columns { IsFactorOf rep.now 0 tables.now.columns.now.field tables.now.columns.now.columns.items }
     ensures { IsTrue result ↔ ((minor.now.rank + size_below (size rep.now) (members contracted) ≡ rep.now.rank) ×
-        ((X : ℕ) × (X < 2 ^ size rep.now) × IsTrue (has tables.now.whole.words (bit_or contracted X))) ×
-        (has tables.now.minor.words 0 ≡ has tables.now.whole.words contracted)) }
+        IsIndependentIn rep.now 0 (members contracted) ×
+        (has tables.now.minor.now.words 0 ≡ has tables.now.whole.now.words contracted)) }
 {
     rep.laws();
     minor.rank() + contracted.count_ones() as usize == rep.rank()
-        && is_in_basis(rep, &tables.whole, contracted)
+        && tables.columns.is_independent(contracted)
         && tables.minor.contains(0) == tables.whole.contains(contracted)
-}
-
-/// Whether the set with another one is in the table.
-fn is_in_basis(rep: &Rep, table: &Table, set: Mask) -> bool
-    ensures { IsTrue result ↔ ((X : ℕ) × (X < 2 ^ size rep.now) × IsTrue (has table.now.words (bit_or set X))) }
-{
-    rep.laws();
-    first_set(rep.size(), |other| table.contains(set | other)).is_some()
 }

@@ -4,14 +4,17 @@ ghost use Rattle.matroid_theory.specs.Matroid.{members};
 ghost use Rattle.minor_test.specs.Tables.{HasMasks};
 ghost use Rattle.minor_test.specs.Twins.{swapped, AreAllFound, AreTwins, AreTwinsOf};
 
-use crate::table::Table;
+use crate::table::SmallTable;
 use arrayvec::ArrayVec;
 use column_sets::in_set;
 use field_tables::Mask;
 use named_matroids::Minor;
 
+/// For each element of a matroid a twin before it, if there is one.
+pub type Twins = ArrayVec<Option<u8>, 10>;
+
 /// For each element a twin before it, if there is one. The table has the bases.
-pub fn twins_of(minor: &Minor, table: &Table) -> ArrayVec<Option<u8>, 10>
+pub fn twins_of(minor: &Minor, table: &SmallTable) -> Twins
     requires { HasMasks minor.now.bases table.now.words }
     ensures twins { AreTwinsOf minor.now result.items }
     ensures all { AreAllFound minor.now result.items minor.now.size }
@@ -24,7 +27,7 @@ pub fn twins_of(minor: &Minor, table: &Table) -> ArrayVec<Option<u8>, 10>
 }
 
 /// A twin of element `j` before it.
-fn twin_before(minor: &Minor, table: &Table, j: usize) -> Option<u8>
+fn twin_before(minor: &Minor, table: &SmallTable, j: usize) -> Option<u8>
     requires table { HasMasks minor.now.bases table.now.words }
     requires element { j < minor.now.size }
     ensures { MatchOption result ((i : ℕ) → i < j → ¬ (AreTwins minor.now i j)) (λ i. AreTwins minor.now i j) }
@@ -40,7 +43,7 @@ fn twin_before(minor: &Minor, table: &Table, j: usize) -> Option<u8>
 }
 
 /// Whether the bases are the same with the elements in each other's place.
-fn are_twins(minor: &Minor, table: &Table, i: usize, j: usize) -> bool
+fn are_twins(minor: &Minor, table: &SmallTable, i: usize, j: usize) -> bool
     requires table { HasMasks minor.now.bases table.now.words }
     requires before { i < j }
     requires element { j < minor.now.size }

@@ -6,6 +6,7 @@ ghost use Rattle.level_driver.specs.Children.{IsParent};
 ghost use Rattle.level_driver.specs.Grown.{IsParentLevel};
 
 use crate::tests::have_same_columns;
+use bases::agree;
 use canonical_form::least_form;
 use extension::Columns;
 use fast_form::least_form_fast;
@@ -32,7 +33,8 @@ fn both_searches_on_every_try(rt: HostRuntime) -> Result<(), Fail> {
     Ok(())
 }
 
-// Grows the levels of a request. On each try both searches find the same form, and no try is passed over.
+// Grows the levels of a request. On each try both searches find the same form, and no try is passed over; so they do of each
+// parent with its columns in the other order, which most often don't begin with the unit columns.
 fn compare_on_every_try(rt: &impl Abort, alloc: Global, text: &str) -> Result<(), Fail> {
     let request = read_request(text.as_bytes()).ok().ok_or("refused")?;
     let mut level = first_level(alloc, &request)?;
@@ -44,7 +46,7 @@ fn compare_on_every_try(rt: &impl Abort, alloc: Global, text: &str) -> Result<()
     Ok(())
 }
 
-// Compares both forms of each of the parents followed by each of its columns. The result is how many these are.
+// Compares both forms of each of the parents reversed, and followed by each of its columns. The result is how many the latter are.
 fn compare_after(rt: &impl Abort, request: &Request, parents: &FormList) -> u32
     requires { (n : ℕ) × IsParentLevel request.now n parents.now }
 {
@@ -52,6 +54,7 @@ fn compare_after(rt: &impl Abort, request: &Request, parents: &FormList) -> u32
     let mut compared = 0u32;
     for i in 0..parents.len() {
         if let Some(parent) = parents.get(i) {
+            assert!(rt; are_alike_reversed(parent, request.mode()));
             compared = compared.wrapping_add(compare_children(rt, parent, request.mode()));
         }
     }
@@ -79,4 +82,25 @@ fn are_alike(parent: &Rep, column: &ProductColumn, mode: Mode) -> bool
     let mut child = parent.copy();
     child.push_column(column);
     have_same_columns(&least_form(&child, mode), &least_form_fast(&child, mode))
+}
+
+// Whether both searches find the same form of the columns in the other order.
+fn are_alike_reversed(rep: &Rep, mode: Mode) -> bool {
+    let reversed = reversed(rep);
+    agree(&reversed)
+        && have_same_columns(
+            &least_form(&reversed, mode),
+            &least_form_fast(&reversed, mode),
+        )
+}
+
+// The representation with its columns in the other order.
+fn reversed(rep: &Rep) -> Rep {
+    rep.laws();
+    let size = rep.size();
+    let mut reversed = Rep::empty(rep.factors(), rep.rank() as u8);
+    for j in 0..size {
+        reversed.push_column(&rep.column(size - 1 - j));
+    }
+    reversed
 }

@@ -32,7 +32,7 @@ returns-else-keeps_count-clause-none c _ p u s i = elim c.if-keeps_last_counts.b
       (count_kept c.args.a.now c.args.b.now p u i c.laws.ensures c.laws-2.ensures c.args.labels.now c.requires.labels s)
   | else-keeps_last_counts w ↦
       iff_false c.keeps_last_counts.ensures w.if-keeps_last_counts.false
-      (last_counts_kept c.args.a.now c.args.b.now p u i c.laws.ensures c.laws-2.ensures c.args.counts.now.of_a.items
-      c.args.counts.now.of_b.items c.requires.of_a c.requires.of_b
+      (last_counts_kept c.args.a.now c.args.b.now p u i c.laws.ensures c.laws-2.ensures c.args.of_a.now.items
+      c.args.of_b.now.items c.requires.of_a c.requires.of_b
       c.args.labels.now c.requires.some (let l = c.requires.labels in l.few) s)
 ]

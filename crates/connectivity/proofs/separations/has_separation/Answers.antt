@@ -1,7 +1,7 @@
 use Rattle.std.proofs.Common.{not, ap, arith, inl, inr}
 use Rattle.std.proofs.lemmas.Bool.{cases_Bool}
 use Rattle.matroid_theory.specs.Matroid.{members}
-use Rattle.connectivity.proofs.SplitLemmas.{some_column, turned, with_next}
+use Rattle.connectivity.proofs.SplitLemmas.{some_column, up_to_turned, with_next}
 use Rattle.connectivity.proofs.separations.has_separation.Goals as goal
 
 pub with-first-requires-clause-column : goal.with-first-requires-clause-column
@@ -19,7 +19,7 @@ returns c = (
     )
     | inr f ↦ c.has_separation_from.ensures.1 (
       (λ j. not (w.0 j)),
-      turned c.args.rep.now c.args.order w.0 w.1,
+      up_to_turned c.args.rep.now c.args.greatest w.0 w.1,
       with_next 0 (λ j. not (w.0 j)) (members c.empty.result.set) (members c.with-first.result.set)
           (ap not f) c.with-first.ensures.set (λ j l. absurd (omega arith)),
     )

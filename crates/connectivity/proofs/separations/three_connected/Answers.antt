@@ -1,9 +1,19 @@
-use Rattle.std.proofs.Common.{not, sym, ◌∙◌, ap}
-use Rattle.std.proofs.lemmas.Bool.{false≢true}
+use Rattle.std.proofs.Common.{not, sym, ◌∙◌, ap, arith, inl, inr}
+use Rattle.std.proofs.lemmas.Bool.{false≢true, cases_Bool}
+use Rattle.connectivity.proofs.SplitLemmas.{first_or_second}
 use Rattle.connectivity.proofs.separations.three_connected.Goals as goal
 
-pub returns-else-not-has_separation : goal.returns-else-not-has_separation
-returns-else-not-has_separation c = (
-  λ b X. absurd (false≢true (sym (ap not c.if-not-has_separation.false) ∙ b)),
-  λ h. let w = c.has_separation.ensures.0 c.if-not-has_separation.false in absurd ((h w.0).0 w.1),
+pub returns : goal.returns
+returns c = (
+  λ b X. (
+    λ s. false≢true (sym (ap not (c.has_separation.ensures.1
+        (X, record { order = 1; positive = omega arith; most = omega arith; separation = s }))) ∙ b),
+    λ s. false≢true (sym (ap not (c.has_separation.ensures.1
+        (X, record { order = 2; positive = omega arith; most = omega arith; separation = s }))) ∙ b),
+  ),
+  λ h. elim (cases_Bool c.has_separation.result) [
+    | inl t ↦ (let w = c.has_separation.ensures.0 t in absurd (elim (first_or_second c.args.rep.now w.0 w.1)
+        [ inl s ↦ (h w.0).0 s | inr s ↦ (h w.0).1 s ]))
+    | inr f ↦ ap not f
+  ],
 )

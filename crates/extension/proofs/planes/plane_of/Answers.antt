@@ -1,5 +1,6 @@
-use Rattle.std.proofs.Common.{◌≡◌, ℕ, List, length, subst, ◌∙◌, ap, arith}
+use Rattle.std.proofs.Common.{◌≡◌, ◌<◌, ◌≤◌, ℕ, List, length, slice_index, subst, ◌∙◌, ap, arith}
 use Rattle.arrayvec.specs.ArrayVec.{ArrayVec}
+use Rattle.elimination.specs.Columns.{column}
 use Rattle.matroid_theory.specs.Rep.{count}
 use Rattle.extension.specs.Planes.{LiesOn}
 use Rattle.extension.proofs.PlaneLemmas.{normals_pushed}
@@ -19,6 +20,9 @@ returns-then-is_subset c =
       plane = record {
         normals = λ f l. c.loop-factor.invariant.normals f (omega arith);
         count = omega arith;
+        rows_most = c.nonzero_rows-rows.ensures.most;
+        zeros = subst (λ (xs : List (ArrayVec ℕ)). (f i : ℕ) → f < count c.args.rep.now → c.nonzero_rows-rows.result ≤ i → i < c.args.rep.now.rank →
+            slice_index (column xs f) i ≡ 0) c.as_slice-then-is_subset.ensures.value c.nonzero_rows-rows.ensures.zeros;
         lies_on = λ j _ t. subst (λ (xs : List (ArrayVec ℕ)). LiesOn c.args.rep.now xs j) c.as_slice.ensures.value (c.elements-elements.ensures j t).1;
         set = c.args.set;
         is_set = c.requires.set;

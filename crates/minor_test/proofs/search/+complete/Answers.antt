@@ -37,7 +37,7 @@ longer_below X longer list j e l =
 pub loop-image-preserved : goal.loop-image-preserved
 loop-image-preserved t c = record {
   done = below_more (λ j. c.first_image-first.result ≤ j →
-      IsDone c.args.minor.now c.args.rep.now c.args.tables.now.twins.items c.args.contracted c.args.images.now.list.items j)
+      IsDone c.args.minor.now c.args.rep.now c.args.tables.now.twins.now.items c.args.contracted c.args.images.now.list.items j)
       c.loop-image.image c.loop-image.invariant.done
       (λ _ f b k h. elim c.if-is_next.branch [
         | then-is_next+else-is_some w ↦ w.complete-found.ensures.none (nothing w.complete-found.result (sym w.is_some.ensures ∙ w.if-is_some.false)) f
@@ -74,5 +74,5 @@ returns-clause-none t c _ f b k h =
     let g : c.size-image-end.result ≤ c.loop-image.image = c.loop-image-test.false in
     c.loop-image.invariant.done (f (length c.args.images.now.list.items)) (omega arith)
     (least c.first_image-first.result c.as_slice-3.result.now c.args.images.now.list.items c.as_slice-2.result.now
-    c.args.tables.now.twins.items f c.as_slice-3.ensures.value c.as_slice-2.ensures.value (c.first_image-first.ensures f) b k)
+    c.args.tables.now.twins.now.items f c.as_slice-3.ensures.value c.as_slice-2.ensures.value (c.first_image-first.ensures f) b k)
     f (begins_next c.args.images.now.list.items f b) k h

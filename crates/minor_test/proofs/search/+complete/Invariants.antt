@@ -9,6 +9,6 @@ decreases-complete l = l.minor.now.size - length l.images.now.list.items
 abbrev pub invariant-loop-image : goal.invariant-loop-image
 invariant-loop-image l =
     record {
-      done : (j : ℕ) → j < l.image → l.first ≤ j → IsDone l.minor l.rep l.tables.twins.items l.contracted l.images.list.items j;
+      done : (j : ℕ) → j < l.image → l.first ≤ j → IsDone l.minor l.rep l.tables.twins.now.items l.contracted l.images.list.items j;
       kept : AgreeBelow (2 ^ length l.images.list.items) l.initial.sets l.sets;
     }

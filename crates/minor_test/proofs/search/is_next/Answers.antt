@@ -19,12 +19,12 @@ tested tables sets j n count e l = (
     count_is : length (take count sets) ≡ n
     count_is = length-take-le count sets (omega arith) ∙ e
 
-    at_count : (X : ℕ) → has tables.minor.words (length (take count sets) + X) ≡ has tables.minor.words (n + X)
-    at_count X = ap (λ y. has tables.minor.words (y + X)) count_is
+    at_count : (X : ℕ) → has tables.minor.now.words (length (take count sets) + X) ≡ has tables.minor.now.words (n + X)
+    at_count X = ap (λ y. has tables.minor.now.words (y + X)) count_is
 
-    at_set : (X : ℕ) → X < n → has tables.whole.words (bit_or (slice_index (take count sets) X) (2 ^ j)) ≡ has tables.whole.words
+    at_set : (X : ℕ) → X < n → has tables.whole.now.words (bit_or (slice_index (take count sets) X) (2 ^ j)) ≡ has tables.whole.now.words
         (bit_or (slice_index sets X) (2 ^ j))
-    at_set X m = ap (λ x. has tables.whole.words (bit_or x (2 ^ j))) (get_or-take count sets X 0 (omega arith))
+    at_set X m = ap (λ x. has tables.whole.now.words (bit_or x (2 ^ j))) (get_or-take count sets X 0 (omega arith))
 
 pub returns-then-not-in_set : goal.returns-then-not-in_set
 returns-then-not-in_set c =

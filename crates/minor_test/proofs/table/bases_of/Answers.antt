@@ -43,9 +43,9 @@ pub loop-set-preserved : goal.loop-set-preserved
 loop-set-preserved c X =
     elim c.if-is_basis.branch [
       | then-is_basis w ↦ with_basis c.args.rep.now c.loop-set.set X (has c.loop-set.table.words X)
-          (has c.if-is_basis.table.words X) (ap (λ (t : Table). has t.words X) w.table-is ∙ w.add.ensures X)
+          (has c.if-is_basis.table.words X) (ap (λ (t : Table 1024). has t.words X) w.table-is ∙ w.add.ensures X)
           (c.is_basis.ensures.0 w.if-is_basis.true) (c.loop-set.invariant X)
-      | else-is_basis w ↦ subst (λ (t : Table). IsTrue (has t.words X) ↔ IsBasisBelow c.args.rep.now (c.loop-set.set + 1) X) (sym w.table-is)
+      | else-is_basis w ↦ subst (λ (t : Table 1024). IsTrue (has t.words X) ↔ IsBasisBelow c.args.rep.now (c.loop-set.set + 1) X) (sym w.table-is)
           (without_basis c.args.rep.now c.loop-set.set X (has c.loop-set.table.words X)
           (λ b. false≢true (sym w.if-is_basis.false ∙ c.is_basis.ensures.1 b)) (c.loop-set.invariant X))
     ]

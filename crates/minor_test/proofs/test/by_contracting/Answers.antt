@@ -1,13 +1,13 @@
 use Rattle.std.proofs.Common.{◌≡◌, length, arith, sym, ◌∙◌, refl}
 use Rattle.std.proofs.lemmas.Bool.{false≢true}
 use Rattle.std.proofs.lemmas.List.{get_or-set_same}
-use Rattle.minor_test.proofs.Contracted.{in_basis, empty_alike, begins}
+use Rattle.minor_test.proofs.Contracted.{contracted_independent, empty_alike, begins}
 use Rattle.minor_test.proofs.test.by_contracting.Goals as goal
 
 pub returns-then-not-may_be_contracted-clause-none : goal.returns-then-not-may_be_contracted-clause-none
 returns-then-not-may_be_contracted-clause-none c _ f _ h = false≢true (sym c.if-not-may_be_contracted.true ∙ c.may_be_contracted.ensures.1 (
   h.contracted,
-  in_basis c.args.minor.now c.args.rep.now c.args.contracted c.requires.set c.args.tables.now c.requires.tables c.laws.ensures f h,
+  contracted_independent c.args.minor.now c.args.rep.now c.args.contracted c.laws.ensures f h,
   empty_alike c.args.minor.now c.args.rep.now c.args.contracted c.requires.set c.args.tables.now c.requires.tables f h,
 ))
 

@@ -8,6 +8,7 @@ use Rattle.named_matroids.specs.SmallMatroids.{IsSmallMatroid}
 use Rattle.matroid_theory.specs.Tables.{has}
 use Rattle.minor_test.specs.Tables.{HasMasks}
 use Rattle.minor_test.specs.Twins.{swapped, IsSwapped, AreTwins}
+use Rattle.minor_test.proofs.SmallSets.{in_table}
 use Rattle.minor_test.proofs.TwinSets.{one_swapped}
 use Rattle.minor_test.proofs.twins.are_twins.Goals as goal
 
@@ -32,6 +33,18 @@ module _ (N : Matroid) (small : IsSmallMatroid N) (words : List ℕ) (t : HasMas
 -- the basis that the loop is at
 at_place : (bases items : List ℕ) (k : ℕ) → items ≡ bases → k < length items → Contains bases (slice_index items k)
 at_place bases items k e l = subst (λ (xs : List ℕ). Contains xs (slice_index items k)) e (Contains-get_or items k 0 l)
+
+pub contains-requires : goal.contains-requires
+contains-requires c =
+    let small : IsSmallMatroid c.args.minor.now = c.laws.ensures in (
+      lit< tt,
+      in_table c.args.minor.now.size c.exchanged.result small.size_most
+          (c.exchanged.ensures.below c.args.minor.now.size c.requires.element
+          (All-contains (λ X. X < 2 ^ c.args.minor.now.size) c.args.minor.now.bases
+          (slice_index c.bases-basis-items.result.now c.loop-basis.basis-index) small.below
+          (at_place c.args.minor.now.bases c.bases-basis-items.result.now c.loop-basis.basis-index c.bases-basis-items.ensures
+          c.loop-basis-test.true))),
+    )
 
 pub returns-then-not-contains : goal.returns-then-not-contains
 returns-then-not-contains c = (
