@@ -1,5 +1,5 @@
 -- A representation followed by one more column: when it is simple, and when its factors agree.
-use Rattle.std.proofs.Common.{◌≡◌, ◌≢◌, ◌↔◌, ℕ, suc, ◌+◌, ◌^◌, ◌<◌, ◌≤◌, refl, sym, ◌∙◌, ap, subst, arith, add-one, List, Bool, true, false, ◌||◌, inl, inr}
+use Rattle.std.proofs.Common.{◌≡◌, ◌≢◌, ◌↔◌, ℕ, suc, ◌+◌, ◌<◌, ◌≤◌, refl, sym, ◌∙◌, ap, subst, arith, add-one, List, Bool, true, false, ◌||◌, inl, inr}
 use Rattle.std.specs.Bool.{◌==◌}
 use Rattle.std.proofs.lemmas.Bool.{cases_lt, cases_Bool}
 use mathlib.Core.Bool.{true≢false}
@@ -17,7 +17,7 @@ use Rattle.matrix_lemmas.proofs.Ranks.{without_last, IsIndependent-codes, but, b
 use Rattle.matroid_laws.proofs.Rest.{basis_in_whole, basis_in_part}
 use Rattle.matrix_lemmas.proofs.Sums.{same_number, other_number}
 use Rattle.extension.specs.Admissible.{IsAdmissible}
-use Rattle.extension.specs.Steps.{with_new}
+use Rattle.extension.specs.Steps.{IsAlikeWith, with_new}
 
 pub rep_followed : (M : Rep) (v : List ℕ) → KeepsLimits M → size M < 16 → IsProductColumn M.factors M.rank v → KeepsLimits (followed_by M v)
 rep_followed M v r room c = record {
@@ -98,11 +98,6 @@ module _ (M : Rep) (v : List ℕ) where
 
   -- ---- when its factors agree
 
-  -- each set of one column fewer than the rank is, with the new column, independent in every factor or in none
-  abbrev pub IsAlikeWith : Type 0
-  IsAlikeWith = (X f : ℕ) → X < 2 ^ size M → size_below (size M) (members X) + 1 ≡ M.rank → f < count M →
-      (IsIndependentIn (followed_by M v) 0 (with_new M (members X)) ↔ IsIndependentIn (followed_by M v) f (with_new M (members X)))
-
   module _ (shaped : IsShaped (followed_by M v)) (pos : 0 < count M) where
     -- a set with the new column, by the mask of the others
     by_mask : (S : ℕ → Bool) → S (size M) ≡ true → (j : ℕ) → j < size (followed_by M v) → S j ≡ with_new M (members (mask (size M) S)) j
@@ -115,7 +110,7 @@ module _ (M : Rep) (v : List ℕ) where
         ]
 
     -- a basis of one factor with the new column is one of each
-    with_new_same : IsAlikeWith → (f g : ℕ) → f < count M → g < count M → (S : ℕ → Bool) → S (size M) ≡ true →
+    with_new_same : IsAlikeWith M v → (f g : ℕ) → f < count M → g < count M → (S : ℕ → Bool) → S (size M) ≡ true →
         IsBasis (followed_by M v) f S → IsBasis (followed_by M v) g S
     with_new_same h f g l m S t b =
         let X : ℕ = mask (size M) S in
@@ -136,7 +131,7 @@ module _ (M : Rep) (v : List ℕ) where
         back f = IsIndependent-same (order M f) M.rank (size (followed_by M v)) (matrix (followed_by M v) f)
             (with_new M (members (mask (size M) S))) S (λ j l. sym (by_mask S t j l))
 
-    pub agrees_followed : Agrees M → IsAlikeWith → Agrees (followed_by M v)
+    pub agrees_followed : Agrees M → IsAlikeWith M v → Agrees (followed_by M v)
     agrees_followed a h = record {
       some = λ f l. (
           let (S, b) = a.some f l in (
@@ -150,7 +145,7 @@ module _ (M : Rep) (v : List ℕ) where
       ];
     }
 
-    pub alike_of_agrees : Agrees (followed_by M v) → IsAlikeWith
+    pub alike_of_agrees : Agrees (followed_by M v) → IsAlikeWith M v
     alike_of_agrees a X f l e m = (step 0 f pos m, step f 0 m pos)
       where
         step : (f g : ℕ) → f < count M → g < count M → IsIndependentIn (followed_by M v) f (with_new M (members X)) →
@@ -158,7 +153,7 @@ module _ (M : Rep) (v : List ℕ) where
         step f g l m d = (let b = a.same f g l m (with_new M (members X)) (record { full = size_new (members X) ∙ e; independent = d }) in b.independent)
 
     -- for one factor, nothing is to be seen
-    pub alike_of_one : count M ≡ 1 → IsAlikeWith
+    pub alike_of_one : count M ≡ 1 → IsAlikeWith M v
     alike_of_one e X f l k m =
         (let z : 0 ≡ f = omega arith in
         subst (λ (f : ℕ). IsIndependentIn (followed_by M v) 0 (with_new M (members X)) ↔ IsIndependentIn (followed_by M v) f

@@ -34,10 +34,10 @@ use Rattle.elimination.proofs.Lists.{column_before, column_last}
 use Rattle.extension.specs.declared.planes.Plane.{Plane}
 use Rattle.extension.specs.Planes.{product, IsNormal, LiesOnIn, LiesOn, IsPlaneSet, IsWithin, IsPlane, IsCovered, ArePlanes, IsAlikeAt}
 use Rattle.extension.specs.Admissible.{IsAdmissible}
-use Rattle.extension.specs.Steps.{AgreeOnRows, IsRefused, with_new}
+use Rattle.extension.specs.Steps.{AgreeOnRows, IsAlikeWith, IsRefused, with_new}
 use Rattle.product_rep.proofs.MoveLemmas.{column-entry}
 use Rattle.extension.proofs.Parallel.{column_is}
-use Rattle.extension.proofs.Followers.{IsAlikeWith, in_whole, size_new, alike_of_agrees, followed_shaped}
+use Rattle.extension.proofs.Followers.{in_whole, size_new, alike_of_agrees, followed_shaped}
 use Rattle.extension.proofs.Nexts.{row_before, normalised_length}
 use Rattle.std.proofs.Math.Nat.{le_refl}
 use Rattle.std.proofs.lemmas.Grind.{same_number_lists}
@@ -326,30 +326,31 @@ read_column xs ys s i l e h w d =
     d ∙ ap (λ (v : ArrayVec ℕ). v.items)
     (get_or_read xs i e l (h ∙ ap (λ (xs : List (ArrayVec ℕ)). slice_index_or xs i e) s) (record { items = [] }))
 
-module _ (M : Rep) (r : KeepsLimits M) (f j : ℕ) (l : f < count M) (m : j < size M) (q : ℕ) (d : q ≡ order M f) (part : List ℕ)
-    (p : part ≡ column_of M f j) (row : List ℕ) (n : IsColumn (order M f) M.rank row) (w : List ℕ) (e : w ≡ row) where
-  part_is : IsColumn q M.rank part
-  part_is = column_is M r f j l m q d part p
-
-  row_is : IsColumn q M.rank w
-  row_is = subst (λ (w : List ℕ). IsColumn q M.rank w) (sym e) (subst (λ (q : ℕ). IsColumn q M.rank row) (sym d) n)
-
-  pub part_rows : length part ≤ length w
-  part_rows = let a : length part ≡ M.rank = part_is.rows in let b : length w ≡ M.rank = row_is.rows in omega arith
-
-  pub row_codes : (k : ℕ) → k < length part → slice_index w k < q
-  row_codes k o = row_is.below k (let a : length part ≡ M.rank = part_is.rows in omega arith)
-
+-- a row of coefficients and a column whose products can be added, and their sum
+pub record CanMultiply (q : ℕ) (row part : List ℕ) (sum : ℕ) : Type 0 where
+  pub rows : length part ≤ length row
+  pub row_codes : (k : ℕ) → k < length part → slice_index row k < q
   pub part_codes : (k : ℕ) → k < length part → slice_index part k < q
-  part_codes k o = part_is.below k (let a : length part ≡ M.rank = part_is.rows in omega arith)
+  pub sum_is : sum_below q (length part) (λ k. times q (slice_index row k) (slice_index part k)) ≡ sum
 
-  -- the sum of their products
-  pub product_is : sum_below q (length part) (λ k. times q (slice_index w k) (slice_index part k)) ≡ product (order M f) M.rank row (matrix M f) j
-  product_is =
+pub multiplies : (M : Rep) → KeepsLimits M → (f j : ℕ) → f < count M → j < size M → (q : ℕ) → q ≡ order M f → (part : List ℕ) → part ≡ column_of M f j →
+    (row : List ℕ) → IsColumn (order M f) M.rank row → (w : List ℕ) → w ≡ row → CanMultiply q w part (product (order M f) M.rank row (matrix M f) j)
+multiplies M r f j l m q d part p row n w e = record {
+  rows = (let a : length part ≡ M.rank = part_is.rows in let b : length w ≡ M.rank = row_is.rows in omega arith);
+  row_codes = λ k o. row_is.below k (let a : length part ≡ M.rank = part_is.rows in omega arith);
+  part_codes = λ k o. part_is.below k (let a : length part ≡ M.rank = part_is.rows in omega arith);
+  sum_is =
       (λ t. sum_below (d t) (part_is.rows t) (λ k. times (d t) (slice_index (e t) k) (slice_index part k)))
       ∙ sum_same (order M f) (let s = r.shaped in field_laws (order M f) (s.orders f l)) M.rank
       (λ k. times (order M f) (slice_index row k) (slice_index part k)) (λ k. times (order M f) (slice_index row k) (matrix M f k j))
-      (λ k o. ap (times (order M f) (slice_index row k)) (column-entry M f j k part p o))
+      (λ k o. ap (times (order M f) (slice_index row k)) (column-entry M f j k part p o));
+}
+  where
+    part_is : IsColumn q M.rank part
+    part_is = column_is M r f j l m q d part p
+
+    row_is : IsColumn q M.rank w
+    row_is = subst (λ (w : List ℕ). IsColumn q M.rank w) (sym e) (subst (λ (q : ℕ). IsColumn q M.rank row) (sym d) n)
 
 -- ---- lists that grow
 

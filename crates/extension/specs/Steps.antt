@@ -1,11 +1,12 @@
 -- The steps from one normalised column to the next, and what the columns of a representation keep.
-use Rattle.std.specs.Prelude.{ℕ, ◌+◌, ◌*◌, ◌/◌, ◌%◌, ◌<◌, ◌≤◌, ◌≡◌, ◌≢◌, ◌⊎◌, List, [], length, slice_index, Bool, ◌==◌, ◌||◌}
+use Rattle.std.specs.Prelude.{ℕ, ◌+◌, ◌*◌, ◌^◌, ◌↔◌, ◌/◌, ◌%◌, ◌<◌, ◌≤◌, ◌≡◌, ◌≢◌, ◌⊎◌, List, [], length, slice_index, Bool, ◌==◌, ◌||◌}
 use Rattle.std.specs.Cmp.Lexicographic.{slice_cmp}
 use Rattle.std.specs.Ordering.{nat_cmp}
 use Rattle.std.specs.declared.cmp.Ordering.TheVariants.{Less, Greater}
 use Rattle.matroid_theory.specs.Rep.{Rep, size, count, KeepsLimits, IsStandard}
-use Rattle.matroid_theory.specs.Matroid.{Agrees, IsSimple}
-use Rattle.matroid_theory.specs.Level.{IsNormalised}
+use Rattle.matroid_theory.specs.Matrix.{size_below}
+use Rattle.matroid_theory.specs.Matroid.{members, IsIndependentIn, Agrees, IsSimple}
+use Rattle.matroid_theory.specs.Level.{IsNormalised, followed_by}
 use Rattle.extension.specs.Admissible.{ColumnsAfter, IsAdmissible}
 
 -- a normalised column, or none yet
@@ -71,3 +72,8 @@ pub record IsRefused (M : Rep) (v : List ℕ) (rows : ℕ) : Type 0 where
 -- a set of the columns of M with one column more
 abbrev pub with_new : Rep → (ℕ → Bool) → ℕ → Bool
 with_new M S j = (j == size M) || S j
+
+-- each set of one column fewer than the rank is, with the column v after those of M, independent in every factor or in none
+abbrev pub IsAlikeWith : Rep → List ℕ → Type 0
+IsAlikeWith M v = (X f : ℕ) → X < 2 ^ size M → size_below (size M) (members X) + 1 ≡ M.rank → f < count M →
+    (IsIndependentIn (followed_by M v) 0 (with_new M (members X)) ↔ IsIndependentIn (followed_by M v) f (with_new M (members X)))

@@ -8,7 +8,7 @@ ghost use Rattle.matroid_theory.specs.Level.{followed_by, IsNormalised};
 ghost use Rattle.column_sets.specs.Picked.{IsIndependentSet};
 ghost use Rattle.extension.specs.Admissible.{IsAdmissible};
 ghost use Rattle.extension.specs.Planes.{KnowsPlanes};
-ghost use Rattle.extension.specs.Steps.{IsRefused, with_new};
+ghost use Rattle.extension.specs.Steps.{IsAlikeWith, IsRefused, with_new};
 
 use crate::agreement::refusing_rows;
 use crate::normalised::lead;
@@ -125,11 +125,7 @@ fn unlike_rows(rep: &Rep, planes: &Option<Planes>, column: &ProductColumn) -> Op
     requires room { size rep.now < 16 }
     requires planes { KnowsPlanes rep.now planes.now }
     requires normalised { IsNormalised rep.now.factors rep.now.rank column.now.items }
-    ensures { MatchOption result ((X f : ℕ) → X < 2 ^ size rep.now → size_below (size rep.now) (members X) + 1 ≡ rep.now.rank →
-        f < count rep.now →
-        (IsIndependentIn (followed_by rep.now column.now.items) 0 (with_new rep.now (members X)) ↔
-        IsIndependentIn (followed_by rep.now column.now.items) f (with_new rep.now (members X))))
-        (IsRefused rep.now column.now.items) }
+    ensures { MatchOption result (IsAlikeWith rep.now column.now.items) (IsRefused rep.now column.now.items) }
 {
     rep.laws();
     let Some(planes) = planes else {
@@ -153,10 +149,7 @@ fn is_alike_from(rep: &Rep, from: u32, column: &ProductColumn) -> bool
         size_below (size rep.now) (members X) + 1 ≡ rep.now.rank → f < count rep.now →
         (IsIndependentIn (followed_by rep.now column.now.items) 0 (with_new rep.now (members X)) ↔
         IsIndependentIn (followed_by rep.now column.now.items) f (with_new rep.now (members X))) }
-    ensures all { ((X f : ℕ) → X < 2 ^ size rep.now → size_below (size rep.now) (members X) + 1 ≡ rep.now.rank →
-        f < count rep.now →
-        (IsIndependentIn (followed_by rep.now column.now.items) 0 (with_new rep.now (members X)) ↔
-        IsIndependentIn (followed_by rep.now column.now.items) f (with_new rep.now (members X)))) → IsTrue result }
+    ensures all { IsAlikeWith rep.now column.now.items → IsTrue result }
 {
     if from >= set_count(rep.size()) {
         return true;
@@ -168,10 +161,7 @@ fn is_alike_from(rep: &Rep, from: u32, column: &ProductColumn) -> bool
 fn is_alike_one_by_one(rep: &Rep, column: &ProductColumn) -> bool
     requires room { size rep.now < 16 }
     requires column { IsProductColumn rep.now.factors rep.now.rank column.now.items }
-    ensures { IsTrue result ↔ ((X f : ℕ) → X < 2 ^ size rep.now → size_below (size rep.now) (members X) + 1 ≡ rep.now.rank →
-        f < count rep.now →
-        (IsIndependentIn (followed_by rep.now column.now.items) 0 (with_new rep.now (members X)) ↔
-        IsIndependentIn (followed_by rep.now column.now.items) f (with_new rep.now (members X)))) }
+    ensures { IsTrue result ↔ IsAlikeWith rep.now column.now.items }
 {
     let mut longer = rep.copy();
     longer.push_column(column);

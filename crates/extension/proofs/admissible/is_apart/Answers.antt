@@ -9,6 +9,7 @@ use Rattle.matrix_lemmas.proofs.Pairs.{pair}
 use Rattle.extension.specs.Steps.{IsLead}
 use Rattle.extension.proofs.Nexts.{lead_of}
 use Rattle.extension.proofs.admissible.is_apart.Goals as goal
+use Rattle.extension.proofs.admissible.is_apart.Goals.{After-lead-lead}
 
 -- the lead, by the names of the arguments
 at_lead : (fs : List ℕ) → IsFactors fs → (rank : ℕ) (v : List ℕ) (lead c r : ℕ) (w : List ℕ) → c ≡ length fs → r ≡ rank → w ≡ v →
@@ -19,19 +20,19 @@ at_lead fs i rank v lead c r w e d k n h =
     (subst (λ (v : List ℕ). IsLead (length fs) rank v lead) k
     (subst (λ (r : ℕ). IsLead (length fs) r w lead) d (subst (λ (c : ℕ). IsLead c r w lead) e h)))
 
-pub is_apart_in-requires-clause-lead : goal.is_apart_in-requires-clause-lead
-is_apart_in-requires-clause-lead c =
-    (let l = (at_lead c.args.rep.now.factors (let r = c.requires.is_rep in r.fields) c.args.rep.now.rank c.args.column.now.items
+read : (c : After-lead-lead) → (c.lead-lead.result < c.args.rep.now.rank)
+    × ((f : ℕ) → f < count c.args.rep.now → slice_index c.args.column.now.items (c.lead-lead.result * count c.args.rep.now + f) ≡ 1)
+read c = at_lead c.args.rep.now.factors (let r = c.requires.is_rep in r.fields) c.args.rep.now.rank c.args.column.now.items
     c.lead-lead.result c.count.result c.rank.result c.as_slice.result.now
     (c.count.ensures.count ∙ ap (λ (fs : List ℕ). length fs) c.factors-factors.ensures) c.rank.ensures c.as_slice.ensures.value
-    c.requires.normalised c.lead-lead.ensures) in l.0)
+    c.requires.normalised c.lead-lead.ensures
+
+pub is_apart_in-requires-clause-lead : goal.is_apart_in-requires-clause-lead
+is_apart_in-requires-clause-lead c = (let l = read ((goal.at.is_apart_in-requires-clause-lead c).After-lead-lead) in l.0)
 
 pub is_apart_in-requires-clause-one : goal.is_apart_in-requires-clause-one
 is_apart_in-requires-clause-one c =
-    (let l = (at_lead c.args.rep.now.factors (let r = c.requires.is_rep in r.fields) c.args.rep.now.rank c.args.column.now.items
-    c.lead-lead.result c.count.result c.rank.result c.as_slice.result.now
-    (c.count.ensures.count ∙ ap (λ (fs : List ℕ). length fs) c.factors-factors.ensures) c.rank.ensures c.as_slice.ensures.value
-    c.requires.normalised c.lead-lead.ensures) in
+    (let l = read ((goal.at.is_apart_in-requires-clause-one c).After-lead-lead) in
     l.1 c.loop-factor.factor
     (subst (λ (n : ℕ). c.loop-factor.factor < n)
     (c.count-factor-end.ensures.count ∙ ap (λ (fs : List ℕ). length fs) c.factors-factors.ensures) c.loop-factor-test.true))

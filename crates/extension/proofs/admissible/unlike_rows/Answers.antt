@@ -35,7 +35,8 @@ pub returns-then-is_alike_from : goal.returns-then-is_alike_from
 returns-then-is_alike_from c = λ X f b full l. elim (cases_lt X c.in-Some.planes.from) [
   | inl o ↦ alike_covered c.args.rep.now c.args.column.now.items c.laws.ensures c.requires.agrees (let n = c.requires.normalised in n.is_column)
       c.in-Some.planes.list.items c.in-Some.planes.from (known ((goal.at.returns-then-is_alike_from c).In-Some))
-      (subst (λ (planes : List Plane). All (IsAlikeAt c.args.rep.now c.args.column.now.items) planes) c.as_slice.ensures.value c.in_default-refusing_rows.ensures) X f o b full l
+      (subst (λ (planes : List Plane). All (IsAlikeAt c.args.rep.now c.args.column.now.items) planes) c.as_slice.ensures.value
+      c.in_default-refusing_rows.ensures) X f o b full l
   | inr g ↦ c.is_alike_from.ensures.yes c.if-is_alike_from.true X f g b full l
 ]
 

@@ -6,7 +6,8 @@ use Rattle.extension.proofs.normalised.following.Goals as goal
 pub returns-in_err-place : goal.returns-in_err-place
 returns-in_err-place c =
     rw c.from_residual.ensures
-    (last_normalised c.args.factors.now c.count-count.ensures.are_factors c.args.rank c.args.column.now c.lead-lead.result c.args.rows c.requires.rows c.requires.start
+    (last_normalised c.args.factors.now c.count-count.ensures.are_factors c.args.rank c.args.column.now c.lead-lead.result c.args.rows
+    c.requires.rows c.requires.start
     (subst (λ (n : ℕ). IsLead n c.args.rank c.args.column.now c.lead-lead.result) c.count-count.ensures.count c.lead-lead.ensures) (c.in_err-place.ensures))
 
 pub raised-requires-clause-code : goal.raised-requires-clause-code
