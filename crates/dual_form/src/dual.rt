@@ -1,8 +1,7 @@
 ghost use Rattle.std.specs.Prelude.{◌≡◌, ◌<◌, ◌≤◌, ◌+◌, ◌-◌, ◌*◌, ℕ, length, slice_index};
-ghost use Rattle.matroid_theory.specs.Rep.{count, matrix, shape, size, IsShaped, IsStandard, KeepsLimits};
+ghost use Rattle.matroid_theory.specs.Rep.{count, size, IsStandard, KeepsLimits};
 ghost use Rattle.matroid_theory.specs.Matroid.{Agrees};
 ghost use Rattle.dual_theory.specs.Dual.{dual_matrix, IsDualForm, IsStandardDual};
-ghost use Rattle.dual_form.specs.Turned.{turned};
 
 use arrayvec::ArrayVec;
 use fast_form::least_form_fast;
@@ -22,8 +21,7 @@ pub fn dual_of(rep: &Rep, mode: Mode) -> Rep
     rep.laws();
     let dual = standard_dual(rep);
     dual.laws();
-    // The search for a form is fast where the unit columns come first.
-    least_form_fast(&rotated(&dual, rep.rank()), mode)
+    least_form_fast(&dual, mode)
 }
 
 /// For a standard representation [I | D] the one made of -D transposed, followed by the unit columns. It is orthogonal to [I | D].
@@ -73,33 +71,4 @@ fn dual_code(rep: &Rep, factor: usize, i: usize, j: usize) -> u8
     }
     let entry = rep.factor_column(factor, rank + i)[j];
     rep.factors().field(factor).neg(entry)
-}
-
-/// The representation with its columns from `start` on before the others.
-fn rotated(rep: &Rep, start: usize) -> Rep
-    requires { start ≤ size rep.now }
-    ensures shape { shape result ≡ shape rep.now }
-    ensures shaped { IsShaped result }
-    ensures entries { (f i j : ℕ) → f < count rep.now → i < rep.now.rank → j < size rep.now →
-        matrix result f i j ≡ matrix rep.now f i (turned start (size rep.now) j) }
-{
-    rep.laws();
-    let size = rep.size();
-    let mut rotated = Rep::empty(rep.factors(), rep.rank() as u8);
-    for j in 0..size {
-        rotated.push_column(&rep.column(turned_from(start, size, j)));
-    }
-    rotated.laws();
-    rotated
-}
-
-/// Where the column at place `j` comes from, where those from `start` on come first.
-fn turned_from(start: usize, size: usize, j: usize) -> usize
-    requires start { start ≤ size }
-    requires j { j < size }
-    ensures place { result ≡ turned start size j }
-    ensures below { result < size }
-{
-    let later = size - start;
-    if j < later { start + j } else { j - later }
 }
