@@ -15,7 +15,7 @@ mod parent;
 mod shown;
 
 pub use filter::passes;
-pub use forbidden::avoids;
+pub use forbidden::{Forbidden, avoids};
 pub use form_list::FormList;
 pub use growth::grow_alone;
 pub use level::{Level, first_level};
