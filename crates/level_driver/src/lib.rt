@@ -11,6 +11,7 @@ mod form_list;
 mod found;
 mod growth;
 mod level;
+mod level_list;
 mod parent;
 mod shown;
 
@@ -19,6 +20,7 @@ pub use forbidden::{Forbidden, avoids};
 pub use form_list::FormList;
 pub use growth::grow_alone;
 pub use level::{Level, first_level};
+pub use level_list::LevelList;
 pub use parent::Children;
 pub use shown::listed;
 /// Want of memory.
