@@ -27,11 +27,7 @@ fn base_list(alloc: Global, form: &Rep) -> Result<Counted, AllocError>
 }
 
 /// The bases of each form, counted, where forms are compared.
-pub fn lists_where(
-    alloc: Global,
-    compared: bool,
-    forms: &[Rep],
-) -> Result<Vec<Counted>, AllocError>
+pub fn lists_where(alloc: Global, compared: bool, forms: &[Rep]) -> Result<Vec<Counted>, AllocError>
     ensures { IfOk result (λ lists. IsTrue compared → AreMatroidsOf forms.now lists.items) }
 {
     if compared {

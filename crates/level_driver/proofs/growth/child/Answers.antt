@@ -1,7 +1,6 @@
 use Rattle.std.proofs.Common.{◌≡◌, sym, ◌∙◌, ap, subst}
-use Rattle.matroid_theory.specs.Rep.{Rep, IsStandard}
+use Rattle.matroid_theory.specs.Rep.{Rep}
 use Rattle.matroid_theory.specs.Level.{followed_by}
-use Rattle.matroid_laws.proofs.Followed.{standard_followed}
 use Rattle.level_driver.specs.Forbidden.{Avoids}
 use Rattle.level_driver.proofs.growth.child.Goals as goal
 

@@ -1,4 +1,4 @@
-use Rattle.std.proofs.Common.{◌∙◌, ◌++◌, ◌∷◌, [], sym, ap, arith}
+use Rattle.std.proofs.Common.{◌∙◌, ◌++◌, ◌∷◌, [], sym, ap}
 use Rattle.std.proofs.lemmas.List.{take_all}
 use Rattle.level_driver.specs.Forbidden.{matroids_of}
 use Rattle.level_driver.proofs.Avoiding.{matroids_more}
