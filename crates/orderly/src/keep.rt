@@ -30,11 +30,7 @@ pub fn keeps(request: &Request, parent: &Rep, column: &ProductColumn) -> bool
 }
 
 /// The parent followed by the column, where that has none of these minors.
-pub(crate) fn candidate(
-    parent: &Rep,
-    forbidden: &Forbidden,
-    column: &ProductColumn,
-) -> Option<Rep>
+pub(crate) fn candidate(parent: &Rep, forbidden: &Forbidden, column: &ProductColumn) -> Option<Rep>
     requires room { size parent.now < 16 }
     requires column { IsAdmissible parent.now column.now.items }
     ensures { MatchOption result (¬ (Avoids forbidden.now (followed_by parent.now column.now.items)))
