@@ -28,10 +28,10 @@ loop-size-init g c =
     record {
       begun = first_begun q (g.K.Sink.held c.args.sink.now) (g.K.Sink.held c.write_level.new.sink)
           (omega (arith, c.laws.ensures.limits.size)) c.rank-rank.result c.rank-rank.ensures c.as_slice.result.now
-          (c.as_slice.ensures.value ∙ c.head_text-head.ensures) c.in_default-write_level.ensures.ok;
+          (c.as_slice.ensures.value ∙ c.head_text-head.ensures) c.in_default.ensures.ok;
       level = subst (λ n. IsGrown q n c.args.first) (sym c.rank-rank.ensures) c.requires.first;
       later = subst (λ n. AreGrown q (n + 1) c.args.later) (sym c.rank-rank.ensures) c.requires.later;
-      kept = c.in_default-write_level.ensures.kept;
+      kept = c.in_default.ensures.kept;
     }
 
 pub level_after-requires : goal.level_after-requires
@@ -60,10 +60,10 @@ loop-size-preserved g c =
     record {
       begun = next_begun q size (g.K.Sink.held c.args.sink.now)
           (g.K.Sink.held c.loop-size.sink) c.loop-size.invariant.begun (omega arith) (omega arith)
-          (g.K.Sink.held c.write_level-in-loop-size.new.sink) c.in_default-write_level-2.ensures.ok;
+          (g.K.Sink.held c.write_level-in-loop-size.new.sink) c.in_default-write_level.ensures.ok;
       level = c.in-Ok.ensures.level size parent c.loop-size.invariant.later;
       later = c.in-Ok.ensures.later (size + 1) c.loop-size.invariant.later;
-      kept = c.in_default-write_level-2.ensures.kept ∙ c.loop-size.invariant.kept;
+      kept = c.in_default-write_level.ensures.kept ∙ c.loop-size.invariant.kept;
     }
 
 pub returns-clause-ok : goal.returns-clause-ok
