@@ -23,13 +23,13 @@ loop-init g c =
       shift = stays_same c.args.shift.now;
       width = ap (λ (l : List (List (List ℕ))). length l) is ∙ (length-replicate c.stripes.result [] ∙ c.stripes.ensures.count);
       empty = subst AreEmpty (sym is) (none_gathered c.stripes.result);
-      so_far = taken_none c.mode-mode.result c.in_ok-forbidden.forbidden c.args.parents.now (shift_taken c.args.shift.now) c.args.pass.now;
+      so_far = taken_none c.mode-mode.result c.forbidden.inside.sought.items c.args.parents.now (shift_taken c.args.shift.now) c.args.pass.now;
     }
 
 pub returns-in_default-clause-part : goal.returns-in_default-clause-part
 returns-in_default-clause-part g c =
-    let Ns : List Matroid = c.in_ok-forbidden.forbidden in
-    let given = same_given c.args.request.now _ _ (sym c.in_ok-forbidden.ensures) c.forbid.ensures.given in
+    let Ns : List Matroid = c.forbidden.inside.sought.items in
+    let given = same_given c.args.request.now _ _ (sym (c.forbidden.view_is ∙ c.in_ok-forbidden.ensures)) c.forbid.ensures.given in
     let same : shift_taken c.next-in-loop.new.self ≡ shift_taken c.loop.shift = c.in_default.ensures.taken in
     part_done c.args.request.now Ns given c.args.parents.now (shift_taken c.args.shift.now) (shift_taken c.next-in-loop.new.self)
     c.args.pass.now c.loop.pass c.loop.tried
@@ -62,9 +62,11 @@ overflow_add-tried g c =
     let Ns : List Matroid = c.in_ok-forbidden.forbidden in
     let given = same_given c.args.request.now _ _ (sym c.in_ok-forbidden.ensures) c.forbid.ensures.given in
     let parents : List Rep = c.args.parents.now in
+    let so_far = subst (λ (Ms : List Matroid). HasTaken c.mode-mode.result Ms parents (shift_taken c.args.shift.now) (shift_taken c.loop.shift)
+        c.args.pass.now c.loop.pass c.loop.tried) c.forbidden.view_is c.loop.invariant.so_far in
     let h = taken_more c.mode-mode.result Ns parents
     (parents_rise q Ns given c.laws.ensures.factors c.laws.ensures.limits c.requires.parents.0 parents c.requires.parents.1)
-    (shift_taken c.args.shift.now) (shift_taken c.loop.shift) c.args.pass.now c.loop.pass c.loop.tried c.loop.invariant.so_far c.in-Some-next.number
+    (shift_taken c.args.shift.now) (shift_taken c.loop.shift) c.args.pass.now c.loop.pass c.loop.tried so_far c.in-Some-next.number
     c.in-Some-get.parent.now (sym c.in-Some-get.ensures) c.in-Some-next.ensures.taken.1 (search rules) (shift_taken c.next-in-loop.new.self)
     c.offer_children.new.pass c.in_ok-more.more (c.loop.tried + c.from-tried.result) c.in-Some-next.ensures.taken.2 c.in_ok-more.ensures.offered
     (ap (λ (k : ℕ). c.loop.tried + k) c.from-tried.ensures) in
@@ -79,6 +81,8 @@ loop-preserved g c =
     let Ns : List Matroid = c.in_ok-forbidden.forbidden in
     let given = same_given c.args.request.now _ _ (sym c.in_ok-forbidden.ensures) c.forbid.ensures.given in
     let parents : List Rep = c.args.parents.now in
+    let so_far = subst (λ (Ms : List Matroid). HasTaken c.mode-mode.result Ms parents (shift_taken c.args.shift.now) (shift_taken c.loop.shift)
+        c.args.pass.now c.loop.pass c.loop.tried) c.forbidden.view_is c.loop.invariant.so_far in
     let i = c.loop.invariant in
     let a = i.pass in
     let b = c.offer_children.ensures.same in
@@ -91,10 +95,13 @@ loop-preserved g c =
       shift = stays_more c.args.shift.now c.loop.shift c.next-in-loop.new.self i.shift c.in-Some-next.ensures.same;
       width = ap (λ (l : List (List (List ℕ))). length l) back ∙ (lent ∙ i.width);
       empty = subst AreEmpty (sym back) c.in_ok-more.ensures.empty;
-      so_far = taken_more c.mode-mode.result Ns parents
+      so_far = subst (λ (Ms : List Matroid). HasTaken c.mode-mode.result Ms parents (shift_taken c.args.shift.now)
+          (shift_taken c.next-in-loop.new.self) c.args.pass.now c.offer_children.new.pass (c.loop.tried + c.from-tried.result))
+          (sym c.forbidden.view_is)
+          (taken_more c.mode-mode.result Ns parents
           (parents_rise q Ns given c.laws.ensures.factors c.laws.ensures.limits c.requires.parents.0 parents c.requires.parents.1)
-          (shift_taken c.args.shift.now) (shift_taken c.loop.shift) c.args.pass.now c.loop.pass c.loop.tried i.so_far c.in-Some-next.number
+          (shift_taken c.args.shift.now) (shift_taken c.loop.shift) c.args.pass.now c.loop.pass c.loop.tried so_far c.in-Some-next.number
           c.in-Some-get.parent.now (sym c.in-Some-get.ensures) c.in-Some-next.ensures.taken.1 (search rules) (shift_taken c.next-in-loop.new.self)
           c.offer_children.new.pass c.in_ok-more.more (c.loop.tried + c.from-tried.result) c.in-Some-next.ensures.taken.2 c.in_ok-more.ensures.offered
-          (ap (λ (k : ℕ). c.loop.tried + k) c.from-tried.ensures);
+          (ap (λ (k : ℕ). c.loop.tried + k) c.from-tried.ensures));
     }
