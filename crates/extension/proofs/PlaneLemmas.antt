@@ -1,6 +1,5 @@
 -- A new column extends an independent set to a basis where it doesn't lie on the plane of the set.
-use Rattle.std.proofs.Common.{◌≡◌, ◌≢◌, ◌↔◌, ℕ, suc, ◌+◌, ◌^◌, ◌<◌, ◌≤◌, refl, sym, ◌∙◌, ap, subst, arith, cond, List}
-use Rattle.std.proofs.Common.{Bool, true, false, ◌||◌, inl, inr, [], ◌∷◌, ◌++◌, ◌*◌, ◌%◌, length, length-append, slice_index, slice_index_or, bit_or, w16}
+use Rattle.std.proofs.Common.{◌≡◌, ◌≢◌, ◌↔◌, ℕ, suc, ◌+◌, ◌^◌, ◌<◌, ◌≤◌, refl, sym, ◌∙◌, ap, subst, arith, cond, List, Bool, true, false, ◌||◌, inl, inr, [], ◌∷◌, ◌++◌, ◌*◌, ◌%◌, length, length-append, slice_index, slice_index_or, bit_or, w16}
 use Rattle.std.specs.Bool.{◌==◌}
 use Rattle.std.specs.Int.{bit_at}
 use Rattle.std.specs.List.{All}
@@ -27,8 +26,7 @@ use Rattle.matrix_lemmas.proofs.Invertible.{combination_zero}
 use Rattle.matrix_lemmas.proofs.Masks.{size-same, IsIndependent-same}
 use Rattle.matrix_lemmas.proofs.Picked.{size_more}
 use Rattle.matrix_lemmas.proofs.Ranks.{without_last, with_last, last_before, combination_last, last_coefficients, IsIndependent-codes, but, but_own, but_other}
-use Rattle.matrix_lemmas.proofs.Sums.{zero_below, sum_same, plus_zero_right, sum_one, sum_below-code, combination-product}
-use Rattle.matrix_lemmas.proofs.Sums.{times_zero, zero_times, same_number, other_number}
+use Rattle.matrix_lemmas.proofs.Sums.{zero_below, sum_same, plus_zero_right, sum_one, sum_below-code, combination-product, times_zero, zero_times, same_number, other_number}
 use Rattle.elimination.specs.Columns.{column, IsColumn, AreColumns}
 use Rattle.elimination.proofs.Lists.{column_before, column_last}
 use Rattle.extension.specs.declared.planes.Plane.{Plane}
@@ -308,9 +306,8 @@ pub whole_refused : (M : Rep) (v : List ℕ) → KeepsLimits M → IsNormalised 
 whole_refused M v r n refused = record {
   most = le_refl M.rank;
   none = λ w a same.
-      let m = a.normalised in
-      let l : length v ≡ length w = normalised_length M.factors r.fields M.rank v n ∙ sym (normalised_length M.factors r.fields M.rank w m) in
       let e : length v ≡ M.rank * count M = normalised_length M.factors r.fields M.rank v n in
+      let l : length v ≡ length w = e ∙ sym (normalised_length M.factors r.fields M.rank w a.normalised) in
       refused (subst (λ (x : List ℕ). IsAdmissible M x) (sym (same_number_lists v w l (λ p b. same p (omega arith)))) a);
 }
 
@@ -371,31 +368,21 @@ more_elements M normals elements new l old own j t = elim (cases_eq j new) [
       ((let o : j < new = w.0 in omega arith), w.1))
 ]
 
--- a column more
+-- a column more, of which something holds as of those before it
+pub columns_more : (P : ℕ → List ℕ → Type 0) (n : ℕ) (xs ys : List (ArrayVec ℕ)) (y : ArrayVec ℕ) → ys ≡ xs ++ y ∷ [] → length xs ≡ n →
+    ((f : ℕ) → f < n → P f (column xs f)) → P n y.items → (f : ℕ) → f < n + 1 → P f (column ys f)
+columns_more P n xs ys y e k h own f l = subst (λ (ys : List (ArrayVec ℕ)). P f (column ys f)) (sym e)
+    (elim (cases_lt f n) [
+      | inl b ↦ subst (λ (w : List ℕ). P f w) (sym (column_before xs y f (let o : f < length xs = omega arith in o))) (h f b)
+      | inr g ↦ (let i : length xs ≡ f = omega arith in
+          subst (λ (f : ℕ). P f (column (xs ++ y ∷ []) f)) i
+          (subst (λ (w : List ℕ). P (length xs) w) (sym (column_last xs y)) (subst (λ (n : ℕ). P n y.items) (sym k) own)))
+    ])
+
 pub columns_pushed : (q r : ℕ) (xs ys : List (ArrayVec ℕ)) (y : ArrayVec ℕ) → ys ≡ xs ++ y ∷ [] → AreColumns q r xs → IsColumn q r y.items →
     AreColumns q r ys
-columns_pushed q r xs ys y e h n j l = subst (λ (ys : List (ArrayVec ℕ)). IsColumn q r (column ys j)) (sym e)
-    (elim (cases_lt j (length xs)) [
-      | inl b ↦ subst (λ (w : List ℕ). IsColumn q r w) (sym (column_before xs y j b)) (h j b)
-      | inr g ↦ (let k : length ys ≡ length xs + 1 = ap (λ (zs : List (ArrayVec ℕ)). length zs) e ∙ length-last-one xs y in
-          let i : length xs ≡ j = omega arith in
-          subst (λ (j : ℕ). IsColumn q r (column (xs ++ y ∷ []) j)) i (subst (λ (w : List ℕ). IsColumn q r w) (sym (column_last xs y)) n))
-    ])
-  where
-    length-last-one : (xs : List (ArrayVec ℕ)) (y : ArrayVec ℕ) → length (xs ++ y ∷ []) ≡ length xs + 1
-    length-last-one xs y = omega (arith, length-append xs (y ∷ []))
-
-pub normals_pushed : (M : Rep) (n : ℕ) (xs ys : List (ArrayVec ℕ)) (y : ArrayVec ℕ) → ys ≡ xs ++ y ∷ [] → length xs ≡ n →
-    ((f : ℕ) → f < n → IsNormal (order M f) M.rank (column xs f)) → IsNormal (order M n) M.rank y.items →
-    (f : ℕ) → f < n + 1 → IsNormal (order M f) M.rank (column ys f)
-normals_pushed M n xs ys y e k h own f l = subst (λ (ys : List (ArrayVec ℕ)). IsNormal (order M f) M.rank (column ys f)) (sym e)
-    (elim (cases_lt f n) [
-      | inl b ↦ subst (λ (w : List ℕ). IsNormal (order M f) M.rank w) (sym (column_before xs y f (let o : f < length xs = omega arith in o))) (h f b)
-      | inr g ↦ (let i : length xs ≡ f = omega arith in
-          subst (λ (f : ℕ). IsNormal (order M f) M.rank (column (xs ++ y ∷ []) f)) i
-          (subst (λ (w : List ℕ). IsNormal (order M (length xs)) M.rank w) (sym (column_last xs y))
-          (subst (λ (n : ℕ). IsNormal (order M n) M.rank y.items) (sym k) own)))
-    ])
+columns_pushed q r xs ys y e h n j l = columns_more (λ _ w. IsColumn q r w) (length xs) xs ys y e refl h n j
+    (let m : length ys ≡ length xs + length (y ∷ []) = ap (λ (zs : List (ArrayVec ℕ)). length zs) e ∙ length-append xs (y ∷ []) in omega arith)
 
 -- a set more that is covered, and one that a plane more covers
 pub planes_kept : (M : Rep) (planes : List Plane) (n : ℕ) → ArePlanes M planes n → (IsPlaneSet M n → IsCovered M planes n) → ArePlanes M planes (n + 1)

@@ -134,30 +134,14 @@ fn unlike_rows(rep: &Rep, planes: &Option<Planes>, column: &ProductColumn) -> Op
     if let Some(rows) = refusing_rows(rep, planes.list.as_slice(), column) {
         return Some(rows);
     }
-    if is_alike_from(rep, planes.from, column) {
-        None
-    } else {
-        Some(rep.rank())
+    if planes.from < set_count(rep.size()) && !is_alike_one_by_one(rep, column) {
+        return Some(rep.rank());
     }
+    None
 }
 
-/// Whether the sets whose masks aren't below `from` are so: none are left where the planes tell of all.
-fn is_alike_from(rep: &Rep, from: u32, column: &ProductColumn) -> bool
-    requires room { size rep.now < 16 }
-    requires column { IsProductColumn rep.now.factors rep.now.rank column.now.items }
-    ensures yes { IsTrue result → (X f : ℕ) → from ≤ X → X < 2 ^ size rep.now →
-        size_below (size rep.now) (members X) + 1 ≡ rep.now.rank → f < count rep.now →
-        (IsIndependentIn (followed_by rep.now column.now.items) 0 (with_new rep.now (members X)) ↔
-        IsIndependentIn (followed_by rep.now column.now.items) f (with_new rep.now (members X))) }
-    ensures all { IsAlikeWith rep.now column.now.items → IsTrue result }
-{
-    if from >= set_count(rep.size()) {
-        return true;
-    }
-    is_alike_one_by_one(rep, column)
-}
-
-/// The same of all sets, one by one.
+/// Whether each set of one column fewer than the rank is, together with the column, independent in every factor or in none:
+/// they are tested one by one.
 fn is_alike_one_by_one(rep: &Rep, column: &ProductColumn) -> bool
     requires room { size rep.now < 16 }
     requires column { IsProductColumn rep.now.factors rep.now.rank column.now.items }

@@ -1,7 +1,6 @@
 // The planes of a representation: each tells whether a new column extends a set of columns to a basis.
 ghost use Rattle.std.specs.Prelude.{◌≡◌, ◌<◌, ◌≤◌, ◌+◌, ◌^◌, ◌↔◌, ℕ, IsTrue, IfSome, IsSome, true, false, length, slice_index};
 ghost use Rattle.std.specs.List.{Contains};
-ghost use Rattle.std.specs.List.Sorted.{IsPermutation};
 ghost use Rattle.elimination.specs.Columns.{column, IsColumn, AreColumns};
 ghost use Rattle.matroid_theory.specs.Matrix.{size_below};
 ghost use Rattle.matroid_theory.specs.Rep.{size, count, order, column_of, KeepsLimits, IsStandard};
@@ -43,15 +42,10 @@ pub fn planes_of(rep: &Rep) -> Option<Planes>
         return None;
     }
     let mut planes = first_planes(rep);
-    sort_by_rows(planes.list.as_mut_slice());
+    // Those of fewer rows come first, since one of them refuses more columns at once.
+    let list = planes.list.as_mut_slice();
+    list.sort_unstable_by_key(|plane| plane.rows);
     Some(planes)
-}
-
-/// Puts planes of fewer rows before others, since one on which a column doesn't lie alike refuses more columns at once.
-fn sort_by_rows(planes: &mut [Plane])
-    ensures { IsPermutation planes.old planes.new }
-{
-    planes.sort_unstable_by_key(|plane| plane.rows);
 }
 
 /// The planes of a representation: of more than 512 the first are taken.
@@ -125,13 +119,14 @@ fn plane_of(rep: &Rep, set: Mask) -> Option<Plane>
 {
     rep.laws();
     let mut normals: ArrayVec<Column, 3> = ArrayVec::new();
+    let mut rows = 0;
     for factor in 0..rep.factors().count() {
         let normal = normal(rep, factor, set)?;
+        rows = nonzero_length(normal.as_slice(), rows);
         normals.push(normal);
     }
     let elements = elements(rep, normals.as_slice());
     if is_subset(set, elements) {
-        let rows = nonzero_rows(rep, normals.as_slice());
         Some(Plane {
             normals,
             elements,
@@ -142,32 +137,19 @@ fn plane_of(rep: &Rep, set: Mask) -> Option<Plane>
     }
 }
 
-/// The number of rows up to the last one that isn't 0 in each of the normals.
-fn nonzero_rows(rep: &Rep, normals: &[Column]) -> usize
-    requires count { length normals.now ≡ count rep.now }
-    requires normals { (f : ℕ) → f < count rep.now → IsColumn (order rep.now f) rep.now.rank (column normals.now f) }
-    ensures most { result ≤ rep.now.rank }
-    ensures zeros { (f i : ℕ) → f < count rep.now → result ≤ i → i < rep.now.rank → slice_index (column normals.now f) i ≡ 0 }
-{
-    rep.laws();
-    let mut rows = 0;
-    for factor in 0..rep.factors().count() {
-        rows = rows.max(nonzero_length(normals[factor].as_slice()));
-    }
-    rows
-}
-
-/// The number of codes up to the last one that isn't 0.
-fn nonzero_length(codes: &[u8]) -> usize
+/// The number of codes up to the last one that isn't 0, but no less than a given number.
+fn nonzero_length(codes: &[u8], least: usize) -> usize
+    requires { least ≤ length codes.now }
+    ensures least { least ≤ result }
     ensures most { result ≤ length codes.now }
     ensures zeros { (i : ℕ) → result ≤ i → i < length codes.now → slice_index codes.now i ≡ 0 }
 {
-    for i in (0..codes.len()).rev() {
+    for i in (least..codes.len()).rev() {
         if codes[i] != 0 {
             return i + 1;
         }
     }
-    0
+    least
 }
 
 /// The columns that lie on the plane with these normals.

@@ -6,7 +6,7 @@ use Rattle.matroid_theory.specs.declared.Mode.{Mode}
 use Rattle.matroid_theory.specs.Rep.{Rep, count, size}
 use Rattle.matroid_theory.specs.Matrix.{size_below}
 use Rattle.matroid_theory.specs.Matroid.{members}
-use Rattle.matroid_theory.specs.Minor.{Matroid, any_below, image, IsMinor}
+use Rattle.matroid_theory.specs.Minor.{Matroid, image, IsMinor}
 use Rattle.matroid_theory.specs.Move.{ArePermutation, AreEquivalent}
 use Rattle.matroid_laws.proofs.Carried.{basis_carried}
 use Rattle.matrix_lemmas.proofs.Counts.{size_relabelled}

@@ -8,7 +8,7 @@ use Rattle.matroid_theory.specs.declared.Mode.{Mode}
 use Rattle.matroid_theory.specs.Field.{IsFactors}
 use Rattle.matroid_theory.specs.Rep.{Rep, size, KeepsLimits}
 use Rattle.matroid_theory.specs.Move.{AreEquivalent}
-use Rattle.matroid_theory.specs.Order.{rep_cmp, IsForm}
+use Rattle.matroid_theory.specs.Order.{rep_cmp}
 use Rattle.matroid_theory.specs.Minor.{Matroid}
 use Rattle.matroid_theory.specs.Level.{Family, IsMember, IsLevelForm, IsLevel, IsNormalised, IsTry, IsCount, followed_by}
 use Rattle.matroid_laws.proofs.Followed.{size_followed, shaped_pushed}

@@ -9,7 +9,7 @@ ghost use Rattle.level_driver.specs.Asked.{filters_of};
 
 use crate::FormList;
 use crate::distinct::{base_lists, is_first};
-use bases::BaseList;
+use base_iso::Counted;
 use connectivity::{connected, cosimple, three_connected};
 use minor_test::has_minor;
 use named_matroids::Minor;
@@ -34,8 +34,7 @@ pub fn passes(
     ensures listed { IfOk result (λ listed. TellsPassing request.now forms.now i listed) }
     ensures no_memory { OnErr result (IsTrue request.now.distinct) }
 {
-    // The proof learns here which matroids are forbidden.
-    request.forbid();
+    request.laws();
     let filters = request.filters();
     let forms = forms.as_slice();
     if !passes_alone(filters, &forms[i]) {
@@ -49,7 +48,7 @@ pub fn passes(
 }
 
 /// Whether the form passes every filter. Where forms are compared, the lists have the bases of the forms.
-pub fn passes_all(filters: &Filters, lists: &[BaseList], form: &Rep, i: usize) -> bool
+pub fn passes_all(filters: &Filters, lists: &[Counted], form: &Rep, i: usize) -> bool
     requires agrees { Agrees form.now }
     requires index { IsTrue filters.now.distinct → i < length lists.now }
     ensures { IsTrue result ↔ (PassesAlone (filters_of filters.now) form.now × (IsTrue filters.now.distinct → IsFirst lists.now i)) }

@@ -5,17 +5,15 @@ ghost use Rattle.matroid_theory.specs.Matroid.{Agrees};
 ghost use Rattle.matroid_theory.specs.Move.{AreEquivalent};
 ghost use Rattle.matroid_theory.specs.Order.{IsForm};
 ghost use Rattle.matroid_theory.specs.Level.{IsCount, followed_by};
-ghost use Rattle.level_driver.specs.Forbidden.{matroids_of, Avoids};
+ghost use Rattle.level_driver.specs.Forbidden.{Avoids};
 ghost use Rattle.level_driver.specs.Children.{IsParent, IsCandidate, AddsChildren};
 ghost use Rattle.level_driver.specs.Grown.{IsLevelOf, AreTriesOf, IsParentLevel};
 
-use crate::forbidden::avoids;
 use crate::found::Found;
-use crate::{Children, FormList, Level};
+use crate::{Children, Forbidden, FormList, Level};
 use extension::Columns;
 use fast_form::least_form_fast;
 use matroid_theory::Mode;
-use named_matroids::MinorItem;
 use product_rep::{ProductColumn, Rep};
 use request_reader::Request;
 use std::alloc::{AllocError, Global};
@@ -35,11 +33,11 @@ pub fn grow_alone(alloc: Global, request: &Request, parents: &FormList) -> Resul
     request.laws();
     let rank = request.rank();
     let mode = request.mode();
-    let forbidden = request.forbid();
+    let forbidden = Forbidden::of(alloc, request.forbid())?;
     let mut found = Found::new(alloc);
     let mut tried = 0;
     for parent in parents.as_slice() {
-        tried += u128::from(add_children(alloc, parent, mode, forbidden, &mut found)?);
+        tried += u128::from(add_children(alloc, parent, mode, &forbidden, &mut found)?);
     }
     let forms = found.to_list(alloc, &request.factors(), rank)?;
     Ok(Level { forms, tried })
@@ -51,12 +49,12 @@ fn add_children(
     alloc: Global,
     parent: &Rep,
     mode: Mode,
-    forbidden: &[MinorItem],
+    forbidden: &Forbidden,
     found: &mut Found,
 ) -> Result<u64, AllocError>
     requires { IsParent parent.now }
-    ensures count { IfOk result (λ tried. IsCount (IsCandidate (matroids_of forbidden.now) parent.now) tried) }
-    ensures forms { OnOk result (AddsChildren mode (matroids_of forbidden.now) parent.now found.old found.new) }
+    ensures count { IfOk result (λ tried. IsCount (IsCandidate forbidden.now parent.now) tried) }
+    ensures forms { OnOk result (AddsChildren mode forbidden.now parent.now found.old found.new) }
 {
     parent.laws();
     let mut children = Children::of(alloc, parent, mode, forbidden)?;
@@ -74,20 +72,20 @@ fn add_children(
 pub(crate) fn child(
     parent: &Rep,
     mode: Mode,
-    forbidden: &[MinorItem],
+    forbidden: &Forbidden,
     column: &ProductColumn,
 ) -> Option<Rep>
     requires room { size parent.now < 16 }
     requires column { IsProductColumn parent.now.factors parent.now.rank column.now.items }
     requires agrees { Agrees (followed_by parent.now column.now.items) }
-    ensures none { IsNone result → ¬ (Avoids (matroids_of forbidden.now) (followed_by parent.now column.now.items)) }
-    ensures avoids { IsSome result → Avoids (matroids_of forbidden.now) (followed_by parent.now column.now.items) }
+    ensures none { IsNone result → ¬ (Avoids forbidden.now (followed_by parent.now column.now.items)) }
+    ensures avoids { IsSome result → Avoids forbidden.now (followed_by parent.now column.now.items) }
     ensures form { IfSome result (λ child. IsForm mode child) }
     ensures equivalent { IfSome result (λ child. AreEquivalent mode (followed_by parent.now column.now.items) child) }
 {
     let mut candidate = parent.copy();
     candidate.push_column(column);
-    if !avoids(&candidate, forbidden) {
+    if !forbidden.are_avoided_by(&candidate) {
         return None;
     }
     Some(least_form_fast(&candidate, mode))

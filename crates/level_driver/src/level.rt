@@ -2,8 +2,7 @@
 ghost use Rattle.std.specs.Prelude.{IfOk};
 ghost use Rattle.level_driver.specs.Grown.{IsLevelOf, AreTriesOf};
 
-use crate::FormList;
-use crate::forbidden::avoids;
+use crate::{Forbidden, FormList};
 use product_rep::Rep;
 use request_reader::Request;
 use std::alloc::{AllocError, Global};
@@ -22,7 +21,7 @@ pub struct Level {
 ///
 /// # Errors
 ///
-/// `AllocError` where there was no memory for the one form.
+/// `AllocError` where there was no memory for the one form or for what is forbidden.
 pub fn first_level(alloc: Global, request: &Request) -> Result<Level, AllocError>
     ensures forms { IfOk result (λ level. IsLevelOf request.now request.now.rank level.forms) }
     ensures tried { IfOk result (λ level. AreTriesOf request.now request.now.rank level.tried) }
@@ -31,7 +30,8 @@ pub fn first_level(alloc: Global, request: &Request) -> Result<Level, AllocError
     let unit = Rep::unit(request.factors(), request.rank());
     unit.laws();
     let mut forms = FormList::new(alloc);
-    if !avoids(&unit, request.forbid()) {
+    let forbidden = Forbidden::of(alloc, request.forbid())?;
+    if !forbidden.are_avoided_by(&unit) {
         return Ok(Level { forms, tried: 0 });
     }
     match forms.push(unit) {

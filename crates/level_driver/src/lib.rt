@@ -11,14 +11,16 @@ mod form_list;
 mod found;
 mod growth;
 mod level;
+mod level_list;
 mod parent;
 mod shown;
 
 pub use filter::passes;
-pub use forbidden::avoids;
+pub use forbidden::{Forbidden, avoids};
 pub use form_list::FormList;
 pub use growth::grow_alone;
 pub use level::{Level, first_level};
+pub use level_list::LevelList;
 pub use parent::Children;
 pub use shown::listed;
 /// Want of memory.

@@ -6,12 +6,12 @@ ghost use Rattle.matroid_theory.specs.Matroid.{Agrees};
 ghost use Rattle.matroid_theory.specs.Move.{AreEquivalent};
 ghost use Rattle.matroid_theory.specs.Order.{IsForm};
 ghost use Rattle.matroid_theory.specs.Level.{followed_by};
-ghost use Rattle.level_driver.specs.Forbidden.{matroids_of, Avoids};
+ghost use Rattle.level_driver.specs.Forbidden.{Avoids};
 ghost use Rattle.level_driver.specs.Known.{IsAnswer};
 
+use crate::Forbidden;
 use crate::growth::child;
 use matroid_theory::Mode;
-use named_matroids::MinorItem;
 use product_rep::{ProductColumn, Rep};
 use small_lists::list_of;
 use std::alloc::{AllocError, Global};
@@ -35,20 +35,19 @@ struct Leader {
 pub struct Children<'a> {
     parent: &'a Rep,
     mode: Mode,
-    forbidden: &'a [MinorItem],
+    forbidden: &'a Forbidden,
     symmetries: Symmetries,
     leaders: Vec<Leader>,
 }
 
 impl<'a> Model for Children<'a> {
-    ghost use Rattle.level_driver.specs.Forbidden.{matroids_of};
     ghost use Rattle.level_driver.specs.Known.{ChildrenOf, KeepsAnswers};
 
     ghost Value = { ChildrenOf };
 
-    ghost view = { λ c. record { parent = c.parent.now; mode = c.mode; forbidden = matroids_of c.forbidden.now } };
+    ghost view = { λ c. record { parent = c.parent.now; mode = c.mode; forbidden = c.forbidden.now } };
 
-    ghost invariant = { λ c. KeepsAnswers (record { parent = c.parent.now; mode = c.mode; forbidden = matroids_of c.forbidden.now }) c.symmetries c.leaders.items };
+    ghost invariant = { λ c. KeepsAnswers (record { parent = c.parent.now; mode = c.mode; forbidden = c.forbidden.now }) c.symmetries c.leaders.items };
 }
 
 impl<'a> Children<'a> {
@@ -61,9 +60,9 @@ impl<'a> Children<'a> {
         alloc: Global,
         parent: &'a Rep,
         mode: Mode,
-        forbidden: &'a [MinorItem],
+        forbidden: &'a Forbidden,
     ) -> Result<Children<'a>, AllocError>
-        ensures { IfOk result (λ children. children ≡ record { parent = parent.now; mode = mode; forbidden = matroids_of forbidden.now }) }
+        ensures { IfOk result (λ children. children ≡ record { parent = parent.now; mode = mode; forbidden = forbidden.now }) }
     {
         let symmetries = find_symmetries(alloc, parent, mode)?;
         Ok(Children {

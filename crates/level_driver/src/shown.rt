@@ -23,8 +23,7 @@ pub fn listed<'a>(
     requires { (n : ℕ) × IsLevelOf request.now n forms.now }
     ensures { IfOk result (λ shown. AreListed request.now forms.now (map (λ form. form.now) shown.items)) }
 {
-    // The proof learns here which matroids are forbidden.
-    request.forbid();
+    request.laws();
     let filters = request.filters();
     let lists = lists_where(alloc, filters.distinct, forms.as_slice())?;
     let mut shown = Vec::new(alloc);

@@ -15,7 +15,8 @@ use Rattle.formats.specs.Levels.{columns_of, AreGivenBy, Keeps, IsLevelEntry}
 use Rattle.request_laws.proofs.Listings.{stands_names, family_exists, filters_exist}
 use Rattle.level_driver.specs.declared.level.Level.{Level}
 use Rattle.resume_formats.specs.Cut.{ListsAllForms}
-use Rattle.level_file.specs.Grown.{IsGrown, form_line, level_bytes}
+use Rattle.level_driver.specs.Grown.{IsGrown}
+use Rattle.level_file.specs.Grown.{form_line, level_bytes}
 
 -- what the listing tells of it
 abbrev pub entry_of : ℕ → Level → LevelEntry

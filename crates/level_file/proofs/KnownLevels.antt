@@ -5,8 +5,7 @@ use Rattle.std.proofs.lemmas.Option.{slice_get_cases, same_Some, none-some}
 use Rattle.matroid_theory.specs.Rep.{Rep}
 use Rattle.formats.specs.Request.{Request}
 use Rattle.level_driver.specs.declared.level.Level.{Level}
-use Rattle.level_driver.specs.Grown.{IsLevelOf, AreTriesOf, IsParentLevel}
-use Rattle.level_file.specs.Grown.{IsGrown, AreGrown}
+use Rattle.level_driver.specs.Grown.{IsLevelOf, AreTriesOf, IsParentLevel, IsGrown, AreGrown}
 
 -- what holds of the first and of the later ones, by their places
 at_place : {X : Type 0} (P : ℕ → X → Type 0) (n : ℕ) (x : X) (xs : List X) (y : X) → P n x → ((k : ℕ) → slice_get xs k ≡ Some y → P (n + 1 + k) y)

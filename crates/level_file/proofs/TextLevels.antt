@@ -14,7 +14,8 @@ use Rattle.resume_formats.proofs.FrontLemmas.{parted_common, parted_no_front}
 use Rattle.resume_formats.proofs.LevelTexts.{texts, text_of_levels-append, IsBehind, behind_levels, behind_all}
 use Rattle.resume_formats.proofs.WholeSizes.{level_has_bytes, NoMoreFits, whole_there, whole_only}
 use Rattle.level_file.specs.Compared.{PartsWith}
-use Rattle.level_file.specs.Grown.{IsGrown, AreGrown, level_bytes}
+use Rattle.level_driver.specs.Grown.{IsGrown, AreGrown}
+use Rattle.level_file.specs.Grown.{level_bytes}
 use Rattle.level_file.specs.Started.{AreWholeLevels, PartsFromListing}
 use Rattle.level_file.proofs.GrownLevels.{entry_of, entry_bytes, grown_entry}
 use Rattle.formats.proofs.Fronts.{no_levels, one_more_level}

@@ -10,7 +10,7 @@ use Rattle.level_file.specs.declared.levels.Broken.{Broken}
 use Rattle.level_file.specs.declared.levels.Broken.TheVariants as broken
 use Rattle.level_file.specs.declared.read.StartFault.{StartFault}
 use Rattle.level_file.specs.declared.read.StartFault.TheVariants.{Bad, NoMemory}
-use Rattle.level_file.specs.Grown.{AreGrown}
+use Rattle.level_driver.specs.Grown.{AreGrown}
 
 -- The text is a cut listing, and these are the levels of exactly the sizes that are whole in it, from the rank up.
 pub record AreWholeLevels (q : Request) (text : List ℕ) (levels : List Level) : Type 0 where

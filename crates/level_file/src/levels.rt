@@ -3,12 +3,12 @@ ghost use Rattle.std.specs.Prelude.{ℕ, ◌≡◌, ◌+◌, ◌<◌, ◌≤◌,
 ghost use Rattle.formats.specs.Listing.{level_count};
 ghost use Rattle.resume_formats.specs.Cut.{BeginsWithHead};
 ghost use Rattle.level_file.specs.Compared.{IsUnmet};
-ghost use Rattle.level_file.specs.Grown.{IsGrown, AreGrown, form_lines, level_bytes};
+ghost use Rattle.level_driver.specs.Grown.{IsGrown, AreGrown};
+ghost use Rattle.level_file.specs.Grown.{form_lines, level_bytes};
 ghost use Rattle.level_file.specs.Started.{AreWholeLevels, IsBroken};
 
-use crate::LevelList;
 use crate::compare::{Unmet, meet, parts_at_end};
-use level_driver::{FormList, Level, first_level};
+use level_driver::{FormList, Level, LevelList, first_level};
 use lister::{form_text, head_text, level_text};
 use orderly::next_level;
 use request_reader::Request;

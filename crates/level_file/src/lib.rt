@@ -4,10 +4,8 @@
 
 mod compare;
 mod head;
-mod level_list;
 mod levels;
 mod read;
 
-pub use level_list::LevelList;
 pub use read::{Start, StartFault, read_level};
 pub use resume_formats::LevelFault;

@@ -3,9 +3,9 @@ ghost use Rattle.std.specs.Prelude.{◌≡◌, ◌+◌, ◌<◌, ◌≤◌, leng
 ghost use Rattle.resume_formats.specs.Fronts.{line_ends};
 ghost use Rattle.level_file.specs.Started.{IsStart, IsStartFault};
 
-use crate::LevelList;
 use crate::head::read_head;
 use crate::levels::{Broken, read_levels};
+use level_driver::LevelList;
 use request_reader::Request;
 use resume_formats::LevelFault;
 use std::alloc::Global;

@@ -1,8 +1,8 @@
 // The ways in which a level is grown from the one before.
-ghost use Rattle.std.specs.Prelude.{◌≡◌, ◌+◌, ℕ, IfOk, if◌then◌else◌};
-ghost use Rattle.level_driver.specs.Grown.{IsParentLevel, IsLevelOf, AreTriesOf};
+ghost use Rattle.std.specs.Prelude.{◌≡◌, ◌+◌, ℕ, IfOk, OnOk, if◌then◌else◌};
+ghost use Rattle.level_driver.specs.Grown.{IsParentLevel, IsLevelOf, AreTriesOf, IsGrown, AreGrown};
 
-use level_driver::{FormList, Level, grow_alone};
+use level_driver::{FormList, Level, LevelList, grow_alone};
 use orderly::next_level;
 use request_reader::Request;
 use std::alloc::{AllocError, Global};
@@ -29,7 +29,7 @@ impl Growth {
 }
 
 /// The level after a level of a request, grown in one of the ways.
-pub fn grow(
+fn grow(
     alloc: Global,
     growth: Growth,
     request: &Request,
@@ -44,5 +44,24 @@ pub fn grow(
     match growth {
         Growth::Gathered => grow_alone(alloc, request, parents),
         Growth::Orderly => next_level(alloc, request, parents),
+    }
+}
+
+/// The level of a request after one of its levels: the first of those at hand, or else it is grown in one of the ways.
+pub fn level_after(
+    alloc: Global,
+    growth: Growth,
+    request: &Request,
+    parents: &FormList,
+    levels: &mut LevelList,
+) -> Result<Level, AllocError>
+    requires { (n : ℕ) × IsParentLevel request.now n parents.now × AreGrown request.now (n + 1) levels.old }
+    ensures level { IfOk result (λ level. (n : ℕ) → IsParentLevel request.now n parents.now →
+        AreGrown request.now (n + 1) levels.old → IsGrown request.now (n + 1) level) }
+    ensures later { OnOk result ((n : ℕ) → AreGrown request.now n levels.old → AreGrown request.now (n + 1) levels.new) }
+{
+    match levels.take_first() {
+        Some(level) => Ok(level),
+        None => grow(alloc, growth, request, parents),
     }
 }

@@ -4,12 +4,11 @@ ghost use Rattle.std.specs.Option.{MatchOption};
 ghost use Rattle.matroid_theory.specs.Rep.{size};
 ghost use Rattle.matroid_theory.specs.Level.{followed_by};
 ghost use Rattle.extension.specs.Admissible.{IsAdmissible};
-ghost use Rattle.level_driver.specs.Forbidden.{matroids_of, Avoids};
+ghost use Rattle.level_driver.specs.Forbidden.{Avoids};
 ghost use Rattle.orderly.specs.Kept.{IsLevelFormOf};
 
 use fast_form::is_form_fast;
-use level_driver::avoids;
-use named_matroids::MinorItem;
+use level_driver::{Forbidden, avoids};
 use product_rep::{ProductColumn, Rep};
 use request_reader::Request;
 
@@ -23,29 +22,35 @@ pub fn keeps(request: &Request, parent: &Rep, column: &ProductColumn) -> bool
     ensures { IsTrue result ↔ IsLevelFormOf request.now (size parent.now + 1) (followed_by parent.now column.now.items) }
 {
     request.laws();
-    let forbidden = request.forbid();
-    match candidate(parent, forbidden, column) {
-        Some(candidate) => is_form_fast(&candidate, request.mode()),
-        None => false,
+    let child = extended(parent, column);
+    if !avoids(&child, request.forbid()) {
+        return false;
     }
+    is_form_fast(&child, request.mode())
 }
 
 /// The parent followed by the column, where that has none of these minors.
-pub(crate) fn candidate(
-    parent: &Rep,
-    forbidden: &[MinorItem],
-    column: &ProductColumn,
-) -> Option<Rep>
+pub(crate) fn candidate(parent: &Rep, forbidden: &Forbidden, column: &ProductColumn) -> Option<Rep>
     requires room { size parent.now < 16 }
     requires column { IsAdmissible parent.now column.now.items }
-    ensures { MatchOption result (¬ (Avoids (matroids_of forbidden.now) (followed_by parent.now column.now.items)))
-        (λ child. (child ≡ followed_by parent.now column.now.items) × Avoids (matroids_of forbidden.now) child) }
+    ensures { MatchOption result (¬ (Avoids forbidden.now (followed_by parent.now column.now.items)))
+        (λ child. (child ≡ followed_by parent.now column.now.items) × Avoids forbidden.now child) }
 {
-    let mut child = parent.copy();
-    child.push_column(column);
-    if avoids(&child, forbidden) {
+    let child = extended(parent, column);
+    if forbidden.are_avoided_by(&child) {
         Some(child)
     } else {
         None
     }
+}
+
+/// The parent followed by the column.
+fn extended(parent: &Rep, column: &ProductColumn) -> Rep
+    requires room { size parent.now < 16 }
+    requires column { IsAdmissible parent.now column.now.items }
+    ensures { result ≡ followed_by parent.now column.now.items }
+{
+    let mut child = parent.copy();
+    child.push_column(column);
+    child
 }

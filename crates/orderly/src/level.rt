@@ -3,16 +3,14 @@ ghost use Rattle.std.specs.Prelude.{ℕ, ◌+◌, IfOk, OnOk};
 ghost use Rattle.matroid_theory.specs.Matroid.{Agrees};
 ghost use Rattle.matroid_theory.specs.Level.{IsCount};
 ghost use Rattle.level_driver.specs.Children.{IsParent, IsCandidate};
-ghost use Rattle.level_driver.specs.Forbidden.{matroids_of};
 ghost use Rattle.level_driver.specs.Grown.{IsLevelOf, AreTriesOf, IsParentLevel};
 ghost use Rattle.orderly.specs.Kept.{AddsKept, KeepsOwnForm};
 
 use crate::keep::candidate;
 use extension::Columns;
 use fast_form::is_form_fast;
-use level_driver::{FormList, Level};
+use level_driver::{Forbidden, FormList, Level};
 use matroid_theory::Mode;
-use named_matroids::MinorItem;
 use product_rep::Rep;
 use request_reader::Request;
 use std::alloc::{AllocError, Global};
@@ -22,7 +20,7 @@ use std::alloc::{AllocError, Global};
 ///
 /// # Errors
 ///
-/// `AllocError` where there was no memory for the forms.
+/// `AllocError` where there was no memory for the forms or for what is forbidden.
 pub fn next_level(alloc: Global, request: &Request, parents: &FormList) -> Result<Level, AllocError>
     requires { (n : ℕ) × IsParentLevel request.now n parents.now }
     ensures forms { IfOk result (λ level. (n : ℕ) →
@@ -32,14 +30,14 @@ pub fn next_level(alloc: Global, request: &Request, parents: &FormList) -> Resul
 {
     request.laws();
     let mode = request.mode();
-    let forbidden = request.forbid();
+    let forbidden = Forbidden::of(alloc, request.forbid())?;
     let mut forms = FormList::new(alloc);
     let mut tried = 0;
     for i in 0..parents.len() {
         let Some(parent) = parents.get(i) else {
             unreachable!()
         };
-        tried += u128::from(keep_children(parent, mode, forbidden, &mut forms)?);
+        tried += u128::from(keep_children(parent, mode, &forbidden, &mut forms)?);
     }
     Ok(Level { forms, tried })
 }
@@ -49,12 +47,12 @@ pub fn next_level(alloc: Global, request: &Request, parents: &FormList) -> Resul
 fn keep_children(
     parent: &Rep,
     mode: Mode,
-    forbidden: &[MinorItem],
+    forbidden: &Forbidden,
     forms: &mut FormList,
 ) -> Result<u64, AllocError>
     requires { IsParent parent.now }
-    ensures count { IfOk result (λ tried. IsCount (IsCandidate (matroids_of forbidden.now) parent.now) tried) }
-    ensures forms { OnOk result (AddsKept mode (matroids_of forbidden.now) parent.now forms.old forms.new) }
+    ensures count { IfOk result (λ tried. IsCount (IsCandidate forbidden.now parent.now) tried) }
+    ensures forms { OnOk result (AddsKept mode forbidden.now parent.now forms.old forms.new) }
 {
     parent.laws();
     let mut tried = 0;

@@ -1,3 +1,2 @@
 mod Starts
-mod Listings
 mod Runs

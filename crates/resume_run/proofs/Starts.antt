@@ -9,7 +9,7 @@ use Rattle.resume_formats.specs.declared.fault.LevelFault.TheVariants.{TooLong, 
 use Rattle.resume_formats.specs.Cut.{IsWhole, CanStart}
 use Rattle.resume_formats.specs.Fault.{HasFault, HasFaultFor}
 use Rattle.resume_formats.specs.Resumed.{with_size}
-use Rattle.level_file.specs.Grown.{IsGrown, AreGrown}
+use Rattle.level_driver.specs.Grown.{IsGrown, AreGrown}
 use Rattle.level_file.specs.Started.{IsStart, IsStartFault}
 use Rattle.level_file.specs.declared.read.StartFault.{StartFault}
 use Rattle.level_file.specs.declared.read.StartFault.TheVariants.{Bad, NoMemory}

@@ -4,7 +4,7 @@ use Rattle.formats.specs.Request.{Request}
 use Rattle.level_driver.specs.declared.level.Level.{Level}
 use Rattle.resume_formats.specs.Fault.{HasFaultFor}
 use Rattle.resume_formats.specs.Resumed.{CanResume}
-use Rattle.level_file.specs.Grown.{AreGrown}
+use Rattle.level_driver.specs.Grown.{AreGrown}
 use Rattle.level_file.specs.declared.read.StartFault.{StartFault}
 use Rattle.level_file.specs.declared.read.StartFault.TheVariants.{Bad, NoMemory}
 

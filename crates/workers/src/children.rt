@@ -1,6 +1,5 @@
 // The tries of one parent.
 ghost use Rattle.std.specs.Prelude.{◌≡◌, length, IfOk, OnOk};
-ghost use Rattle.level_driver.specs.Forbidden.{matroids_of};
 ghost use Rattle.level_driver.specs.Children.{IsParent};
 ghost use Rattle.workers.specs.Offered.{AreEmpty, IsSamePass, OffersChildren};
 
@@ -8,9 +7,8 @@ use crate::batches::{add_key, offer_rest};
 use class_store::{KeyBatch, OpenLevel, Pass};
 use extension::Columns;
 use form_key::pack;
-use level_driver::Children;
+use level_driver::{Children, Forbidden};
 use matroid_theory::Mode;
-use named_matroids::MinorItem;
 use product_rep::Rep;
 use std::alloc::{AllocError, Global};
 use std::sync::Wait;
@@ -21,7 +19,7 @@ pub(crate) fn offer_children<R: Wait + Sync>(
     rt: &R,
     alloc: Global,
     mode: Mode,
-    forbidden: &[MinorItem],
+    forbidden: &Forbidden,
     parent: &Rep,
     level: &OpenLevel,
     pass: &mut Pass,
@@ -33,7 +31,7 @@ pub(crate) fn offer_children<R: Wait + Sync>(
     requires empty { AreEmpty batches.old }
     ensures same { IsSamePass pass.old pass.new }
     ensures empty { OnOk result (AreEmpty batches.new) }
-    ensures offered { IfOk result (λ tried. OffersChildren mode (matroids_of forbidden.now) parent.now pass.old pass.new tried) }
+    ensures offered { IfOk result (λ tried. OffersChildren mode forbidden.now parent.now pass.old pass.new tried) }
 {
     parent.laws();
     let mut children = Children::of(alloc, parent, mode, forbidden)?;

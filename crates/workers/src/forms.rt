@@ -52,8 +52,6 @@ pub(crate) fn next_size(request: &Request, parents: &FormList) -> u8
     ensures next { (P : Matrices) → Contains parents.now P → result ≡ size P + 1 }
 {
     request.laws();
-    // The proof learns here which matroids are forbidden.
-    request.forbid();
     match parents.get(0) {
         Some(parent) => parent.size() as u8 + 1,
         None => request.size(),

@@ -48,8 +48,6 @@ pub fn grow<R: Threads + Wait + Sync, G: Gate + Sync>(
     ensures unchanged { OnErr result (store.new ≡ store.old) }
 {
     request.laws();
-    // The proof learns here which matroids are forbidden.
-    request.forbid();
     let (closed, tried) = closed_level(rt, alloc, request, parents, workers, store, gate)?;
     let keys = closed.rising(alloc)?;
     let size = next_size(request, parents);

@@ -8,7 +8,7 @@ ghost use Rattle.workers.specs.Parts.{DoesPart};
 use crate::batches::empty_batches;
 use crate::children::offer_children;
 use class_store::{OpenLevel, Pass};
-use level_driver::FormList;
+use level_driver::{Forbidden, FormList};
 use outside::Gate;
 use request_reader::Request;
 use std::alloc::{AllocError, Global};
@@ -23,7 +23,7 @@ use steal_pool::Shift;
 ///
 /// # Errors
 ///
-/// `AllocError` where there was no memory for a key or for the store, or where `stop` was set. The shift may then have taken more
+/// `AllocError` where there was no memory for a key, for what is forbidden or for the store, or where `stop` was set. The shift may then have taken more
 /// numbers, and the pass may have made some of their calls.
 pub fn work<R: Wait + Sync, G: Gate>(
     rt: &R,
@@ -73,7 +73,7 @@ fn take_parents<R: Wait + Sync, G: Gate>(
 {
     request.laws();
     let mode = request.mode();
-    let forbidden = request.forbid();
+    let forbidden = Forbidden::of(alloc, request.forbid())?;
     let mut batches = empty_batches(alloc, level.stripes())?;
     let mut tried = 0;
     for _ in rt.forever() {
@@ -91,7 +91,7 @@ fn take_parents<R: Wait + Sync, G: Gate>(
             rt,
             alloc,
             mode,
-            forbidden,
+            &forbidden,
             parent,
             level,
             pass,

@@ -1,8 +1,8 @@
-use Rattle.std.proofs.Common.{◌≡◌, ℕ, List, Option, sym, ◌∙◌, subst, arith, inl, inr}
+use Rattle.std.proofs.Common.{◌≡◌, ◌^◌, ◌≤◌, ℕ, List, Option, sym, ◌∙◌, ap, subst, arith}
 use Rattle.std.specs.List.{All, Contains}
-use Rattle.std.proofs.lemmas.Bool.{false≢true, cases_lt}
+use Rattle.std.proofs.lemmas.Bool.{false≢true}
 use Rattle.std.proofs.lemmas.List.Elements.{All-contains}
-use Rattle.matroid_theory.specs.Rep.{count, KeepsLimits}
+use Rattle.matroid_theory.specs.Rep.{size, count, KeepsLimits}
 use Rattle.extension.specs.declared.planes.Plane.{Plane}
 use Rattle.extension.specs.declared.planes.Planes.{Planes}
 use Rattle.extension.specs.Planes.{ArePlanes, KnowsPlanes, IsPlane, IsAlikeAt}
@@ -10,7 +10,7 @@ use Rattle.extension.specs.Steps.{IsRefused}
 use Rattle.extension.proofs.Followers.{alike_of_one, alike_of_agrees, followed_shaped}
 use Rattle.extension.proofs.PlaneLemmas.{alike_covered, plane_refused, whole_refused}
 use Rattle.extension.proofs.admissible.unlike_rows.Goals as goal
-use Rattle.extension.proofs.admissible.unlike_rows.Goals.{In-Some}
+use Rattle.extension.proofs.admissible.unlike_rows.Goals.{In-Some, else-planes-set_count-via-then-planes-set_count+else-not-is_alike_one_by_one, else-planes-set_count-via-else-planes-set_count}
 
 pub returns-in_default : goal.returns-in_default
 returns-in_default c =
@@ -31,18 +31,22 @@ returns-in-Some-refusing_rows c =
     (All-contains (IsPlane c.args.rep.now) c.in-Some.planes.list.items w.0 a.each
     (subst (λ (planes : List Plane). Contains planes w.0) c.as_slice.ensures.value w.1)) w.3)
 
-pub returns-then-is_alike_from : goal.returns-then-is_alike_from
-returns-then-is_alike_from c = λ X f b full l. elim (cases_lt X c.in-Some.planes.from) [
-  | inl o ↦ alike_covered c.args.rep.now c.args.column.now.items c.laws.ensures c.requires.agrees (let n = c.requires.normalised in n.is_column)
-      c.in-Some.planes.list.items c.in-Some.planes.from (known ((goal.at.returns-then-is_alike_from c).In-Some))
-      (subst (λ (planes : List Plane). All (IsAlikeAt c.args.rep.now c.args.column.now.items) planes) c.as_slice.ensures.value
-      c.in_default-refusing_rows.ensures) X f o b full l
-  | inr g ↦ c.is_alike_from.ensures.yes c.if-is_alike_from.true X f g b full l
-]
-
-pub returns-else-is_alike_from : goal.returns-else-is_alike_from
-returns-else-is_alike_from c = subst (λ (rows : ℕ). IsRefused c.args.rep.now c.args.column.now.items rows) (sym c.rank.ensures)
+pub returns-then-not-is_alike_one_by_one : goal.returns-then-not-is_alike_one_by_one
+returns-then-not-is_alike_one_by_one c = subst (λ (rows : ℕ). IsRefused c.args.rep.now c.args.column.now.items rows) (sym c.rank.ensures)
     (whole_refused c.args.rep.now c.args.column.now.items c.laws.ensures c.requires.normalised
-    (λ a. false≢true (sym c.if-is_alike_from.false ∙ c.is_alike_from.ensures.all
+    (λ a. false≢true (sym c.if-not-is_alike_one_by_one.true ∙ c.is_alike_one_by_one.ensures.1
     (alike_of_agrees c.args.rep.now c.args.column.now.items (followed_shaped c.args.rep.now c.args.column.now.items c.laws.ensures c.requires.normalised)
     (let r : KeepsLimits c.args.rep.now = c.laws.ensures in let fs = r.fields in fs.some) a.agrees))))
+
+pub returns : goal.returns
+returns c = λ X f b full l. elim c.else-planes-set_count.branch [
+  | else-planes-set_count-via-then-planes-set_count+else-not-is_alike_one_by_one w ↦
+      w.is_alike_one_by_one.ensures.0 w.if-not-is_alike_one_by_one.false X f b full l
+  | else-planes-set_count-via-else-planes-set_count w ↦
+      alike_covered c.args.rep.now c.args.column.now.items c.laws.ensures c.requires.agrees (let n = c.requires.normalised in n.is_column)
+      c.in-Some.planes.list.items c.in-Some.planes.from (known ((goal.at.returns c).In-Some))
+      (subst (λ (planes : List Plane). All (IsAlikeAt c.args.rep.now c.args.column.now.items) planes) c.as_slice.ensures.value
+      c.in_default-refusing_rows.ensures) X f
+      (let n : c.set_count.result ≡ 2 ^ size c.args.rep.now = c.set_count.ensures.value ∙ ap (λ k. 2 ^ k) c.size.ensures.value in
+      let o : c.set_count.result ≤ c.in-Some.planes.from = w.if-planes-set_count.false in omega arith) b full l
+]

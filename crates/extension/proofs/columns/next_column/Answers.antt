@@ -54,13 +54,13 @@ none_passed M last before rows k e d w a l same =
 pub loop-column-init : goal.loop-column-init
 loop-column-init c =
     let e : c.list_of-before.result.items ≡ c.args.last.now.items = c.list_of-before.ensures ∙ c.as_slice.ensures.value in
-    let d : c.rank-rank.result ≡ c.args.rep.now.rank = c.rank-rank.ensures in
     record {
       most = (let m : c.rank-rank.result ≤ c.args.rep.now.rank = omega arith in m);
       start = subst (λ (u : List ℕ). IsStart c.args.rep.now.factors c.args.rep.now.rank u) (sym e) c.requires.keeps.start;
       after = λ w l. subst (λ (u : List ℕ). slice_cmp nat_cmp u w ≡ Less) e l;
       none = λ w _ l. subst (λ (u : List ℕ). slice_cmp nat_cmp u w ≡ Less) (sym e) l;
-      passed = none_passed c.args.rep.now c.args.last.now.items c.list_of-before.result.items c.rank-rank.result c.requires.keeps e d;
+      passed = none_passed c.args.rep.now c.args.last.now.items c.list_of-before.result.items c.rank-rank.result c.requires.keeps e
+          c.rank-rank.ensures;
     }
 
 pub returns-in_default-refused_rows : goal.returns-in_default-refused_rows

@@ -10,9 +10,9 @@ use Rattle.extension.proofs.planes.planes_of.Goals as goal
 pub returns : goal.returns
 returns c =
     let planes = c.first_planes-planes.result.list.items in
-    let moved = c.sort_by_rows.new.planes in
-    let s : IsPermutation planes moved =
-    subst (λ (planes : List Plane). IsPermutation planes c.sort_by_rows.new.planes) c.as_mut_slice.ensures.value c.sort_by_rows.ensures in
+    let moved = c.sort_unstable_by_key.new.self in
+    let s : IsPermutation planes moved = subst (λ (planes : List Plane). IsPermutation planes c.sort_unstable_by_key.new.self)
+    c.as_mut_slice-list.ensures.value c.sort_unstable_by_key.ensures.permutation in
     subst (λ (planes : List Plane). ArePlanes c.args.rep.now planes c.first_planes-planes.result.from)
     (sym (ap (λ n. take n (moved ++ drop (length moved) planes)) (sym (length_permutation planes moved s))
     ∙ take-append_seam moved (drop (length moved) planes)))

@@ -1,4 +1,4 @@
-use Rattle.std.proofs.Common.{◌≡◌, ◌∙◌, ◌+◌, ap, sym, refl, length, map, take, false, true, Some, arith}
+use Rattle.std.proofs.Common.{◌≡◌, ◌∙◌, ◌+◌, ap, sym, refl, length, take, false, true, Some, arith}
 use Rattle.std.specs.Prelude.{slice_get}
 use Rattle.std.proofs.lemmas.Bool.{false≢true}
 use Rattle.level_driver.proofs.Asking.{tells, stands_at, form_agrees}
@@ -7,7 +7,7 @@ use Rattle.level_driver.proofs.filter.passes.Goals as goal
 
 pub passes_alone-requires : goal.passes_alone-requires
 passes_alone-requires c =
-    form_agrees c.args.request.now (map (λ item. item.matroid) c.forbid.result.now) c.forbid.ensures.given c.requires.level.0
+    form_agrees c.args.request.now c.laws.ensures.forbidden.0 c.laws.ensures.forbidden.1 c.requires.level.0
     c.args.forms.now c.requires.level.1 c.args.i c.index-forms-i.result
     (stands_at c.args.forms.now c.as_slice-forms.result.now c.args.i c.index-forms-i.result c.as_slice-forms.ensures
     (omega (arith, ap length c.as_slice-forms.ensures)) c.index-forms-i.is)

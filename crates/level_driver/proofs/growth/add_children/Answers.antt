@@ -4,7 +4,7 @@ use Rattle.matroid_theory.specs.Matroid.{Agrees}
 use Rattle.matroid_theory.specs.Level.{IsCount, followed_by}
 use Rattle.matroid_theory.specs.Minor.{Matroid}
 use Rattle.extension.specs.Admissible.{ColumnsAfter, IsNextColumn}
-use Rattle.level_driver.specs.Forbidden.{matroids_of, Avoids}
+use Rattle.level_driver.specs.Forbidden.{Avoids}
 use Rattle.level_driver.specs.Children.{IsChild, IsCandidate, AddsChildren}
 use Rattle.level_driver.specs.Known.{ChildrenOf, IsAnswer, IsChildOf}
 use Rattle.level_driver.proofs.Known.{answer_of}
@@ -18,7 +18,7 @@ loop-column-init c =
     record {
       same = ap (λ (columns : ColumnsAfter). columns.parent) start;
       children = c.in_ok-children.ensures;
-      so_far = tried_none c.args.mode (matroids_of c.args.forbidden.now) c.args.found.now c.args.parent.now
+      so_far = tried_none c.args.mode c.args.forbidden.now c.args.found.now c.args.parent.now
           c.laws.ensures.fields.some c.into_iter-column-iterator.result start;
     }
 
@@ -39,7 +39,7 @@ child-requires-clause-agrees c =
 
 pub loop-column-preserved : goal.loop-column-preserved
 loop-column-preserved c =
-    let Ns : List Matroid = matroids_of c.args.forbidden.now in
+    let Ns : List Matroid = c.args.forbidden.now in
     let steps = c.in-Some.ensures.steps in
     let progress = c.in-Some.ensures.goes.on tt in
     let k : ChildrenOf = record { parent = c.args.parent.now; mode = c.args.mode; forbidden = Ns } in
@@ -58,7 +58,7 @@ loop-column-preserved c =
 
 pub loop-column-preserved-in-Some-2 : goal.loop-column-preserved-in-Some-2
 loop-column-preserved-in-Some-2 c =
-    let Ns : List Matroid = matroids_of c.args.forbidden.now in
+    let Ns : List Matroid = c.args.forbidden.now in
     let steps = c.in-Some.ensures.steps in
     let progress = c.in-Some.ensures.goes.on tt in
     let k : ChildrenOf = record { parent = c.args.parent.now; mode = c.args.mode; forbidden = Ns } in
@@ -81,14 +81,14 @@ loop-column-preserved-in-Some-2 c =
 
 pub returns-clause-count : goal.returns-clause-count
 returns-clause-count c =
-    let Ns : List Matroid = matroids_of c.args.forbidden.now in
+    let Ns : List Matroid = c.args.forbidden.now in
     subst (λ (P : Rep). IsCount (IsCandidate Ns P) c.loop-column.tried) c.loop-column.invariant.same
     (tried_count c.args.mode Ns c.args.found.now c.loop-column.found c.loop-column.column-iterator c.loop-column.tried
     c.loop-column.invariant.so_far c.in-None.ensures.steps.0)
 
 pub returns-clause-forms : goal.returns-clause-forms
 returns-clause-forms c =
-    let Ns : List Matroid = matroids_of c.args.forbidden.now in
+    let Ns : List Matroid = c.args.forbidden.now in
     subst (λ (P : Rep). AddsChildren c.args.mode Ns P c.args.found.now c.loop-column.found) c.loop-column.invariant.same
     (tried_all c.args.mode Ns c.args.found.now c.loop-column.found c.loop-column.column-iterator c.loop-column.tried
     c.loop-column.invariant.so_far c.in-None.ensures.steps.0)

@@ -1,5 +1,4 @@
 use Rattle.std.proofs.Common.{◌≡◌}
-use Rattle.level_driver.specs.Forbidden.{matroids_of}
 use Rattle.level_driver.proofs.Tried.{HasTried}
 use Rattle.level_driver.proofs.growth.add_children.Given as goal
 
@@ -7,6 +6,6 @@ use Rattle.level_driver.proofs.growth.add_children.Given as goal
 abbrev pub invariant-loop-column : goal.invariant-loop-column
 invariant-loop-column l = record {
   same : l.column-iterator.parent ≡ l.parent;
-  children : l.children ≡ record { parent = l.parent; mode = l.fn.mode; forbidden = matroids_of l.forbidden };
-  so_far : HasTried l.fn.mode (matroids_of l.forbidden) l.fn.found l.column-iterator l.tried l.found;
+  children : l.children ≡ record { parent = l.parent; mode = l.fn.mode; forbidden = l.forbidden };
+  so_far : HasTried l.fn.mode l.forbidden l.fn.found l.column-iterator l.tried l.found;
 }

@@ -1,20 +1,19 @@
 use Rattle.std.proofs.Common.{◌≡◌, sym, ◌∙◌, ap, subst}
-use Rattle.matroid_theory.specs.Rep.{Rep, IsStandard}
+use Rattle.matroid_theory.specs.Rep.{Rep}
 use Rattle.matroid_theory.specs.Level.{followed_by}
-use Rattle.matroid_laws.proofs.Followed.{standard_followed}
-use Rattle.level_driver.specs.Forbidden.{matroids_of, Avoids}
+use Rattle.level_driver.specs.Forbidden.{Avoids}
 use Rattle.level_driver.proofs.growth.child.Goals as goal
 
-pub returns-then-not-avoids-clause-none : goal.returns-then-not-avoids-clause-none
-returns-then-not-avoids-clause-none c = λ none avoids.
+pub returns-then-not-are_avoided_by-clause-none : goal.returns-then-not-are_avoided_by-clause-none
+returns-then-not-are_avoided_by-clause-none c = λ none avoids.
     let same : c.push_column.new.self ≡ followed_by c.args.parent.now c.args.column.now.items = c.push_column.ensures
     ∙ ap (λ (P : Rep). followed_by P c.args.column.now.items) c.copy-candidate.ensures in
-    let yes = c.avoids.ensures.1 (subst (Avoids (matroids_of c.args.forbidden.now)) (sym same) avoids) in
-    let no = c.if-not-avoids.true in
+    let yes = c.are_avoided_by.ensures.1 (subst (Avoids c.args.forbidden.now) (sym same) avoids) in
+    let no = c.if-not-are_avoided_by.true in
     cc (yes, no)
 
 pub returns-clause-avoids : goal.returns-clause-avoids
 returns-clause-avoids c = λ some.
     let same : c.push_column.new.self ≡ followed_by c.args.parent.now c.args.column.now.items = c.push_column.ensures
     ∙ ap (λ (P : Rep). followed_by P c.args.column.now.items) c.copy-candidate.ensures in
-    subst (Avoids (matroids_of c.args.forbidden.now)) same (c.avoids.ensures.0 c.if-not-avoids.false)
+    subst (Avoids c.args.forbidden.now) same (c.are_avoided_by.ensures.0 c.if-not-are_avoided_by.false)

@@ -7,55 +7,69 @@ use Rattle.matroid_theory.specs.Rep.{Rep, KeepsLimits}
 use Rattle.matroid_theory.specs.Order.{rep_cmp}
 use Rattle.matroid_theory.specs.Minor.{Matroid}
 use Rattle.formats.specs.Request.{Request}
-use Rattle.level_driver.specs.Forbidden.{matroids_of}
 use Rattle.level_driver.specs.Children.{rep_of}
 use Rattle.level_driver.specs.Grown.{IsLevelOf}
-use Rattle.level_driver.proofs.Tries.{HasGrown, grown_step, grown_all}
+use Rattle.level_driver.proofs.Avoiding.{same_given}
+use Rattle.level_driver.proofs.Tries.{HasGrown, grown_none, grown_step, grown_all}
 use Rattle.level_driver.proofs.NextLevel.{parents_rise, each_parent, each_rep, level_grown, tries_grown}
 use Rattle.level_driver.proofs.growth.grow_alone.Goals as goal
 
 pub add_children-requires : goal.add_children-requires
 add_children-requires c =
     let q : Request = c.args.request.now in
-    let Ns : List Matroid = matroids_of c.forbid-forbidden.result.now in
+    let Ns : List Matroid = c.forbidden.inside.sought.items in
+    let given = same_given c.args.request.now _ _ (sym (c.forbidden.view_is ∙ c.in_ok-forbidden.ensures)) c.forbid.ensures.given in
     let parents : List Rep = c.args.parents.now in
     let l : c.loop-parent.parent-index < length parents =
     subst (λ (xs : List Rep). c.loop-parent.parent-index < length xs) c.as_slice-parent-items.ensures c.loop-parent-test.true in
     let is : c.parent-item.result ≡ get_or parents c.loop-parent.parent-index c.parent-item.result = c.parent-item.is
     ∙ ap (λ (xs : List Rep). get_or xs c.loop-parent.parent-index c.parent-item.result) c.as_slice-parent-items.ensures in
-    each_parent q Ns c.forbid-forbidden.ensures.given c.laws.ensures.factors c.laws.ensures.limits c.requires.0 parents c.requires.1 c.parent-item.result
+    each_parent q Ns given c.laws.ensures.factors c.laws.ensures.limits c.requires.0 parents c.requires.1 c.parent-item.result
     (subst (Contains parents) (sym is) (Contains-get_or parents c.loop-parent.parent-index c.parent-item.result l))
+
+pub loop-parent-init : goal.loop-parent-init
+loop-parent-init c = record {
+  so_far = grown_none c.mode-mode.result c.forbidden.inside.sought.items c.new-found.result c.new-found.ensures;
+  few = (omega arith);
+}
 
 pub loop-parent-preserved : goal.loop-parent-preserved
 loop-parent-preserved c =
     let q : Request = c.args.request.now in
-    let Ns : List Matroid = matroids_of c.forbid-forbidden.result.now in
+    let Ns : List Matroid = c.in_ok-forbidden.forbidden in
+    let view = c.forbidden.view_is in
+    let given = same_given c.args.request.now _ _ (sym c.in_ok-forbidden.ensures) c.forbid.ensures.given in
     let parents : List Rep = c.args.parents.now in
     let l : c.loop-parent.parent-index < length parents =
     subst (λ (xs : List Rep). c.loop-parent.parent-index < length xs) c.as_slice-parent-items.ensures c.loop-parent-test.true in
     let is : c.parent-item.result ≡ get_or parents c.loop-parent.parent-index c.parent-item.result = c.parent-item.is
     ∙ ap (λ (xs : List Rep). get_or xs c.loop-parent.parent-index c.parent-item.result) c.as_slice-parent-items.ensures in
     record {
-      so_far = subst (λ (k : ℕ). HasGrown c.mode-mode.result Ns (take (c.loop-parent.parent-index + 1) parents)
+      so_far = subst (λ (Ms : List Matroid). HasGrown c.mode-mode.result Ms (take (c.loop-parent.parent-index + 1) parents)
+          (c.loop-parent.tried + c.from.result) c.add_children.new.found) (sym view)
+          (subst (λ (k : ℕ). HasGrown c.mode-mode.result Ns (take (c.loop-parent.parent-index + 1) parents)
           (c.loop-parent.tried + k) c.add_children.new.found) (sym c.from.ensures)
           (grown_step c.mode-mode.result Ns parents
-          (parents_rise q Ns c.forbid-forbidden.ensures.given c.laws.ensures.factors c.laws.ensures.limits c.requires.0 parents
+          (parents_rise q Ns given c.laws.ensures.factors c.laws.ensures.limits c.requires.0 parents
           c.requires.1) c.loop-parent.parent-index c.parent-item.result l is
           c.loop-parent.tried c.in_ok-add_children.field-0 c.loop-parent.found c.add_children.new.found
-          c.loop-parent.invariant.so_far c.in_ok-add_children.ensures.count c.in_ok-add_children.ensures.forms);
+          (subst (λ (Ms : List Matroid). HasGrown c.mode-mode.result Ms (take c.loop-parent.parent-index parents)
+          c.loop-parent.tried c.loop-parent.found) view c.loop-parent.invariant.so_far)
+          c.in_ok-add_children.ensures.count c.in_ok-add_children.ensures.forms));
       few = (let e = c.from.ensures in omega arith);
     }
 
 pub to_list-requires : goal.to_list-requires
 to_list-requires c =
     let q : Request = c.args.request.now in
-    let Ns : List Matroid = matroids_of c.forbid-forbidden.result.now in
+    let Ns : List Matroid = c.forbidden.inside.sought.items in
+    let given = same_given c.args.request.now _ _ (sym (c.forbidden.view_is ∙ c.in_ok-forbidden.ensures)) c.forbid.ensures.given in
     let parents : List Rep = c.args.parents.now in
     let done : length parents ≤ c.loop-parent.parent-index =
     subst (λ (xs : List Rep). length xs ≤ c.loop-parent.parent-index) c.as_slice-parent-items.ensures c.loop-parent-test.false in
     subst (λ (factors : List ℕ). All (λ cs. KeepsLimits (rep_of factors c.rank-rank.result cs)) c.loop-parent.found) (sym c.factors.ensures)
     (subst (λ (rank : ℕ). All (λ cs. KeepsLimits (rep_of q.factors rank cs)) c.loop-parent.found) (sym c.rank-rank.ensures)
-    (each_rep q Ns c.forbid-forbidden.ensures.given c.laws.ensures.factors c.laws.ensures.limits c.requires.0 parents c.requires.1
+    (each_rep q Ns given c.laws.ensures.factors c.laws.ensures.limits c.requires.0 parents c.requires.1
     c.loop-parent.tried c.loop-parent.found
     (subst (λ (mode : Mode). HasGrown mode Ns parents c.loop-parent.tried c.loop-parent.found) c.mode-mode.ensures
     (grown_all c.mode-mode.result Ns parents c.loop-parent.parent-index c.loop-parent.tried c.loop-parent.found done c.loop-parent.invariant.so_far))))
@@ -63,7 +77,8 @@ to_list-requires c =
 pub returns-clause-forms : goal.returns-clause-forms
 returns-clause-forms c n h =
     let q : Request = c.args.request.now in
-    let Ns : List Matroid = matroids_of c.forbid-forbidden.result.now in
+    let Ns : List Matroid = c.forbidden.inside.sought.items in
+    let given = same_given c.args.request.now _ _ (sym (c.forbidden.view_is ∙ c.in_ok-forbidden.ensures)) c.forbid.ensures.given in
     let parents : List Rep = c.args.parents.now in
     let done : length parents ≤ c.loop-parent.parent-index =
     subst (λ (xs : List Rep). length xs ≤ c.loop-parent.parent-index) c.as_slice-parent-items.ensures c.loop-parent-test.false in
@@ -71,7 +86,7 @@ returns-clause-forms c n h =
     let is : c.in_ok-forms.forms ≡ forms = c.in_ok-forms.ensures.forms
     ∙ (λ i. map (rep_of (c.factors.ensures i) (c.rank-rank.ensures i)) c.loop-parent.found) in
     subst (λ (forms : List Rep). IsLevelOf q (n + 1) forms) (sym is)
-    (level_grown q Ns c.forbid-forbidden.ensures.given c.laws.ensures.factors c.laws.ensures.limits n parents h c.loop-parent.tried c.loop-parent.found
+    (level_grown q Ns given c.laws.ensures.factors c.laws.ensures.limits n parents h c.loop-parent.tried c.loop-parent.found
     (subst (λ (mode : Mode). HasGrown mode Ns parents c.loop-parent.tried c.loop-parent.found) c.mode-mode.ensures
     (grown_all c.mode-mode.result Ns parents c.loop-parent.parent-index c.loop-parent.tried c.loop-parent.found done c.loop-parent.invariant.so_far))
     (subst (λ (forms : List Rep). AllPairs (λ M N. rep_cmp M N ≡ Less) forms) is c.in_ok-forms.ensures.rising))
@@ -79,10 +94,11 @@ returns-clause-forms c n h =
 pub returns-clause-tried : goal.returns-clause-tried
 returns-clause-tried c n h =
     let q : Request = c.args.request.now in
-    let Ns : List Matroid = matroids_of c.forbid-forbidden.result.now in
+    let Ns : List Matroid = c.forbidden.inside.sought.items in
+    let given = same_given c.args.request.now _ _ (sym (c.forbidden.view_is ∙ c.in_ok-forbidden.ensures)) c.forbid.ensures.given in
     let parents : List Rep = c.args.parents.now in
     let done : length parents ≤ c.loop-parent.parent-index =
     subst (λ (xs : List Rep). length xs ≤ c.loop-parent.parent-index) c.as_slice-parent-items.ensures c.loop-parent-test.false in
-    tries_grown q Ns c.forbid-forbidden.ensures.given c.laws.ensures.factors c.laws.ensures.limits n parents h c.loop-parent.tried c.loop-parent.found
+    tries_grown q Ns given c.laws.ensures.factors c.laws.ensures.limits n parents h c.loop-parent.tried c.loop-parent.found
     (subst (λ (mode : Mode). HasGrown mode Ns parents c.loop-parent.tried c.loop-parent.found) c.mode-mode.ensures
     (grown_all c.mode-mode.result Ns parents c.loop-parent.parent-index c.loop-parent.tried c.loop-parent.found done c.loop-parent.invariant.so_far))

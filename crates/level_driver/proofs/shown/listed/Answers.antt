@@ -11,7 +11,7 @@ use Rattle.level_driver.proofs.shown.listed.Goals.{then-passes_all+in_ok-push, e
 
 pub passes_all-requires-clause-agrees : goal.passes_all-requires-clause-agrees
 passes_all-requires-clause-agrees c =
-    form_agrees c.args.request.now (map (λ item. item.matroid) c.forbid.result.now) c.forbid.ensures.given c.requires.0
+    form_agrees c.args.request.now c.laws.ensures.forbidden.0 c.laws.ensures.forbidden.1 c.requires.0
     c.args.forms.now c.requires.1 c.loop-i.i c.form-item.result
     (stands_at c.args.forms.now c.as_slice-form-items.result.now c.loop-i.i c.form-item.result c.as_slice-form-items.ensures c.loop-i-test.true c.form-item.is)
 

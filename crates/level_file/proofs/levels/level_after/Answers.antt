@@ -3,9 +3,8 @@ use Rattle.std.specs.Prelude.{slice_get}
 use Rattle.std.specs.Option.{option_copied}
 use Rattle.formats.specs.Request.{Request}
 use Rattle.level_driver.specs.declared.level.Level.{Level}
-use Rattle.level_driver.specs.Grown.{IsParentLevel}
+use Rattle.level_driver.specs.Grown.{IsParentLevel, AreGrown}
 use Rattle.formats.specs.Listing.{level_count}
-use Rattle.level_file.specs.Grown.{AreGrown}
 use Rattle.level_file.proofs.KnownLevels.{grown_at, not_past, next_grown}
 use Rattle.level_file.proofs.levels.level_after.Goals as goal
 

@@ -1,7 +1,7 @@
 use Rattle.std.proofs.Common.{◌≡◌, ℕ, ◌<◌, List, [], ◌∷◌, length, sym, ap, subst, arith, length-append}
 use Rattle.formats.specs.Listing.{level_count}
 use Rattle.level_driver.specs.declared.level.Level.{Level}
-use Rattle.level_file.specs.Grown.{IsGrown}
+use Rattle.level_driver.specs.Grown.{IsGrown}
 use Rattle.level_file.proofs.Meeting.{nothing_left}
 use Rattle.level_file.proofs.TextLevels.{HaveRead, ends_here, all_read, parts_at_all, next_read, next_ends, next_parts}
 use Rattle.level_file.proofs.levels.read_levels.Goals as goal

@@ -1,19 +1,16 @@
-use Rattle.std.proofs.Common.{◌≡◌, sym, ◌∙◌, ap, subst}
-use Rattle.matroid_theory.specs.Rep.{Rep}
-use Rattle.matroid_theory.specs.Level.{followed_by}
-use Rattle.level_driver.specs.Forbidden.{matroids_of, Avoids}
+use Rattle.std.proofs.Common.{sym, subst}
+use Rattle.matroid_theory.specs.Matroid.{Agrees}
+use Rattle.level_driver.specs.Forbidden.{Avoids}
 use Rattle.orderly.proofs.keep.candidate.Goals as goal
 
-pub returns-then-avoids : goal.returns-then-avoids
-returns-then-avoids c = (
-  c.push_column.ensures ∙ ap (λ (P : Rep). followed_by P c.args.column.now.items) c.copy-child.ensures,
-  c.avoids.ensures.0 c.if-avoids.true,
-)
+pub are_avoided_by-requires : goal.are_avoided_by-requires
+are_avoided_by-requires c = subst Agrees (sym c.extended-child.ensures) c.requires.column.agrees
 
-pub returns-else-avoids : goal.returns-else-avoids
-returns-else-avoids c avoids =
-    let same : c.push_column.new.self ≡ followed_by c.args.parent.now c.args.column.now.items =
-    c.push_column.ensures ∙ ap (λ (P : Rep). followed_by P c.args.column.now.items) c.copy-child.ensures in
-    let yes = c.avoids.ensures.1 (subst (Avoids (matroids_of c.args.forbidden.now)) (sym same) avoids) in
-    let no = c.if-avoids.false in
+pub returns-then-are_avoided_by : goal.returns-then-are_avoided_by
+returns-then-are_avoided_by c = (c.extended-child.ensures, c.are_avoided_by.ensures.0 c.if-are_avoided_by.true)
+
+pub returns-else-are_avoided_by : goal.returns-else-are_avoided_by
+returns-else-are_avoided_by c avoids =
+    let yes = c.are_avoided_by.ensures.1 (subst (Avoids c.args.forbidden.now) (sym c.extended-child.ensures) avoids) in
+    let no = c.if-are_avoided_by.false in
     cc (yes, no)

@@ -3,7 +3,7 @@ use Rattle.matroid_theory.specs.Rep.{Rep}
 use Rattle.matroid_theory.specs.Level.{IsCount, followed_by}
 use Rattle.matroid_theory.specs.Minor.{Matroid}
 use Rattle.extension.specs.Admissible.{IsAdmissible, ColumnsAfter}
-use Rattle.level_driver.specs.Forbidden.{matroids_of, Avoids}
+use Rattle.level_driver.specs.Forbidden.{Avoids}
 use Rattle.level_driver.specs.Children.{IsCandidate}
 use Rattle.orderly.specs.Kept.{AddsKept, KeepsOwnForm}
 use Rattle.orderly.proofs.KeptColumns.{kept_none, kept_more, kept_same, kept_count, kept_all}
@@ -15,7 +15,7 @@ loop-column-init c =
     c.into_iter-column-iterator.ensures.into_iter_gives ∙ c.of-column-items.ensures in
     record {
       same = ap (λ (columns : ColumnsAfter). columns.parent) start;
-      so_far = kept_none c.args.mode (matroids_of c.args.forbidden.now) c.args.forms.now c.args.parent.now c.laws.ensures.fields.some
+      so_far = kept_none c.args.mode c.args.forbidden.now c.args.forms.now c.args.parent.now c.laws.ensures.fields.some
           c.into_iter-column-iterator.result start;
     }
 
@@ -26,7 +26,7 @@ candidate-requires-clause-column c =
 
 pub loop-column-preserved : goal.loop-column-preserved
 loop-column-preserved c =
-    let Ns : List Matroid = matroids_of c.args.forbidden.now in
+    let Ns : List Matroid = c.args.forbidden.now in
     let steps = c.in-Some.ensures.steps in
     let progress = c.in-Some.ensures.goes.on tt in
     record {
@@ -39,7 +39,7 @@ loop-column-preserved c =
 
 pub loop-column-preserved-in-Some-candidate : goal.loop-column-preserved-in-Some-candidate
 loop-column-preserved-in-Some-candidate c =
-    let Ns : List Matroid = matroids_of c.args.forbidden.now in
+    let Ns : List Matroid = c.args.forbidden.now in
     let steps = c.in-Some.ensures.steps in
     let progress = c.in-Some.ensures.goes.on tt in
     let is : c.in-Some-candidate.child ≡ followed_by c.loop-column.column-iterator.parent c.in-Some.column.items =
@@ -54,14 +54,14 @@ loop-column-preserved-in-Some-candidate c =
 
 pub returns-clause-count : goal.returns-clause-count
 returns-clause-count c =
-    let Ns : List Matroid = matroids_of c.args.forbidden.now in
+    let Ns : List Matroid = c.args.forbidden.now in
     subst (λ (P : Rep). IsCount (IsCandidate Ns P) c.loop-column.tried) c.loop-column.invariant.same
     (kept_count c.args.mode Ns c.args.forms.now c.loop-column.forms c.loop-column.column-iterator c.loop-column.tried
     c.loop-column.invariant.so_far c.in-None.ensures.steps.0)
 
 pub returns-clause-forms : goal.returns-clause-forms
 returns-clause-forms c =
-    let Ns : List Matroid = matroids_of c.args.forbidden.now in
+    let Ns : List Matroid = c.args.forbidden.now in
     subst (λ (P : Rep). AddsKept c.args.mode Ns P c.args.forms.now c.loop-column.forms) c.loop-column.invariant.same
     (kept_all c.args.mode Ns c.args.forms.now c.loop-column.forms c.loop-column.column-iterator c.loop-column.tried
     c.loop-column.invariant.so_far c.in-None.ensures.steps.0)

@@ -1,5 +1,4 @@
 use Rattle.std.proofs.Common.{◌≡◌}
-use Rattle.level_driver.specs.Forbidden.{matroids_of}
 use Rattle.orderly.proofs.KeptColumns.{HasKept}
 use Rattle.orderly.proofs.level.keep_children.Given as goal
 
@@ -7,5 +6,5 @@ use Rattle.orderly.proofs.level.keep_children.Given as goal
 abbrev pub invariant-loop-column : goal.invariant-loop-column
 invariant-loop-column l = record {
   same : l.column-iterator.parent ≡ l.parent;
-  so_far : HasKept l.mode (matroids_of l.forbidden) l.fn.forms l.column-iterator l.tried l.forms;
+  so_far : HasKept l.mode l.forbidden l.fn.forms l.column-iterator l.tried l.forms;
 }

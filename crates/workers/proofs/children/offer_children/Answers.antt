@@ -4,7 +4,7 @@ use Rattle.matroid_theory.specs.Matroid.{Agrees}
 use Rattle.matroid_theory.specs.Level.{followed_by}
 use Rattle.matroid_theory.specs.Minor.{Matroid}
 use Rattle.extension.specs.Admissible.{ColumnsAfter, IsNextColumn}
-use Rattle.level_driver.specs.Forbidden.{matroids_of, Avoids}
+use Rattle.level_driver.specs.Forbidden.{Avoids}
 use Rattle.level_driver.specs.Known.{ChildrenOf, IsAnswer, IsChildOf}
 use Rattle.level_driver.proofs.Known.{answer_of}
 use Rattle.workers.specs.Offered.{IsChildKey, OffersChildren}
@@ -21,7 +21,7 @@ loop-column-init g c =
       children = c.in_ok-children.ensures;
       same = record { level = refl; number = refl };
       gathered = empty_gathered c.args.batches.now c.requires.empty;
-      so_far = offered_none c.args.mode (matroids_of c.args.forbidden.now) c.args.parent.now c.args.pass.now c.args.batches.now
+      so_far = offered_none c.args.mode c.args.forbidden.now c.args.parent.now c.args.pass.now c.args.batches.now
           c.laws.ensures.fields.some c.requires.empty
           c.into_iter-column-iterator.result start;
     }
@@ -43,7 +43,7 @@ child-requires-clause-agrees g c =
 
 pub loop-column-preserved : goal.loop-column-preserved
 loop-column-preserved g c =
-    let Ns : List Matroid = matroids_of c.args.forbidden.now in
+    let Ns : List Matroid = c.args.forbidden.now in
     let steps = c.in-Some.ensures.steps in
     let progress = c.in-Some.ensures.goes.on tt in
     let i = c.loop-column.invariant in
@@ -66,7 +66,7 @@ loop-column-preserved g c =
 
 pub loop-column-preserved-in-Some-2 : goal.loop-column-preserved-in-Some-2
 loop-column-preserved-in-Some-2 g c =
-    let Ns : List Matroid = matroids_of c.args.forbidden.now in
+    let Ns : List Matroid = c.args.forbidden.now in
     let steps = c.in-Some.ensures.steps in
     let progress = c.in-Some.ensures.goes.on tt in
     let i = c.loop-column.invariant in
@@ -94,7 +94,7 @@ loop-column-preserved-in-Some-2 g c =
 
 pub returns-clause-offered : goal.returns-clause-offered
 returns-clause-offered g c =
-    let Ns : List Matroid = matroids_of c.args.forbidden.now in
+    let Ns : List Matroid = c.args.forbidden.now in
     let i = c.loop-column.invariant in
     subst (λ (P : Rep). OffersChildren c.args.mode Ns P c.args.pass.now c.offer_rest.new.pass c.loop-column.tried) i.parent
     (offered_all c.args.mode Ns c.args.pass.now c.loop-column.column-iterator c.loop-column.tried c.loop-column.pass

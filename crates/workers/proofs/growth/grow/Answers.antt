@@ -6,7 +6,6 @@ use Rattle.matroid_theory.specs.Minor.{Matroid}
 use Rattle.formats.specs.Request.{Request}
 use Rattle.class_store.specs.Closed.{StoreSide}
 use Rattle.form_key.specs.Packing.{IsPackedAs}
-use Rattle.level_driver.specs.Forbidden.{matroids_of}
 use Rattle.level_driver.proofs.NextLevel.{grown_by, grows_it}
 use Rattle.workers.specs.Forms.{HavePacking}
 use Rattle.workers.specs.Store.{HoldsTriesOf}
@@ -16,11 +15,11 @@ use Rattle.workers.proofs.growth.grow.Goals as goal
 pub forms_of-requires-clause-packings : goal.forms_of-requires-clause-packings
 forms_of-requires-clause-packings g c =
     let q : Request = c.args.request.now in
-    let Ns : List Matroid = matroids_of c.forbid.result.now in
+    let Ns : List Matroid = c.laws.ensures.forbidden.0 in
     let n : ℕ = c.requires.parents.0 in
     let h = c.requires.parents.1 in
     let family : Family = grown_by q Ns in
-    let grows = grows_it q Ns c.forbid.ensures.given in
+    let grows = grows_it q Ns c.laws.ensures.forbidden.1 in
     let same : ◌≡◌ {A = Shape} (record { factors = q.factors; rank = q.rank; size = c.next_size-size.result })
     (record { factors = c.factors.result; rank = c.rank.result; size = c.next_size-size.result }) =
     λ i. record { factors = sym c.factors.ensures i; rank = sym c.rank.ensures i; size = c.next_size-size.result } in

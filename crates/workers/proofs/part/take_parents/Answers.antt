@@ -6,7 +6,7 @@ use Rattle.matroid_theory.specs.Minor.{Matroid}
 use Rattle.formats.specs.Request.{Request}
 use Rattle.steal_pool.specs.Shift.{shift_taken}
 use Rattle.steal_pool.proofs.Stays.{stays_same, stays_more}
-use Rattle.level_driver.specs.Forbidden.{matroids_of}
+use Rattle.level_driver.proofs.Avoiding.{same_given}
 use Rattle.level_driver.proofs.NextLevel.{each_parent, parents_rise}
 use Rattle.level_driver.proofs.Sifted.{past}
 use Rattle.workers.specs.Offered.{AreEmpty}
@@ -23,14 +23,15 @@ loop-init g c =
       shift = stays_same c.args.shift.now;
       width = ap (λ (l : List (List (List ℕ))). length l) is ∙ (length-replicate c.stripes.result [] ∙ c.stripes.ensures.count);
       empty = subst AreEmpty (sym is) (none_gathered c.stripes.result);
-      so_far = taken_none c.mode-mode.result (matroids_of c.forbid-forbidden.result.now) c.args.parents.now (shift_taken c.args.shift.now) c.args.pass.now;
+      so_far = taken_none c.mode-mode.result c.forbidden.inside.sought.items c.args.parents.now (shift_taken c.args.shift.now) c.args.pass.now;
     }
 
 pub returns-in_default-clause-part : goal.returns-in_default-clause-part
 returns-in_default-clause-part g c =
-    let Ns : List Matroid = matroids_of c.forbid-forbidden.result.now in
+    let Ns : List Matroid = c.forbidden.inside.sought.items in
+    let given = same_given c.args.request.now _ _ (sym (c.forbidden.view_is ∙ c.in_ok-forbidden.ensures)) c.forbid.ensures.given in
     let same : shift_taken c.next-in-loop.new.self ≡ shift_taken c.loop.shift = c.in_default.ensures.taken in
-    part_done c.args.request.now Ns c.forbid-forbidden.ensures.given c.args.parents.now (shift_taken c.args.shift.now) (shift_taken c.next-in-loop.new.self)
+    part_done c.args.request.now Ns given c.args.parents.now (shift_taken c.args.shift.now) (shift_taken c.next-in-loop.new.self)
     c.args.pass.now c.loop.pass c.loop.tried
     (subst (λ (mode : Mode).
     HasTaken mode Ns c.args.parents.now (shift_taken c.args.shift.now)
@@ -49,7 +50,8 @@ unreachable-requires g c =
 
 pub offer_children-requires-clause-parent : goal.offer_children-requires-clause-parent
 offer_children-requires-clause-parent g c κs within =
-    each_parent c.args.request.now (matroids_of c.forbid-forbidden.result.now) c.forbid-forbidden.ensures.given c.laws.ensures.factors c.laws.ensures.limits
+    let given = same_given c.args.request.now _ _ (sym c.in_ok-forbidden.ensures) c.forbid.ensures.given in
+    each_parent c.args.request.now c.in_ok-forbidden.forbidden given c.laws.ensures.factors c.laws.ensures.limits
     c.requires.parents.0 c.args.parents.now c.requires.parents.1 c.in-Some-get.parent.now
     (inside c.args.parents.now c.in-Some-next.number c.in-Some-get.parent.now (sym c.in-Some-get.ensures))
 
@@ -57,11 +59,14 @@ offer_children-requires-clause-parent g c κs within =
 pub overflow_add-tried : goal.overflow_add-tried
 overflow_add-tried g c =
     let q : Request = c.args.request.now in
-    let Ns : List Matroid = matroids_of c.forbid-forbidden.result.now in
+    let Ns : List Matroid = c.in_ok-forbidden.forbidden in
+    let given = same_given c.args.request.now _ _ (sym c.in_ok-forbidden.ensures) c.forbid.ensures.given in
     let parents : List Rep = c.args.parents.now in
+    let so_far = subst (λ (Ms : List Matroid). HasTaken c.mode-mode.result Ms parents (shift_taken c.args.shift.now) (shift_taken c.loop.shift)
+        c.args.pass.now c.loop.pass c.loop.tried) c.forbidden.view_is c.loop.invariant.so_far in
     let h = taken_more c.mode-mode.result Ns parents
-    (parents_rise q Ns c.forbid-forbidden.ensures.given c.laws.ensures.factors c.laws.ensures.limits c.requires.parents.0 parents c.requires.parents.1)
-    (shift_taken c.args.shift.now) (shift_taken c.loop.shift) c.args.pass.now c.loop.pass c.loop.tried c.loop.invariant.so_far c.in-Some-next.number
+    (parents_rise q Ns given c.laws.ensures.factors c.laws.ensures.limits c.requires.parents.0 parents c.requires.parents.1)
+    (shift_taken c.args.shift.now) (shift_taken c.loop.shift) c.args.pass.now c.loop.pass c.loop.tried so_far c.in-Some-next.number
     c.in-Some-get.parent.now (sym c.in-Some-get.ensures) c.in-Some-next.ensures.taken.1 (search rules) (shift_taken c.next-in-loop.new.self)
     c.offer_children.new.pass c.in_ok-more.more (c.loop.tried + c.from-tried.result) c.in-Some-next.ensures.taken.2 c.in_ok-more.ensures.offered
     (ap (λ (k : ℕ). c.loop.tried + k) c.from-tried.ensures) in
@@ -73,8 +78,11 @@ overflow_add-tried g c =
 pub loop-preserved : goal.loop-preserved
 loop-preserved g c =
     let q : Request = c.args.request.now in
-    let Ns : List Matroid = matroids_of c.forbid-forbidden.result.now in
+    let Ns : List Matroid = c.in_ok-forbidden.forbidden in
+    let given = same_given c.args.request.now _ _ (sym c.in_ok-forbidden.ensures) c.forbid.ensures.given in
     let parents : List Rep = c.args.parents.now in
+    let so_far = subst (λ (Ms : List Matroid). HasTaken c.mode-mode.result Ms parents (shift_taken c.args.shift.now) (shift_taken c.loop.shift)
+        c.args.pass.now c.loop.pass c.loop.tried) c.forbidden.view_is c.loop.invariant.so_far in
     let i = c.loop.invariant in
     let a = i.pass in
     let b = c.offer_children.ensures.same in
@@ -87,10 +95,13 @@ loop-preserved g c =
       shift = stays_more c.args.shift.now c.loop.shift c.next-in-loop.new.self i.shift c.in-Some-next.ensures.same;
       width = ap (λ (l : List (List (List ℕ))). length l) back ∙ (lent ∙ i.width);
       empty = subst AreEmpty (sym back) c.in_ok-more.ensures.empty;
-      so_far = taken_more c.mode-mode.result Ns parents
-          (parents_rise q Ns c.forbid-forbidden.ensures.given c.laws.ensures.factors c.laws.ensures.limits c.requires.parents.0 parents c.requires.parents.1)
-          (shift_taken c.args.shift.now) (shift_taken c.loop.shift) c.args.pass.now c.loop.pass c.loop.tried i.so_far c.in-Some-next.number
+      so_far = subst (λ (Ms : List Matroid). HasTaken c.mode-mode.result Ms parents (shift_taken c.args.shift.now)
+          (shift_taken c.next-in-loop.new.self) c.args.pass.now c.offer_children.new.pass (c.loop.tried + c.from-tried.result))
+          (sym c.forbidden.view_is)
+          (taken_more c.mode-mode.result Ns parents
+          (parents_rise q Ns given c.laws.ensures.factors c.laws.ensures.limits c.requires.parents.0 parents c.requires.parents.1)
+          (shift_taken c.args.shift.now) (shift_taken c.loop.shift) c.args.pass.now c.loop.pass c.loop.tried so_far c.in-Some-next.number
           c.in-Some-get.parent.now (sym c.in-Some-get.ensures) c.in-Some-next.ensures.taken.1 (search rules) (shift_taken c.next-in-loop.new.self)
           c.offer_children.new.pass c.in_ok-more.more (c.loop.tried + c.from-tried.result) c.in-Some-next.ensures.taken.2 c.in_ok-more.ensures.offered
-          (ap (λ (k : ℕ). c.loop.tried + k) c.from-tried.ensures);
+          (ap (λ (k : ℕ). c.loop.tried + k) c.from-tried.ensures));
     }

@@ -1,5 +1,4 @@
 use Rattle.std.proofs.Common.{◌≡◌, length}
-use Rattle.level_driver.specs.Forbidden.{matroids_of}
 use Rattle.steal_pool.specs.Shift.{StaysInPool, shift_taken}
 use Rattle.workers.specs.Offered.{AreEmpty, IsSamePass}
 use Rattle.workers.proofs.PartKeys.{HasTaken}
@@ -12,5 +11,6 @@ invariant-loop g l = record {
   shift : StaysInPool l.fn.shift l.shift;
   width : length l.batches.items ≡ length l.level.level.tables;
   empty : AreEmpty l.batches.items;
-  so_far : HasTaken l.mode (matroids_of l.forbidden) l.parents (shift_taken l.fn.shift) (shift_taken l.shift) l.fn.pass l.pass l.tried;
+  so_far : HasTaken l.mode l.forbidden-inside.sought.items l.parents (shift_taken l.fn.shift) (shift_taken l.shift)
+      l.fn.pass l.pass l.tried;
 }

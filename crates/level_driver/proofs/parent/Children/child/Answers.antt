@@ -1,6 +1,5 @@
 use Rattle.std.proofs.Common.{List, ℕ, sym, ◌∙◌, subst}
 use Rattle.level_driver.specs.declared.parent.Leader.{Leader}
-use Rattle.level_driver.specs.Forbidden.{matroids_of}
 use Rattle.level_driver.specs.Known.{ChildrenOf, IsAnswer}
 use Rattle.level_driver.proofs.Known.{answer_none, answer_avoids, answer_of, more_answers}
 use Rattle.level_driver.proofs.parent.Children.child.Goals as goal
@@ -12,7 +11,7 @@ pub invariant_of-self-2 : goal.invariant_of-self-2
 invariant_of-self-2 c =
     let s = c.self.inside in
     let v : List ℕ = c.args.column.now.items in
-    let k : ChildrenOf = record { parent = s.parent.now; mode = s.mode; forbidden = matroids_of s.forbidden.now } in
+    let k : ChildrenOf = record { parent = s.parent.now; mode = s.mode; forbidden = s.forbidden.now } in
     let answer : IsAnswer k v c.child-child.result =
     answer_of k v c.child-child.result c.child-child.ensures.none c.child-child.ensures.avoids c.child-child.ensures.form c.child-child.ensures.equivalent in
     let l : Leader = record { column = c.list_of.result; child = c.copy_of.result } in
@@ -24,7 +23,7 @@ pub returns-clause-none : goal.returns-clause-none
 returns-clause-none c =
     let s = c.self.inside in
     let v : List ℕ = c.args.column.now.items in
-    let k : ChildrenOf = record { parent = s.parent.now; mode = s.mode; forbidden = matroids_of s.forbidden.now } in
+    let k : ChildrenOf = record { parent = s.parent.now; mode = s.mode; forbidden = s.forbidden.now } in
     answer_none c.args.self.now v c.child-child.result (subst (λ (k : ChildrenOf). IsAnswer k v c.child-child.result) c.self.view_is
     (answer_of k v c.child-child.result c.child-child.ensures.none c.child-child.ensures.avoids c.child-child.ensures.form c.child-child.ensures.equivalent))
 
@@ -32,6 +31,6 @@ pub returns-clause-avoids : goal.returns-clause-avoids
 returns-clause-avoids c =
     let s = c.self.inside in
     let v : List ℕ = c.args.column.now.items in
-    let k : ChildrenOf = record { parent = s.parent.now; mode = s.mode; forbidden = matroids_of s.forbidden.now } in
+    let k : ChildrenOf = record { parent = s.parent.now; mode = s.mode; forbidden = s.forbidden.now } in
     answer_avoids c.args.self.now v c.child-child.result (subst (λ (k : ChildrenOf). IsAnswer k v c.child-child.result) c.self.view_is
     (answer_of k v c.child-child.result c.child-child.ensures.none c.child-child.ensures.avoids c.child-child.ensures.form c.child-child.ensures.equivalent))

@@ -5,7 +5,7 @@ use Rattle.formats.specs.Listing.{level_count}
 use Rattle.formats.specs.Levels.{IsListingCutOff}
 use Rattle.formats.specs.Run.{Gains}
 use Rattle.macek_run.proofs.Begun.{end_cut}
-use Rattle.resume_run.proofs.listing.write_listing.Goals as goal
+use Rattle.macek_run.proofs.listing.write_listing_from.Goals as goal
 
 pub returns-in-Err-put-clause-write_fault : goal.returns-in-Err-put-clause-write_fault
 returns-in-Err-put-clause-write_fault g c = λ same.

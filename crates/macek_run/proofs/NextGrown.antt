@@ -1,18 +1,11 @@
--- Levels at hand, one after another.
-use Rattle.std.proofs.Common.{◌≡◌, ℕ, ◌+◌, List, ◌∷◌, Ok, Err, subst}
+-- A level that was grown, with its number of tries.
+use Rattle.std.proofs.Common.{ℕ, ◌+◌, List, Ok, Err}
 use Rattle.std.specs.Prelude.{Result, IfOk}
 use Rattle.matroid_theory.specs.Rep.{Rep}
 use Rattle.formats.specs.Request.{Request}
 use Rattle.level_driver.specs.declared.level.Level.{Level}
-use Rattle.level_driver.specs.Grown.{IsLevelOf, AreTriesOf, IsParentLevel}
-use Rattle.level_file.specs.Grown.{IsGrown, AreGrown}
+use Rattle.level_driver.specs.Grown.{IsLevelOf, AreTriesOf, IsParentLevel, IsGrown, AreGrown}
 
--- the first of them, and those behind it
-pub first_at_hand : (q : Request) (n : ℕ) (old new : List Level) (level : Level) → old ≡ level ∷ new → AreGrown q n old
-    → IsGrown q n level × AreGrown q (n + 1) new
-first_at_hand q n old new level is all = subst (AreGrown q n) is all
-
--- the next one was grown
 pub next_grown : {E : Type 0} (q : Request) (parents : List Rep) (levels : List Level) (r : Result Level E)
     → IfOk r (λ level. (n : ℕ) → IsParentLevel q n parents → IsLevelOf q (n + 1) level.forms)
     → IfOk r (λ level. (n : ℕ) → IsParentLevel q n parents → AreTriesOf q (n + 1) level.tried)

@@ -2,7 +2,7 @@
 ghost use Rattle.std.specs.Prelude.{◌≡◌, [], ◌∷◌, ◌++◌, length, slice_get, MatchOption, OnOk, OnErr};
 ghost use Rattle.std.specs.Option.{option_copied};
 
-use level_driver::Level;
+use crate::Level;
 use std::alloc::{AllocError, Global};
 use std::marker::Model;
 
@@ -23,7 +23,7 @@ impl Model for LevelList {
 
 impl LevelList {
     /// The list of no level. It takes no memory.
-    pub(crate) fn new(alloc: Global) -> LevelList
+    pub fn new(alloc: Global) -> LevelList
         ensures { result ≡ [] }
     {
         LevelList {
@@ -55,8 +55,12 @@ impl LevelList {
         Some(self.levels.remove(0))
     }
 
-    /// Adds a level at the end. Where there was no memory, the list is as it was, and the level is dropped.
-    pub(crate) fn push(&mut self, level: Level) -> Result<(), AllocError>
+    /// Adds a level at the end.
+    ///
+    /// # Errors
+    ///
+    /// `AllocError` where there was no memory. The list is then as it was, and the level is dropped.
+    pub fn push(&mut self, level: Level) -> Result<(), AllocError>
         ensures pushed { OnOk result (self.new ≡ self.old ++ level ∷ []) }
         ensures unchanged { OnErr result (self.new ≡ self.old) }
     {
