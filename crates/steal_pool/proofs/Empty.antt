@@ -3,11 +3,11 @@ use Rattle.std.proofs.Common.{◌≡◌, ◌≢◌, ℕ, zero, suc, ◌+◌, ◌
 use Rattle.std.proofs.lemmas.Bool.Decides.{nat_tests}
 use Rattle.std.proofs.lemmas.Bool.{cases_eq}
 use Rattle.std.proofs.lemmas.List.Elements.{Contains-append_left, Contains-append_cases, Contains-push, Contains-push_cases}
-use Rattle.steal_pool.specs.Deque.{one, times}
+use Rattle.steal_deque.specs.Deque.{one, times}
 use Rattle.steal_pool.specs.Ring.{ring}
 use mathlib.Core.List.{IsPrefix}
 use Rattle.steal_pool.specs.Shift.{visited}
-use Rattle.steal_pool.proofs.Steps.{times_same}
+use Rattle.steal_deque.proofs.Steps.{times_same}
 use Rattle.steal_pool.proofs.Filled.{ring_below}
 
 visited_more : (deques number old more : ℕ) → IsPrefix (visited deques number old) (visited deques number (old + more))

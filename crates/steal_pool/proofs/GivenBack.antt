@@ -7,14 +7,14 @@ use Rattle.crossbeam_deque.specs.Handles.{view, stealer_deque}
 use Rattle.std.proofs.lemmas.Bool.{cases_eq}
 use Rattle.std.proofs.lemmas.List.{map-set, get_or-map, length-map, map_push}
 use Rattle.std.proofs.Math.Seq.{map-set_same}
-use Rattle.steal_pool.specs.declared.deque.Knowledge.{Knowledge}
+use Rattle.steal_deque.specs.declared.deque.Knowledge.{Knowledge}
 use Rattle.steal_pool.specs.declared.seat.Seat.{Seat}
-use Rattle.steal_pool.specs.Deque.{times, total, spent, both, Learned}
+use Rattle.steal_deque.specs.Deque.{times, total, spent, both, Learned}
 use Rattle.steal_pool.specs.Ring.{ring, view_at}
 use Rattle.steal_pool.specs.SeatViews.{seat_views}
 use Rattle.steal_pool.specs.Rows.{IsAround}
 use Rattle.steal_pool.specs.Back.{place_view, place_deque, place_views, place_deques, seat_places, row_views, rows_views, HaveParts, AreBack, GoesRound}
-use Rattle.steal_pool.proofs.Steps.{times-append}
+use Rattle.steal_deque.proofs.Steps.{times-append}
 use Rattle.steal_pool.proofs.Filled.{ring_below}
 use Rattle.steal_pool.proofs.Rows.{map_get, set_each}
 

@@ -1,4 +1,3 @@
-pub mod Steps
 pub mod Shares
 pub mod Seats
 pub mod Rows

@@ -3,8 +3,8 @@ use Rattle.std.proofs.Common.{◌≡◌, ◌≢◌, ℕ, zero, suc, ◌+◌, ◌
 use Rattle.std.specs.List.{slice_get}
 use Rattle.std.proofs.lemmas.Bool.{cases_eq}
 use Rattle.std.proofs.lemmas.Bool.Decides.{nat_tests}
-use Rattle.steal_pool.specs.declared.deque.Knowledge.{Knowledge}
-use Rattle.steal_pool.specs.Deque.{one, spent, kept, given}
+use Rattle.steal_deque.specs.declared.deque.Knowledge.{Knowledge}
+use Rattle.steal_deque.specs.Deque.{one, spent, kept, given}
 use Rattle.steal_pool.specs.Ring.{ring, view_at}
 use Rattle.steal_pool.specs.Rows.{AreCut, IsRow, IsAround}
 

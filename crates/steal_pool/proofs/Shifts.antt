@@ -8,12 +8,12 @@ use Rattle.std.proofs.lemmas.List.{length-map, map_push}
 use Rattle.std.proofs.lemmas.Option.{slice_get_within, slice_get-get_or}
 use Rattle.crossbeam_deque.specs.declared.handles.Worker.{Worker}
 use Rattle.crossbeam_deque.specs.Handles.{view, worker_view, worker_deque, worker_flavor}
-use Rattle.steal_pool.specs.declared.deque.Knowledge.{Knowledge}
-use Rattle.steal_pool.specs.declared.deque.Task.{Task}
-use Rattle.steal_pool.specs.declared.deque.DequeRule.{DequeRule}
+use Rattle.steal_deque.specs.declared.deque.Knowledge.{Knowledge}
+use Rattle.steal_deque.specs.declared.deque.Task.{Task}
+use Rattle.steal_deque.specs.declared.deque.DequeRule.{DequeRule}
 use Rattle.steal_pool.specs.declared.seat.Seat.{Seat}
 use Rattle.steal_pool.specs.declared.shift.Shift.{Shift}
-use Rattle.steal_pool.specs.Deque.{times, share}
+use Rattle.steal_deque.specs.Deque.{times, share}
 use Rattle.steal_pool.specs.Ring.{ring, view_at, takings, IsShift}
 use Rattle.steal_pool.specs.SeatViews.{seat_views}
 use Rattle.steal_pool.specs.Shift.{visited}

@@ -7,18 +7,18 @@ use Rattle.std.proofs.lemmas.Bool.Decides.{nat_tests}
 use Rattle.std.proofs.lemmas.List.{length-map}
 use Rattle.atomic_blocks.specs.Lent.{RowsId}
 use Rattle.crossbeam_deque.specs.Handles.{worker_view, worker_deque, stealer_deque}
-use Rattle.steal_pool.specs.declared.deque.Knowledge.{Knowledge}
+use Rattle.steal_deque.specs.declared.deque.Knowledge.{Knowledge}
 use Rattle.steal_pool.specs.declared.seat.Seat.{Seat}
 use Rattle.steal_pool.specs.declared.shift.Shift.{Shift}
-use Rattle.steal_pool.specs.Deque.{one, times, total, share, Settled, Learned}
+use Rattle.steal_deque.specs.Deque.{one, times, total, share, Settled, Learned}
 use Rattle.steal_pool.specs.Ring.{ring, view_at, takings}
 use Rattle.steal_pool.specs.SeatViews.{seat_views}
 use Rattle.steal_pool.specs.Rows.{IsAround, seat_deques}
 use Rattle.steal_pool.specs.Shift.{visited, shift_taken, HasEnded}
 use Rattle.steal_pool.specs.Pool.{pool_deques, IsPoolShift, IsPoolOf, AllEnded, IsProper, IsWhole}
 use Rattle.steal_pool.specs.Back.{place_view, place_deque, place_views, place_deques, seat_places, row_views, rows_views, HaveParts, AreBack, GoesRound}
-use Rattle.steal_pool.proofs.Steps.{times-append, times_same}
-use Rattle.steal_pool.proofs.Shares.{one_other}
+use Rattle.steal_deque.proofs.Steps.{times-append, times_same}
+use Rattle.steal_deque.proofs.Filling.{one_other}
 use Rattle.steal_pool.proofs.Shifts.{Own, ring_zero}
 use Rattle.steal_pool.proofs.Empty.{nothing_in}
 use Rattle.steal_pool.proofs.Stays.{got_is}

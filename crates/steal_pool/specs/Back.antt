@@ -4,9 +4,9 @@ use Rattle.std.specs.Global.{Global, Vec}
 use Rattle.atomic_blocks.specs.Lent.{RowsId}
 use Rattle.crossbeam_deque.specs.declared.handles.Worker.{Worker}
 use Rattle.crossbeam_deque.specs.Handles.{worker_view, worker_deque, stealer_deque}
-use Rattle.steal_pool.specs.declared.deque.Knowledge.{Knowledge}
+use Rattle.steal_deque.specs.declared.deque.Knowledge.{Knowledge}
 use Rattle.steal_pool.specs.declared.seat.Seat.{Seat}
-use Rattle.steal_pool.specs.Deque.{times, total, spent}
+use Rattle.steal_deque.specs.Deque.{times, total, spent}
 use Rattle.steal_pool.specs.Ring.{view_at}
 use Rattle.steal_pool.specs.SeatViews.{seat_views}
 use Rattle.steal_pool.specs.Rows.{IsAround}

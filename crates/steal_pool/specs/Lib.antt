@@ -1,4 +1,3 @@
-pub mod Deque
 pub mod Ring
 pub mod SeatViews
 pub mod Shift

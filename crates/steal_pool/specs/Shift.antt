@@ -3,8 +3,8 @@ use Rattle.std.specs.Prelude.{◌≡◌, ℕ, zero, suc, ◌<◌, true, List, []
 use Rattle.std.specs.List.{Contains}
 use Rattle.crossbeam_deque.specs.Handles.{worker_view, SameWorker}
 use Rattle.steal_pool.specs.declared.shift.Shift.{Shift}
-use Rattle.steal_pool.specs.declared.deque.Knowledge.{Knowledge}
-use Rattle.steal_pool.specs.Deque.{share}
+use Rattle.steal_deque.specs.declared.deque.Knowledge.{Knowledge}
+use Rattle.steal_deque.specs.Deque.{share}
 use Rattle.steal_pool.specs.Ring.{ring, view_at, takings}
 use Rattle.steal_pool.specs.SeatViews.{seat_views}
 use Rattle.steal_pool.specs.Rows.{KeepsParts}

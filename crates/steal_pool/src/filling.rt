@@ -2,10 +2,10 @@
 ghost use Rattle.std.specs.Prelude.{◌≡◌, ◌+◌, ◌-◌, ◌<◌, ◌≤◌, ℕ, length, IfOk};
 ghost use Rattle.steal_pool.specs.Rows.{owner_views, owner_deques, owner_flavors, seat_deques, AreOwners, AreFifo, AreRows, served};
 
-use crate::deque::{Owner, filled};
 use crate::seat::Seat;
 use crate::seating::seats_of;
 use std::alloc::{AllocError, Global};
+use steal_deque::{Owner, filled};
 
 /// A deque for each worker, with its share of the numbers.
 pub(crate) fn owners_of(

@@ -3,16 +3,16 @@ ghost use Rattle.std.specs.Prelude.{◌≡◌, ◌+◌, ◌-◌, ◌<◌, ◌≤
 ghost use Rattle.std.specs.List.{slice_get};
 ghost use Rattle.arrayvec.specs.ArrayVec.{array_vec_len};
 ghost use Rattle.crossbeam_deque.specs.Handles.{view, stealer_deque};
-ghost use Rattle.steal_pool.specs.Deque.{both, Learned};
+ghost use Rattle.steal_deque.specs.Deque.{both, Learned};
 ghost use Rattle.steal_pool.specs.Ring.{ring, view_at};
 ghost use Rattle.steal_pool.specs.SeatViews.{seat_views};
 ghost use Rattle.steal_pool.specs.Rows.{IsAround};
 ghost use Rattle.steal_pool.specs.Back.{place_view, place_deque, place_views, place_deques, seat_places, rows_views, HaveParts, AreBack, GoesRound};
 
-use crate::deque::{Owner, Total, take_back};
 use crate::seat::Seat;
 use crate::shift::Shift;
 use arrayvec::ArrayVec;
+use steal_deque::{Owner, Total, take_back};
 
 /// The owners of a pool's deques. A place may be blank.
 pub type Owners = ArrayVec<Option<Owner>, 64>;

@@ -2,7 +2,6 @@
 #![tactic(auto)]
 
 mod closing;
-mod deque;
 mod filling;
 mod giving_back;
 mod next;

@@ -1,14 +1,14 @@
 // Seating a shift at the deques of the others.
 ghost use Rattle.std.specs.Prelude.{◌≡◌, ◌+◌, ◌-◌, ◌<◌, ℕ, length, IfOk};
 ghost use Rattle.crossbeam_deque.specs.Handles.{view, stealer_deque, worker_deque, worker_view, SameWorker};
-ghost use Rattle.steal_pool.specs.Deque.{kept, given};
+ghost use Rattle.steal_deque.specs.Deque.{kept, given};
 ghost use Rattle.steal_pool.specs.Ring.{view_at};
 ghost use Rattle.steal_pool.specs.SeatViews.{seat_views};
 ghost use Rattle.steal_pool.specs.Rows.{owner_views, owner_deques, owner_flavors, seat_deques, AreCut, others_of, IsRow, IsAround};
 
-use crate::deque::{Owner, hand_out};
 use crate::seat::Seat;
 use std::alloc::{AllocError, Global};
+use steal_deque::{Owner, hand_out};
 
 /// A seat at this deque.
 pub(crate) fn seat_at(own: &mut Owner) -> Result<Seat, AllocError>

@@ -2,14 +2,14 @@
 ghost use Rattle.std.specs.Prelude.{◌≡◌, ◌+◌, ◌<◌, ◌≤◌, ℕ, List, [], ◌∷◌, ◌++◌, length, MatchOption};
 ghost use Rattle.std.specs.List.{Contains};
 ghost use Rattle.crossbeam_deque.specs.Handles.{view, IsPassOf, SamePass, stealer_deque, worker_flavor, worker_view, SameWorker};
-ghost use Rattle.steal_pool.specs.Deque.{GotTask};
+ghost use Rattle.steal_deque.specs.Deque.{GotTask};
 ghost use Rattle.steal_pool.specs.Ring.{IsShift, takings, view_at};
 ghost use Rattle.steal_pool.specs.SeatViews.{seat_views};
 ghost use Rattle.steal_pool.specs.Rows.{KeepsParts};
 
-use crate::deque::{Owner, Task, pop_one};
 use crate::seat::Seat;
 use std::sync::Wait;
+use steal_deque::{Owner, Task, pop_one};
 
 /// The next number: from the own deque, and once that was found empty from the others in turn. None where all were found empty.
 pub(crate) fn next_number<R: Wait>(

@@ -4,8 +4,8 @@ use Rattle.std.specs.List.{list_any, IsDistinct, AllByRecursion}
 use Rattle.std.proofs.lemmas.Bool.{false≢true, or_cases}
 use Rattle.std.proofs.lemmas.Map.Keys.{IsDistinct-cons}
 use Rattle.std.proofs.lemmas.Map.Steps.{length-le_from_distinct_below}
-use Rattle.steal_pool.specs.Deque.{one, times}
-use Rattle.steal_pool.proofs.Steps.{times-append, times_same}
+use Rattle.steal_deque.specs.Deque.{one, times}
+use Rattle.steal_deque.proofs.Steps.{times-append, times_same}
 
 pub found : (x : ℕ) (xs : List ℕ) → Contains xs x → 0 < times x xs
 found x [] (k, l, e) = absurd (omega arith)

@@ -18,7 +18,7 @@ use Rattle.formats.specs.Levels.{AreGivenBy, Grows}
 use Rattle.formats.specs.Minors.{given_as}
 use Rattle.extension.specs.Admissible.{above_values}
 use Rattle.class_store.specs.Seen.{PassSide}
-use Rattle.steal_pool.specs.Deque.{times as often}
+use Rattle.steal_deque.specs.Deque.{times as often}
 use Rattle.store_laws.specs.TryKeys.{IsTryKey}
 use Rattle.level_driver.specs.Children.{IsCandidate}
 use Rattle.level_driver.specs.Grown.{IsParentLevel}

@@ -12,10 +12,10 @@ use Rattle.formats.specs.Request.{Request}
 use Rattle.extension.specs.Admissible.{above_values}
 use Rattle.formats.specs.Levels.{Grows}
 use Rattle.class_store.specs.Seen.{calls_with}
-use Rattle.steal_pool.specs.Deque.{times as often}
+use Rattle.steal_deque.specs.Deque.{times as often}
 use Rattle.steal_pool.specs.Shift.{HasEnded, shift_taken}
 use Rattle.steal_pool.specs.Pool.{IsWhole}
-use Rattle.steal_pool.proofs.Steps.{times-append}
+use Rattle.steal_deque.proofs.Steps.{times-append}
 use Rattle.store_laws.specs.TryKeys.{IsTryKey}
 use Rattle.level_driver.specs.Grown.{IsParentLevel}
 use Rattle.level_driver.proofs.NextLevel.{tries_are}

@@ -1,5 +1,5 @@
 use Rattle.std.proofs.Common.{◌≡◌, ◌<◌, ℕ}
-use Rattle.steal_pool.specs.Deque.{Learned}
+use Rattle.steal_deque.specs.Deque.{Learned}
 use Rattle.steal_pool.specs.Ring.{view_at}
 use Rattle.steal_pool.specs.Back.{place_views}
 use Rattle.steal_pool.proofs.giving_back.learn_all.Given as goal

@@ -1,6 +1,6 @@
 use Rattle.std.proofs.Common.{arith, ◌∙◌, refl}
 use Rattle.steal_pool.proofs.taking.next_number.Goals.{then-done-eq0+in-End, else-done-eq0}
-use Rattle.steal_pool.specs.declared.deque.Task.TheVariants.{Number, End}
+use Rattle.steal_deque.specs.declared.deque.Task.TheVariants.{Number, End}
 use Rattle.steal_pool.proofs.Empty.{not_among, new_to}
 use Rattle.steal_pool.proofs.Kept.{kept_none, kept_own, kept_seat}
 use Rattle.steal_pool.proofs.Seats.{own_took, own_met, seat_took, seat_met, seat_part, seat_count}

@@ -63,7 +63,7 @@ overflow_add-tried g c =
     let given = same_given c.args.request.now _ _ (sym c.in_ok-forbidden.ensures) c.forbid.ensures.given in
     let parents : List Rep = c.args.parents.now in
     let so_far = subst (λ (Ms : List Matroid). HasTaken c.mode-mode.result Ms parents (shift_taken c.args.shift.now) (shift_taken c.loop.shift)
-        c.args.pass.now c.loop.pass c.loop.tried) c.forbidden.view_is c.loop.invariant.so_far in
+    c.args.pass.now c.loop.pass c.loop.tried) c.forbidden.view_is c.loop.invariant.so_far in
     let h = taken_more c.mode-mode.result Ns parents
     (parents_rise q Ns given c.laws.ensures.factors c.laws.ensures.limits c.requires.parents.0 parents c.requires.parents.1)
     (shift_taken c.args.shift.now) (shift_taken c.loop.shift) c.args.pass.now c.loop.pass c.loop.tried so_far c.in-Some-next.number
@@ -82,7 +82,7 @@ loop-preserved g c =
     let given = same_given c.args.request.now _ _ (sym c.in_ok-forbidden.ensures) c.forbid.ensures.given in
     let parents : List Rep = c.args.parents.now in
     let so_far = subst (λ (Ms : List Matroid). HasTaken c.mode-mode.result Ms parents (shift_taken c.args.shift.now) (shift_taken c.loop.shift)
-        c.args.pass.now c.loop.pass c.loop.tried) c.forbidden.view_is c.loop.invariant.so_far in
+    c.args.pass.now c.loop.pass c.loop.tried) c.forbidden.view_is c.loop.invariant.so_far in
     let i = c.loop.invariant in
     let a = i.pass in
     let b = c.offer_children.ensures.same in

@@ -4,7 +4,7 @@
 // is left.
 ghost use Rattle.std.specs.Prelude.{◌≡◌, ◌+◌, ◌<◌, ◌≤◌, ℕ, List, [], ◌∷◌, ◌++◌, true, false, length, IfOk, IfErr, IfSome, OnOk, MatchOption, MatchResult};
 ghost use Rattle.crossbeam_deque.specs.Handles.{view, IsPassOf, SamePass, worker_deque, stealer_deque, stealer_flavor, worker_flavor, worker_view, worker_port, SameWorker};
-ghost use Rattle.steal_pool.specs.Deque.{knowledge, RuleHolds, times, GotTask, CanPut, PutTask, share, kept, given, both, IsFilled};
+ghost use Rattle.steal_deque.specs.Deque.{knowledge, RuleHolds, times, GotTask, CanPut, PutTask, share, kept, given, both, IsFilled};
 
 use crossbeam_deque::protocol::{Join, Lesson, Outcome, Protocol, Split};
 use crossbeam_deque::{Pass, Steal, Stealer, Worker};
@@ -35,7 +35,7 @@ pub struct DequeRule;
 
 impl Protocol<Task, Knowledge> for DequeRule {
     ghost use Rattle.std.specs.Prelude.{false, []};
-    ghost use Rattle.steal_pool.specs.Deque.{knowledge, RuleHolds};
+    ghost use Rattle.steal_deque.specs.Deque.{knowledge, RuleHolds};
 
     ghost holds = { RuleHolds };
 
@@ -48,7 +48,7 @@ impl Protocol<Task, Knowledge> for DequeRule {
 pub struct Puts;
 
 impl Outcome<Task, Knowledge> for Puts {
-    ghost use Rattle.steal_pool.specs.Deque.{Put};
+    ghost use Rattle.steal_deque.specs.Deque.{Put};
 
     ghost then = { Put };
 }
@@ -57,7 +57,7 @@ impl Outcome<Task, Knowledge> for Puts {
 pub struct Takes;
 
 impl Outcome<Task, Knowledge> for Takes {
-    ghost use Rattle.steal_pool.specs.Deque.{Got};
+    ghost use Rattle.steal_deque.specs.Deque.{Got};
 
     ghost then = { Got };
 }
@@ -66,7 +66,7 @@ impl Outcome<Task, Knowledge> for Takes {
 pub struct Cut;
 
 impl Split<Knowledge> for Cut {
-    ghost use Rattle.steal_pool.specs.Deque.{kept, given};
+    ghost use Rattle.steal_deque.specs.Deque.{kept, given};
 
     ghost left = { kept };
 
@@ -74,7 +74,7 @@ impl Split<Knowledge> for Cut {
 }
 
 impl Join<Knowledge> for Cut {
-    ghost use Rattle.steal_pool.specs.Deque.{both as joined, spent as used_up};
+    ghost use Rattle.steal_deque.specs.Deque.{both as joined, spent as used_up};
 
     ghost both = { joined };
 
@@ -85,7 +85,7 @@ impl Join<Knowledge> for Cut {
 pub struct Total;
 
 impl Lesson<Task, Knowledge> for Total {
-    ghost use Rattle.steal_pool.specs.Deque.{Learned};
+    ghost use Rattle.steal_deque.specs.Deque.{Learned};
 
     ghost fact = { λ v _. Learned v };
 }
@@ -100,7 +100,7 @@ pub type Thief = Stealer<Task, Global, Knowledge, DequeRule>;
 pub type Token = Pass<Task, Knowledge, Global>;
 
 /// Takes a task from the worker's own deque.
-pub(crate) fn pop_one<R: Wait>(rt: &R, own: &mut Owner) -> Task
+pub fn pop_one<R: Wait>(rt: &R, own: &mut Owner) -> Task
     requires { (0 < (worker_view own.old).parts) × (worker_flavor own.old ≡ 0) }
     ensures same { SameWorker own.old own.new }
     ensures got { GotTask (worker_view own.old) result (worker_view own.new) }
@@ -114,7 +114,7 @@ pub(crate) fn pop_one<R: Wait>(rt: &R, own: &mut Owner) -> Task
 }
 
 /// Takes a task from another's deque. An attempt that lost against another taker is made again.
-pub(crate) fn steal_one<R: Wait>(rt: &R, thief: &Thief, token: &mut Token) -> Task
+pub fn steal_one<R: Wait>(rt: &R, thief: &Thief, token: &mut Token) -> Task
     requires { IsPassOf (stealer_deque thief.now) token.old × (0 < (view token.old).parts) }
     ensures same { SamePass token.old token.new }
     ensures got { GotTask (view token.old) result (view token.new) }
@@ -141,12 +141,7 @@ fn put(own: &mut Owner, task: Task) -> Result<(), AllocError>
 }
 
 /// A new deque with its share of the numbers below `parents`, each `workers` more than the one before, and behind them an end mark for each worker.
-pub(crate) fn filled(
-    alloc: Global,
-    number: u64,
-    parents: u64,
-    workers: u64,
-) -> Result<Owner, AllocError>
+pub fn filled(alloc: Global, number: u64, parents: u64, workers: u64) -> Result<Owner, AllocError>
     requires { number < workers }
     ensures { IfOk result (λ own. IsFilled (worker_flavor own) (worker_view own) (share workers number parents)) }
 {
@@ -163,7 +158,7 @@ pub(crate) fn filled(
 }
 
 /// Hands out a pass of the deque.
-pub(crate) fn hand_out(own: &mut Owner) -> Token
+pub fn hand_out(own: &mut Owner) -> Token
     requires { 1 < (worker_view own.old).parts }
     ensures same { SameWorker own.old own.new × IsPassOf (worker_deque own.old) result }
     ensures cut { (worker_view own.new ≡ kept (worker_view own.old)) × (view result ≡ given (worker_view own.old)) }
@@ -172,7 +167,7 @@ pub(crate) fn hand_out(own: &mut Owner) -> Token
 }
 
 /// Takes a pass back.
-pub(crate) fn take_back(own: &mut Owner, token: Token)
+pub fn take_back(own: &mut Owner, token: Token)
     requires { IsPassOf (worker_deque own.old) token × (0 < (worker_view own.old).parts) × (0 < (view token).parts) }
     ensures same { SameWorker own.old own.new }
     ensures joined { worker_view own.new ≡ both (worker_view own.old) (view token) }

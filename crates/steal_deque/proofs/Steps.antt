@@ -5,10 +5,10 @@ use lib.ListN.{get_elem?}
 use Rattle.std.proofs.lemmas.Bool.Decides.{nat_tests}
 use Rattle.crossbeam_deque.specs.Tasks.{Pushes, Takes, Forks, Merges, Learns}
 use Rattle.crossbeam_deque.proofs.Lists.{at_set, at_snoc}
-use Rattle.steal_pool.specs.declared.deque.Knowledge.{Knowledge}
-use Rattle.steal_pool.specs.declared.deque.Task.{Task}
-use Rattle.steal_pool.specs.declared.deque.Task.TheVariants.{Number, End}
-use Rattle.steal_pool.specs.Deque.{knowledge, one, times, total, numbers, EndsLast, NoEnd, Knows, RuleHolds, GotTask, Got, CanPut, Put, kept, given, both, spent, Learned}
+use Rattle.steal_deque.specs.declared.deque.Knowledge.{Knowledge}
+use Rattle.steal_deque.specs.declared.deque.Task.{Task}
+use Rattle.steal_deque.specs.declared.deque.Task.TheVariants.{Number, End}
+use Rattle.steal_deque.specs.Deque.{knowledge, one, times, total, numbers, EndsLast, NoEnd, Knows, RuleHolds, GotTask, Got, CanPut, Put, kept, given, both, spent, Learned}
 
 pub times-append : (x : ℕ) (xs ys : List ℕ) → times x (xs ++ ys) ≡ times x xs + times x ys
 times-append x [] ys = omega arith

@@ -2,9 +2,9 @@
 use Rattle.std.specs.Prelude.{◌≡◌, ℕ, ◌+◌, ◌-◌, ◌<◌, ◌≤◌, Bool, true, false, ◌==◌, ◌||◌, cond, ◌%◌, zero, suc, List, [], ◌∷◌, ◌++◌}
 use mathlib.Core.Option.{some}
 use lib.ListN.{get_elem?}
-use Rattle.steal_pool.specs.declared.deque.Knowledge.{Knowledge}
-use Rattle.steal_pool.specs.declared.deque.Task.{Task}
-use Rattle.steal_pool.specs.declared.deque.Task.TheVariants.{Number, End}
+use Rattle.steal_deque.specs.declared.deque.Knowledge.{Knowledge}
+use Rattle.steal_deque.specs.declared.deque.Task.{Task}
+use Rattle.steal_deque.specs.declared.deque.Task.TheVariants.{Number, End}
 
 abbrev pub knowledge : ℕ → List ℕ → List ℕ → Bool → Bool → Knowledge
 knowledge parts pushed taken closed ended = record { parts = parts; pushed = pushed; taken = taken; closed = closed; ended = ended }
