@@ -2,13 +2,13 @@
 ghost use Rattle.std.specs.Prelude.{◌≡◌, ◌<◌};
 ghost use Rattle.matroid_theory.specs.Rep.{shape};
 
-use crate::ground::{Codes, Ground, Scalars, at};
+use crate::ground::{Codes, Ground, Scalars};
 use crate::single::OpenMove;
 use product_rep::Rep;
 
 /// The unit columns.
 pub fn unit_basis(ground: &Ground) -> [Codes; 6] {
-    let mut basis = [[0; 18]; 6];
+    let mut basis = [Codes::zero(); 6];
     for i in 0..6 {
         basis[i] = ground.columns[i];
     }
@@ -20,7 +20,7 @@ pub fn move_by(rep: &Rep, ground: &Ground, basis: &[Codes; 6]) -> OpenMove
     ensures { result.shape ≡ shape rep.now }
 {
     let mut step = OpenMove::identity(rep);
-    let mut back = [[0; 18]; 6];
+    let mut back = [Codes::zero(); 6];
     for from in 0..rep.size() {
         let image = ground.image(basis, 0, &ground.columns[from]);
         let scalars = ground.leads(&image);
@@ -88,9 +88,8 @@ fn set_entries(rep: &Rep, step: &mut OpenMove, i: usize, j: usize, column: &Code
     let count = factors.count();
     for factor in 0..count {
         let order = factors.field(factor).order();
-        let place = i * count + factor;
-        let code = at(column, place);
-        let inverse_code = at(back, place);
+        let code = column.parts[factor][i];
+        let inverse_code = back.parts[factor][i];
         if code < order && inverse_code < order {
             step.set_rows(factor, i, j, code, inverse_code);
         }

@@ -4,7 +4,7 @@
 ghost use Rattle.std.specs.Prelude.{◌≡◌, ◌<◌};
 
 use crate::built::{move_by, unit_basis};
-use crate::ground::{Codes, Ground, at};
+use crate::ground::{Codes, Ground, Part};
 use crate::several::{MOST_MOVES, Symmetries};
 use product_rep::Rep;
 use std::alloc::AllocError;
@@ -30,18 +30,22 @@ pub fn add_scalings(rep: &Rep, ground: &Ground, found: &mut Symmetries) -> Resul
 fn groups_of(ground: &Ground) -> Groups {
     let mut groups = [0, 1, 2, 3, 4, 5];
     for j in ground.rank..ground.size {
-        groups = tied_by(ground, &ground.columns[j], &groups);
+        groups = tied_by(
+            ground,
+            &ground.columns[j].parts[0],
+            ground.heads[j],
+            &groups,
+        );
     }
     groups
 }
 
-/// The groups after the column tied its rows together.
-fn tied_by(ground: &Ground, column: &Codes, groups: &Groups) -> Groups {
+/// The groups after a column with these codes and this first row tied its rows together.
+fn tied_by(ground: &Ground, codes: &Part, head: usize, groups: &Groups) -> Groups {
     let mut tied = *groups;
-    let lead = ground.lead(column);
     for i in 0..ground.rank {
-        if lead < 6 && at(column, i * ground.count) != 0 {
-            tied = joined(&tied, tied[lead], tied[i]);
+        if head < 6 && codes[i] != 0 {
+            tied = joined(&tied, tied[head], tied[i]);
         }
     }
     tied

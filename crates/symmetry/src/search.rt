@@ -22,6 +22,14 @@ const MOST_STEPS: u32 = 600;
 /// How many of them for one move.
 const MOST_STEPS_EACH: u32 = 150;
 
+/// The images of the unit columns that are chosen so far, from the last row up.
+#[derive(Drop)]
+struct Chosen {
+    basis: [Codes; 6],
+    /// For each element whether its multiples are no images any more.
+    taken: [bool; 16],
+}
+
 /// Moves of the mode that take the representation to itself, as many as a short search finds.
 ///
 /// # Errors
@@ -69,26 +77,40 @@ fn add_by_row(
     ensures mode { found.new.mode ≡ found.old.mode }
 {
     for element in 0..ground.size {
-        let mut basis = unit_basis(ground);
+        let mut chosen = kept_after(ground, row);
         let given = (*steps).min(MOST_STEPS_EACH);
         let mut left = given;
         if found.len() < MOST_MOVES
-            && tries_image(ground, &mut basis, row, element, element == row, &mut left)
+            && tries_image(ground, &mut chosen, row, element, element == row, &mut left)
         {
-            found.add(move_by(rep, ground, &basis))?;
+            found.add(move_by(rep, ground, &chosen.basis))?;
         }
         *steps = steps.saturating_sub(given.saturating_sub(left));
     }
     Ok(())
 }
 
+/// The unit columns of the rows after this one as their own images.
+fn kept_after(ground: &Ground, row: usize) -> Chosen
+    requires { row < 6 }
+{
+    let mut taken = [false; 16];
+    for i in row + 1..ground.rank {
+        taken[i] = true;
+    }
+    Chosen {
+        basis: unit_basis(ground),
+        taken,
+    }
+}
+
 /// Tries all elements as the image of the unit column of the row, and says whether the images of all earlier rows were found too.
 #[cycle(search)]
-fn tries_row(ground: &Ground, basis: &mut [Codes; 6], row: usize, steps: &mut u32) -> bool
+fn tries_row(ground: &Ground, chosen: &mut Chosen, row: usize, steps: &mut u32) -> bool
     requires { row < 6 }
 {
     for element in 0..ground.size {
-        if tries_image(ground, basis, row, element, false, steps) {
+        if tries_image(ground, chosen, row, element, false, steps) {
             return true;
         }
     }
@@ -100,7 +122,7 @@ fn tries_row(ground: &Ground, basis: &mut [Codes; 6], row: usize, steps: &mut u3
 #[cycle(search)]
 fn tries_image(
     ground: &Ground,
-    basis: &mut [Codes; 6],
+    chosen: &mut Chosen,
     row: usize,
     element: usize,
     no_unit: bool,
@@ -109,6 +131,9 @@ fn tries_image(
     requires row { row < 6 }
     requires element { element < 16 }
 {
+    if chosen.taken[element] {
+        return false;
+    }
     let mut scalars = [1; 3];
     for number in 0..MOST_SCALARS {
         if *steps == 0 {
@@ -116,8 +141,10 @@ fn tries_image(
         }
         *steps -= 1;
         if number > 0 || !no_unit {
-            basis[row] = ground.multiple(&scalars, &ground.columns[element]);
-            if fits(ground, basis, row, element) && completes(ground, basis, row, steps) {
+            chosen.basis[row] = ground.multiple(&scalars, &ground.columns[element]);
+            if keeps_columns(ground, &chosen.basis, row)
+                && completes(ground, chosen, row, element, steps)
+            {
                 return true;
             }
         }
@@ -129,26 +156,26 @@ fn tries_image(
     false
 }
 
-/// Whether a column that isn't a unit column has its first code in the row.
-fn is_tied(ground: &Ground, row: usize) -> bool {
-    for j in ground.rank..ground.size {
-        if ground.lead(&ground.columns[j]) == row {
-            return true;
-        }
-    }
-    false
-}
-
-/// Whether the images of all earlier rows were found, and all images together are those of a move.
+/// Whether the images of all earlier rows were found, where the element is that of this row, and all images together are those of a
+/// move.
 #[cycle(search)]
-fn completes(ground: &Ground, basis: &mut [Codes; 6], row: usize, steps: &mut u32) -> bool
-    requires { row < 6 }
+fn completes(
+    ground: &Ground,
+    chosen: &mut Chosen,
+    row: usize,
+    element: usize,
+    steps: &mut u32,
+) -> bool
+    requires row { row < 6 }
+    requires element { element < 16 }
 {
     if row == 0 {
-        permutes(ground, basis)
-    } else {
-        tries_row(ground, basis, row - 1, steps)
+        return permutes(ground, &chosen.basis);
     }
+    chosen.taken[element] = true;
+    let found = tries_row(ground, chosen, row - 1, steps);
+    chosen.taken[element] = false;
+    found
 }
 
 /// Whether each column is an image but for scalars.
@@ -176,8 +203,10 @@ fn images_of(ground: &Ground, basis: &[Codes; 6]) -> [bool; 16] {
 }
 
 /// The scalars that come next: all are tried where a column ties the row to later ones, else 1 alone.
-fn next_scalars(ground: &Ground, row: usize, scalars: &Scalars) -> Option<Scalars> {
-    if !is_tied(ground, row) {
+fn next_scalars(ground: &Ground, row: usize, scalars: &Scalars) -> Option<Scalars>
+    requires { row < 6 }
+{
+    if !ground.is_head[row] {
         return None;
     }
     let mut next = *scalars;
@@ -191,26 +220,10 @@ fn next_scalars(ground: &Ground, row: usize, scalars: &Scalars) -> Option<Scalar
     None
 }
 
-/// Whether the element is no image of a later row, and the image of each column with its first code in the row is one of the columns
-/// but for scalars.
-fn fits(ground: &Ground, basis: &[Codes; 6], row: usize, element: usize) -> bool {
-    is_new(ground, basis, row, element) && keeps_columns(ground, basis, row)
-}
-
-/// Whether the element is no image of a later row.
-fn is_new(ground: &Ground, basis: &[Codes; 6], row: usize, element: usize) -> bool {
-    for i in 0..ground.rank {
-        if i > row && ground.place_of(&ground.scaled(&basis[i])) == element {
-            return false;
-        }
-    }
-    true
-}
-
 /// Whether the image of each column with its first code in the row is one of the columns but for scalars.
 fn keeps_columns(ground: &Ground, basis: &[Codes; 6], row: usize) -> bool {
     for j in ground.rank..ground.size {
-        if ground.lead(&ground.columns[j]) == row {
+        if ground.heads[j] == row {
             let image = ground.scaled(&ground.image(basis, row, &ground.columns[j]));
             if ground.place_of(&image) == ground.size {
                 return false;
