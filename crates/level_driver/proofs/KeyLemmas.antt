@@ -1,43 +1,19 @@
--- The order of lists of columns as a set of forms keeps them, and what an insertion adds to such a set.
-use Rattle.std.proofs.Common.{Bor, ◌≡◌, ◌⊎◌, ℕ, ◌<◌, List, [], ◌∷◌, map, length, inl, inr, refl, sym, ◌∙◌, ap, subst, arith}
-use Rattle.std.specs.List.{slice_index_or, All, Contains, AllPairs}
+-- Insertions into a set of keys, and the representations that keys stand for.
+use Rattle.std.proofs.Common.{Bor, ◌≡◌, ◌⊎◌, ℕ, zero, suc, List, [], ◌∷◌, ◌++◌, map, inl, inr, refl, sym, subst, arith}
+use Rattle.std.specs.List.{Contains, AllZip}
 use Rattle.std.specs.Map.Iter.{deref}
+use Rattle.std.proofs.lemmas.List.{map-append}
 use Rattle.std.specs.Cmp.Lexicographic.{slice_cmp}
-use Rattle.std.specs.Ordering.{match_ordering}
+use Rattle.std.specs.Ordering.{nat_cmp, match_ordering}
 use Rattle.std.specs.declared.cmp.Ordering.{Ordering}
 use Rattle.std.specs.declared.cmp.Ordering.TheVariants.{Less, Equal, Greater}
 use Rattle.std.specs.BTreeSet.{insert_key}
-use Rattle.std.specs.List.Sorted.{IsStrictlySortedBy}
 use Rattle.std.proofs.lemmas.Map.Lookups.{CmpEqualImpliesEq, exact_bytes}
-use Rattle.std.proofs.lemmas.Map.Keys.{Less-from_sorted}
-use Rattle.std.proofs.lemmas.List.{length-map, get_or-map}
-use Rattle.arrayvec.specs.ArrayVec.{ArrayVec}
-use Rattle.matroid_theory.specs.Rep.{Rep}
-use Rattle.matroid_theory.specs.Order.{rep_cmp}
-use Rattle.small_lists.proofs.Orders.{vector_cmp, lists_cmp}
-use Rattle.level_driver.specs.Keys.{columns_of_key}
-use Rattle.level_driver.specs.Children.{rep_of, Adds}
-use Rattle.level_driver.proofs.Counts.{Contains-map, Contains-from_map}
-use Rattle.matroid_laws.proofs.Levels.{then_equal}
+use Rattle.std.proofs.lemmas.Slice.Zip.{all_zipped_more}
+use Rattle.matroid_theory.specs.Rep.{Rep, Shape}
+use Rattle.form_key.specs.Packing.{IsPackedAs, packing}
+use Rattle.level_driver.specs.Children.{Adds}
 use Rattle.matrix_lemmas.proofs.Lists.{here, there, found}
-
-abbrev pub key_cmp : ArrayVec (ArrayVec ℕ) → ArrayVec (ArrayVec ℕ) → Ordering
-key_cmp v w = slice_cmp vector_cmp v.items w.items
-
-exact_lists : {X : Type 0} (R : X → X → Ordering) → CmpEqualImpliesEq R → CmpEqualImpliesEq (slice_cmp R)
-exact_lists R exact [] [] e = refl
-exact_lists R exact [] (y ∷ ys) e = cc
-exact_lists R exact (x ∷ xs) [] e = cc
-exact_lists R exact (x ∷ xs) (y ∷ ys) e =
-    let both = then_equal (R x y) (slice_cmp R xs ys) e in
-    λ i. exact x y both.0 i ∷ exact_lists R exact xs ys both.1 i
-
-exact_columns : CmpEqualImpliesEq vector_cmp
-exact_columns v w e = λ i. record { items = exact_bytes v.items w.items e i }
-
--- lists of columns that tie are one
-pub exact_keys : CmpEqualImpliesEq key_cmp
-exact_keys v w e = λ i. record { items = exact_lists vector_cmp exact_columns v.items w.items e i }
 
 module _ {K : Type 0} (R : K → K → Ordering) (exact : CmpEqualImpliesEq R) (k : K) where
   -- an insertion adds the key and nothing else
@@ -77,59 +53,43 @@ module _ {K : Type 0} (R : K → K → Ordering) (exact : CmpEqualImpliesEq R) (
       by_order more Equal e = subst (Contains (x ∷ xs)) (sym (exact k x e)) (here x xs)
       by_order more Greater e = there x k (insert_key R xs k) more
 
--- the lists of columns after an insertion
-pub adds : (old : List (ArrayVec (ArrayVec ℕ))) (key : ArrayVec (ArrayVec ℕ)) (columns : List (List ℕ)) →
-    columns_of_key key ≡ columns → Adds (map columns_of_key old) (map columns_of_key (insert_key key_cmp old key)) columns
-adds old key columns is other = (
-  λ c.
-      let b = Contains-from_map columns_of_key (insert_key key_cmp old key) other c in
-      elim (inserted key_cmp exact_keys key old b.0 b.1) [
-        | inl d ↦ inl (subst (Contains (map columns_of_key old)) b.2 (Contains-map columns_of_key old b.0 d))
-        | inr e ↦ inr (sym b.2 ∙ ap columns_of_key e ∙ is)
-      ],
+-- the keys after an insertion
+pub adds : (old : List (List ℕ)) (key : List ℕ) → Adds old (insert_key (slice_cmp nat_cmp) old key) key
+adds old key other = (
+  inserted (slice_cmp nat_cmp) exact_bytes key old other,
   λ h.
       elim h [
-        | inl c ↦ (let b = Contains-from_map columns_of_key old other c in
-            subst (Contains (map columns_of_key (insert_key key_cmp old key))) b.2
-            (Contains-map columns_of_key (insert_key key_cmp old key) b.0 (kept key_cmp exact_keys key old b.0 b.1)))
-        | inr e ↦ subst (Contains (map columns_of_key (insert_key key_cmp old key))) (is ∙ sym e)
-            (Contains-map columns_of_key (insert_key key_cmp old key) key (added key_cmp exact_keys key old))
+        | inl c ↦ kept (slice_cmp nat_cmp) exact_bytes key old other c
+        | inr e ↦ subst (Contains (insert_key (slice_cmp nat_cmp) old key)) (sym e) (added (slice_cmp nat_cmp) exact_bytes key old)
       ],
 )
 
--- so the representations rise
-pub rising : (factors : List ℕ) (rank : ℕ) (keys : List (ArrayVec (ArrayVec ℕ))) → IsStrictlySortedBy key_cmp keys →
-    AllPairs (λ M N. rep_cmp M N ≡ Less) (map (rep_of factors rank) (map columns_of_key keys))
-rising factors rank [] sorted i j d l m = absurd (omega arith)
-rising factors rank (k ∷ ks) sorted i j d l m =
-    subst (λ M. rep_cmp M (slice_index_or reps j d) ≡ Less) (sym (at i (let j'' : j < length (k ∷ ks) = j' in omega arith)))
-    (subst (λ N. rep_cmp (of (slice_index_or (k ∷ ks) i k)) N ≡ Less) (sym (at j j'))
-    (sym (lists_cmp (slice_index_or (k ∷ ks) i k).items (slice_index_or (k ∷ ks) j k).items) ∙ Less-from_sorted key_cmp (k ∷ ks) i j k sorted l j'))
-  where
-    of : ArrayVec (ArrayVec ℕ) → Rep
-    of key = rep_of factors rank (columns_of_key key)
+-- one more key is unpacked
+pub packed_more : (s : Shape) (forms new : List Rep) (keys : List (List ℕ)) (M : Rep) (key : List ℕ) → AllZip (λ M key. IsPackedAs s key M) forms keys
+    → IsPackedAs s key M → new ≡ forms ++ M ∷ [] → AllZip (λ M key. IsPackedAs s key M) new (keys ++ key ∷ [])
+packed_more s forms new keys M key z p is =
+    subst (λ (new : List Rep). AllZip (λ M key. IsPackedAs s key M) new (keys ++ key ∷ [])) (sym is)
+    (all_zipped_more (λ (M : Rep) (key : List ℕ). IsPackedAs s key M) forms keys M key z p)
 
-    reps : List Rep
-    reps = map (rep_of factors rank) (map columns_of_key (k ∷ ks))
+-- the same, where the keys are gone through by reference
+pub packed_next : (s : Shape) (forms new : List Rep) (yielded : List (Bor (List ℕ))) (key : Bor (List ℕ)) →
+    AllZip (λ M key. IsPackedAs s key M) forms (map deref yielded) → (M : Rep) × IsPackedAs s key.now M × (new ≡ forms ++ M ∷ []) →
+    AllZip (λ M key. IsPackedAs s key M) new (map deref (yielded ++ key ∷ []))
+packed_next s forms new yielded key z (M, p, is) =
+    subst (AllZip (λ M key. IsPackedAs s key M) new) (sym (map-append deref yielded (key ∷ [])))
+    (packed_more s forms new (map deref yielded) M key.now z p is)
 
-    sizes : length reps ≡ length (k ∷ ks)
-    sizes = length-map (map columns_of_key (k ∷ ks)) (rep_of factors rank) ∙ length-map (k ∷ ks) columns_of_key
+-- a list that is packed place by place
+pub packed_is : (s : Shape) (forms : List Rep) (keys : List (List ℕ)) → AllZip (λ M key. IsPackedAs s key M) forms keys → map packing forms ≡ keys
+packed_is s [] [] z = refl
+packed_is s [] (k ∷ ks) z = absurd z
+packed_is s (M ∷ Ms) [] z = absurd z
+packed_is s (M ∷ Ms) (k ∷ ks) z = λ i. z.0.packs i ∷ packed_is s Ms ks z.1 i
 
-    j' : j < length (k ∷ ks)
-    j' = let n : length reps ≡ length (k ∷ ks) = sizes in omega arith
-
-    at : (i : ℕ) → i < length (k ∷ ks) → slice_index_or reps i d ≡ of (slice_index_or (k ∷ ks) i k)
-    at i l =
-        get_or-map (rep_of factors rank) (map columns_of_key (k ∷ ks)) i (columns_of_key k) d
-        (let n : length (map columns_of_key (k ∷ ks)) ≡ length (k ∷ ks) = length-map (k ∷ ks) columns_of_key in omega arith)
-        ∙ ap (rep_of factors rank) (get_or-map columns_of_key (k ∷ ks) i k (columns_of_key k) l)
-
--- the representations of keys that were gone through by reference
-pub forms_of_keys : (factors : List ℕ) (rank : ℕ) (yielded : List (Bor (ArrayVec (ArrayVec ℕ)))) →
-    map (λ key. rep_of factors rank (columns_of_key key.now)) yielded ≡ map (rep_of factors rank) (map columns_of_key (map deref yielded))
-forms_of_keys factors rank [] = refl
-forms_of_keys factors rank (key ∷ keys) = ap (λ (Ms : List Rep). rep_of factors rank (columns_of_key key.now) ∷ Ms) (forms_of_keys factors rank keys)
-
--- what holds of each image holds of each value by its image
-pub All-from_map : {X Y : Type 0} (P : Y → Type 0) (f : X → Y) (xs : List X) → All P (map f xs) → All (λ x. P (f x)) xs
-All-from_map P f xs h k d l = subst P (get_or-map f xs k d (f d) l) (h k (f d) (let n : length (map f xs) ≡ length xs = length-map xs f in omega arith))
+pub packed_each : (s : Shape) (forms : List Rep) (keys : List (List ℕ)) → AllZip (λ M key. IsPackedAs s key M) forms keys
+    → (M : Rep) → Contains forms M → IsPackedAs s (packing M) M
+packed_each s [] keys z M (k, l, e) = absurd (omega arith)
+packed_each s (N ∷ Ns) [] z M c = absurd z
+packed_each s (N ∷ Ns) (k ∷ ks) z M (zero, l, e) =
+    subst (λ (M : Rep). IsPackedAs s (packing M) M) e (subst (λ key. IsPackedAs s key N) (sym z.0.packs) z.0)
+packed_each s (N ∷ Ns) (k ∷ ks) z M (suc i, l, e) = packed_each s Ns ks z.1 M (i, omega arith, e)

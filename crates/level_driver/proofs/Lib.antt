@@ -1,6 +1,5 @@
 pub mod Asking
 pub mod Avoiding
-pub mod ColumnLists
 pub mod Counts
 pub mod Earlier
 pub mod KeyLemmas

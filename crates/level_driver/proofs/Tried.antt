@@ -9,12 +9,10 @@ use Rattle.std.proofs.lemmas.Cmp.{nat_list_cmp_total, tied_itself}
 use Rattle.std.proofs.lemmas.Map.Lookups.{exact_bytes}
 use Rattle.matroid_theory.specs.declared.Mode.{Mode}
 use Rattle.matroid_theory.specs.Rep.{Rep}
-use Rattle.matroid_theory.specs.Move.{AreEquivalent}
-use Rattle.matroid_theory.specs.Order.{IsForm}
 use Rattle.matroid_theory.specs.Minor.{Matroid}
 use Rattle.matroid_theory.specs.Level.{IsCount, IsNormalised, followed_by}
 use Rattle.extension.specs.Admissible.{IsAdmissible, ColumnsAfter, IsNextColumn, IsLastColumn, value, above_values}
-use Rattle.level_driver.specs.Children.{rep_of, Adds, IsChild, IsCandidate, AddsChildren}
+use Rattle.level_driver.specs.Children.{Adds, IsChildKey, IsCandidate, AddsChildren}
 use Rattle.level_driver.specs.Forbidden.{Avoids}
 use Rattle.level_driver.proofs.Counts.{count_same, count_none, count_one, count_both}
 
@@ -27,13 +25,13 @@ abbrev pub IsTriedUpTo : List Matroid → ColumnsAfter → List ℕ → Type 0
 IsTriedUpTo Ns columns w = IsUpTo columns w × Avoids Ns (followed_by columns.parent w)
 
 -- the columns up to the last one were tried, and the forms added
-pub record HasTried (mode : Mode) (Ns : List Matroid) (start : List (List (List ℕ))) (columns : ColumnsAfter) (tried : ℕ)
-    (found : List (List (List ℕ))) : Type 0 where
+pub record HasTried (mode : Mode) (Ns : List Matroid) (start : List (List ℕ)) (columns : ColumnsAfter) (tried : ℕ)
+    (found : List (List ℕ)) : Type 0 where
   pub count : IsCount (IsTriedUpTo Ns columns) tried
   pub bound : tried + (above_values - value columns.last) ≤ above_values
-  pub kept : (cs : List (List ℕ)) → Contains start cs → Contains found cs
-  pub sound : (cs : List (List ℕ)) → Contains found cs → Contains start cs ⊎ ((v : List ℕ) × IsCandidate Ns columns.parent v × IsChild mode columns.parent v cs)
-  pub complete : (v : List ℕ) → IsTriedUpTo Ns columns v → (cs : List (List ℕ)) × Contains found cs × IsChild mode columns.parent v cs
+  pub kept : (key : List ℕ) → Contains start key → Contains found key
+  pub sound : (key : List ℕ) → Contains found key → Contains start key ⊎ ((v : List ℕ) × IsCandidate Ns columns.parent v × IsChildKey mode columns.parent v key)
+  pub complete : (v : List ℕ) → IsTriedUpTo Ns columns v → (key : List ℕ) × Contains found key × IsChildKey mode columns.parent v key
 
 -- the other way round
 turned : (v w : List ℕ) (r : Ordering) → slice_cmp nat_cmp v w ≡ r → slice_cmp nat_cmp w v ≡ ordering_reverse r
@@ -50,14 +48,14 @@ above_empty [] h = absurd (h refl)
 above_empty (x ∷ xs) h = refl
 
 -- at the start none is up to the last one
-pub tried_none : (mode : Mode) (Ns : List Matroid) (start : List (List (List ℕ))) (P : Rep) → 0 < length P.factors →
+pub tried_none : (mode : Mode) (Ns : List Matroid) (start : List (List ℕ)) (P : Rep) → 0 < length P.factors →
     (columns : ColumnsAfter) → columns ≡ record { parent = P; last = [] } → HasTried mode Ns start columns 0 start
 tried_none mode Ns start P some columns is =
     subst (λ columns. HasTried mode Ns start columns 0 start) (sym is) record {
       count = count_none (IsTriedUpTo Ns begin) (λ v u. none v u.0);
       bound = omega arith;
-      kept = λ cs c. c;
-      sound = λ cs c. inl c;
+      kept = λ key c. c;
+      sound = λ key c. inl c;
       complete = λ v u. absurd (none v u.0);
     }
   where
@@ -105,17 +103,17 @@ module _ (columns : ColumnsAfter) (v : List ℕ) (next : IsNextColumn columns v)
   pub not_yet : (w : List ℕ) → IsUpTo columns w → w ≡ v → ⊥
   not_yet w u e = u.1 (ap (λ x. slice_cmp nat_cmp x columns.last) e ∙ turned columns.last v Less next.after)
 
-  module _ (mode : Mode) (Ns : List Matroid) (start found : List (List (List ℕ))) (tried : ℕ) (following : ColumnsAfter)
+  module _ (mode : Mode) (Ns : List Matroid) (start found : List (List ℕ)) (tried : ℕ) (following : ColumnsAfter)
       (is : following ≡ record { parent = columns.parent; last = v })
       (falls : above_values - value following.last < above_values - value columns.last) (h : HasTried mode Ns start columns tried found) where
     fewer : above_values - value v < above_values - value columns.last
     fewer = subst (λ (c : ColumnsAfter). above_values - value c.last < above_values - value columns.last) is falls
 
     -- the next one was tried too
-    pub tried_more : Avoids Ns (followed_by columns.parent v) → (new : List (List (List ℕ))) (cs : List (List ℕ)) →
-        IsChild mode columns.parent v cs → Adds found new cs → HasTried mode Ns start following (tried + 1) new
+    pub tried_more : Avoids Ns (followed_by columns.parent v) → (new : List (List ℕ)) (key : List ℕ) →
+        IsChildKey mode columns.parent v key → Adds found new key → HasTried mode Ns start following (tried + 1) new
     unfolding after
-    tried_more avoids new cs child adds =
+    tried_more avoids new key child adds =
         subst (λ columns. HasTried mode Ns start columns (tried + 1) new) (sym is) record {
           count = count_both (IsTriedUpTo Ns columns) (λ w. w ≡ v) (IsTriedUpTo Ns after) tried 1 h.count (count_one v) (λ w u. not_yet w u.0) one_more_tried;
           bound = (let b : tried + (above_values - value columns.last) ≤ above_values = h.bound in let f = fewer in omega arith);
@@ -124,12 +122,12 @@ module _ (columns : ColumnsAfter) (v : List ℕ) (next : IsNextColumn columns v)
               let a = adds other in
               elim (a.0 c) [
                 | inl d ↦ h.sound other d
-                | inr e ↦ inr (v, record { admissible = next.admissible; avoids = avoids }, subst (IsChild mode columns.parent v) (sym e) child)
+                | inr e ↦ inr (v, record { admissible = next.admissible; avoids = avoids }, subst (IsChildKey mode columns.parent v) (sym e) child)
               ];
           complete = λ w u.
               elim ((one_more_tried w).0 u) [
                 | inl b ↦ (let d = h.complete w b in let a = adds d.0 in (d.0, a.1 (inl d.1), d.2))
-                | inr e ↦ (let a = adds cs in (cs, a.1 (inr refl), subst (λ w. IsChild mode columns.parent w cs) (sym e) child))
+                | inr e ↦ (let a = adds key in (key, a.1 (inr refl), subst (λ w. IsChildKey mode columns.parent w key) (sym e) child))
               ];
         }
       where
@@ -166,7 +164,7 @@ module _ (columns : ColumnsAfter) (v : List ℕ) (next : IsNextColumn columns v)
             ]
 
 -- where no column comes after the last one, all were tried
-module _ (mode : Mode) (Ns : List Matroid) (start found : List (List (List ℕ))) (columns : ColumnsAfter) (tried : ℕ)
+module _ (mode : Mode) (Ns : List Matroid) (start found : List (List ℕ)) (columns : ColumnsAfter) (tried : ℕ)
     (h : HasTried mode Ns start columns tried found) (last : IsLastColumn columns) where
   all_up_to : (w : List ℕ) → IsCandidate Ns columns.parent w → IsTriedUpTo Ns columns w
   all_up_to w a = ((a.admissible, λ g. last w a.admissible (turned w columns.last Greater g)), a.avoids)
@@ -177,10 +175,3 @@ module _ (mode : Mode) (Ns : List Matroid) (start found : List (List (List ℕ))
 
   pub tried_all : AddsChildren mode Ns columns.parent start found
   tried_all = record { kept = h.kept; sound = h.sound; complete = λ v a. h.complete v (all_up_to v a) }
-
--- the form of P followed by v, by its columns
-pub is_child : (mode : Mode) (P N : Rep) (v : List ℕ) → IsForm mode N → AreEquivalent mode (followed_by P v) N → IsChild mode P v N.columns
-is_child mode P N v form e = record { form = subst (IsForm mode) same form; equivalent = subst (AreEquivalent mode (followed_by P v)) same e }
-  where
-    same : N ≡ rep_of P.factors P.rank N.columns
-    same = let s = e.takes.same_shape in λ i. record { factors = ap (λ s. s.factors) s i; rank = ap (λ s. s.rank) s i; columns = N.columns }

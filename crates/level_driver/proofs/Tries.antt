@@ -10,7 +10,7 @@ use Rattle.matroid_theory.specs.Order.{rep_cmp}
 use Rattle.matroid_theory.specs.Level.{IsCount}
 use Rattle.matroid_theory.specs.Minor.{Matroid}
 use Rattle.matroid_laws.proofs.Levels.{rep_cmp-irreflexive}
-use Rattle.level_driver.specs.Children.{IsChild, IsCandidate, AddsChildren}
+use Rattle.level_driver.specs.Children.{IsChildKey, IsCandidate, AddsChildren}
 use Rattle.level_driver.proofs.Counts.{count_none, count_both, count_images}
 
 -- one of the parents and a column that make a candidate
@@ -18,15 +18,15 @@ abbrev pub IsExtension : List Matroid → List Rep → Rep × List ℕ → Type 
 IsExtension Ns parents try = Contains parents try.0 × IsCandidate Ns try.0 try.1
 
 -- these parents were extended by all columns, and the forms added
-pub record HasGrown (mode : Mode) (Ns : List Matroid) (parents : List Rep) (tried : ℕ) (found : List (List (List ℕ))) : Type 0 where
+pub record HasGrown (mode : Mode) (Ns : List Matroid) (parents : List Rep) (tried : ℕ) (found : List (List ℕ)) : Type 0 where
   pub count : IsCount (IsExtension Ns parents) tried
-  pub sound : (cs : List (List ℕ)) → Contains found cs → (try : Rep × List ℕ) × IsExtension Ns parents try × IsChild mode try.0 try.1 cs
-  pub complete : (try : Rep × List ℕ) → IsExtension Ns parents try → (cs : List (List ℕ)) × Contains found cs × IsChild mode try.0 try.1 cs
+  pub sound : (key : List ℕ) → Contains found key → (try : Rep × List ℕ) × IsExtension Ns parents try × IsChildKey mode try.0 try.1 key
+  pub complete : (try : Rep × List ℕ) → IsExtension Ns parents try → (key : List ℕ) × Contains found key × IsChildKey mode try.0 try.1 key
 
-pub grown_none : (mode : Mode) (Ns : List Matroid) (found : List (List (List ℕ))) → found ≡ [] → HasGrown mode Ns [] 0 found
+pub grown_none : (mode : Mode) (Ns : List Matroid) (found : List (List ℕ)) → found ≡ [] → HasGrown mode Ns [] 0 found
 grown_none mode Ns found empty = subst (HasGrown mode Ns [] 0) (sym empty) record {
   count = count_none (IsExtension Ns []) (λ try e. let l = e.0.1 in absurd (omega arith));
-  sound = λ cs c. let l = c.1 in absurd (omega arith);
+  sound = λ key c. let l = c.1 in absurd (omega arith);
   complete = λ try e. let l = e.0.1 in absurd (omega arith);
 }
 
@@ -56,21 +56,21 @@ module _ (mode : Mode) (Ns : List Matroid) (parents : List Rep) (P : Rep) (new_o
           ]
 
   -- one parent more
-  pub grown_more : (tried k : ℕ) (found new : List (List (List ℕ))) → HasGrown mode Ns parents tried found →
+  pub grown_more : (tried k : ℕ) (found new : List (List ℕ)) → HasGrown mode Ns parents tried found →
       IsCount (IsCandidate Ns P) k → AddsChildren mode Ns P found new → HasGrown mode Ns (parents ++ P ∷ []) (tried + k) new
   grown_more tried k found new h count adds = record {
     count = count_both (IsExtension Ns parents) (λ try. (v : List ℕ) × IsCandidate Ns P v × ((P, v) ≡ try)) (IsExtension Ns (parents ++ P ∷ [])) tried k h.count
         (count_images (λ (v : List ℕ). (P, v)) (IsCandidate Ns P) k (λ v w e. ap (λ t. t.1) e) count)
         (λ try e l. new_one (subst (Contains parents) (sym (ap (λ t. t.0) l.2)) e.0)) two_kinds;
-    sound = λ cs c.
-        elim (adds.sound cs c) [
-          | inl d ↦ (let s = h.sound cs d in (s.0, (two_kinds s.0).1 (inl s.1), s.2))
+    sound = λ key c.
+        elim (adds.sound key c) [
+          | inl d ↦ (let s = h.sound key d in (s.0, (two_kinds s.0).1 (inl s.1), s.2))
           | inr (v, a, child) ↦ ((P, v), (Contains-push parents P, a), child)
         ];
     complete = λ try e.
         elim ((two_kinds try).0 e) [
           | inl d ↦ (let s = h.complete try d in (s.0, adds.kept s.0 s.1, s.2))
-          | inr (v, a, same) ↦ (let s = adds.complete v a in (s.0, s.1, subst (λ (t : Rep × List ℕ). IsChild mode t.0 t.1 s.0) same s.2))
+          | inr (v, a, same) ↦ (let s = adds.complete v a in (s.0, s.1, subst (λ (t : Rep × List ℕ). IsChildKey mode t.0 t.1 s.0) same s.2))
         ];
   }
 
@@ -86,7 +86,7 @@ not_before parents rising i P l is (k, m, e) =
 
 -- the next parent
 pub grown_step : (mode : Mode) (Ns : List Matroid) (parents : List Rep) → AllPairs (λ M N. rep_cmp M N ≡ Less) parents →
-    (i : ℕ) (P : Rep) → i < length parents → P ≡ get_or parents i P → (tried k : ℕ) (found new : List (List (List ℕ)))
+    (i : ℕ) (P : Rep) → i < length parents → P ≡ get_or parents i P → (tried k : ℕ) (found new : List (List ℕ))
     → HasGrown mode Ns (take i parents) tried found → IsCount (IsCandidate Ns P) k → AddsChildren mode Ns P found new →
     HasGrown mode Ns (take (i + 1) parents) (tried + k) new
 grown_step mode Ns parents rising i P l is tried k found new h count adds =
@@ -94,6 +94,6 @@ grown_step mode Ns parents rising i P l is tried k found new h count adds =
     (grown_more mode Ns (take i parents) P (not_before parents rising i P l is) tried k found new h count adds)
 
 -- all parents
-pub grown_all : (mode : Mode) (Ns : List Matroid) (parents : List Rep) (i tried : ℕ) (found : List (List (List ℕ))) →
+pub grown_all : (mode : Mode) (Ns : List Matroid) (parents : List Rep) (i tried : ℕ) (found : List (List ℕ)) →
     length parents ≤ i → HasGrown mode Ns (take i parents) tried found → HasGrown mode Ns parents tried found
 grown_all mode Ns parents i tried found l h = subst (λ (done : List Rep). HasGrown mode Ns done tried found) (take_all i parents l) h

@@ -9,14 +9,12 @@ use Rattle.matroid_theory.specs.Order.{IsForm}
 use Rattle.matroid_theory.specs.Minor.{Matroid}
 use Rattle.matroid_theory.specs.Level.{followed_by}
 use Rattle.extension.specs.Admissible.{IsAdmissible}
+use Rattle.form_key.specs.Packing.{packing}
 use Rattle.level_driver.specs.Forbidden.{Avoids}
 
-abbrev pub rep_of : List ℕ → ℕ → List (List ℕ) → Rep
-rep_of factors rank columns = record { factors = factors; rank = rank; columns = columns }
-
--- the new lists are the old ones and this one
-abbrev pub Adds : List (List (List ℕ)) → List (List (List ℕ)) → List (List ℕ) → Type 0
-Adds old new columns = (other : List (List ℕ)) → Contains new other ↔ (Contains old other ⊎ (other ≡ columns))
+-- the new keys are the old ones and this one
+abbrev pub Adds : List (List ℕ) → List (List ℕ) → List ℕ → Type 0
+Adds old new key = (other : List ℕ) → Contains new other ↔ (Contains old other ⊎ (other ≡ key))
 
 -- what a representation is asked to be before it is extended
 pub record IsParent (P : Rep) : Type 0 where
@@ -25,18 +23,17 @@ pub record IsParent (P : Rep) : Type 0 where
   pub agrees : Agrees P
   pub room : size P < 16
 
--- these are the columns of the form of the mode of P followed by v
-pub record IsChild (mode : Mode) (P : Rep) (v : List ℕ) (columns : List (List ℕ)) : Type 0 where
-  pub form : IsForm mode (rep_of P.factors P.rank columns)
-  pub equivalent : AreEquivalent mode (followed_by P v) (rep_of P.factors P.rank columns)
+-- the key is that of the form of the mode of P followed by v
+abbrev pub IsChildKey : Mode → Rep → List ℕ → List ℕ → Type 0
+IsChildKey mode P v key = (N : Rep) × IsForm mode N × AreEquivalent mode (followed_by P v) N × (packing N ≡ key)
 
 -- P can be extended by v such that none of the matroids is a minor
 pub record IsCandidate (Ns : List Matroid) (P : Rep) (v : List ℕ) : Type 0 where
   pub admissible : IsAdmissible P v
   pub avoids : Avoids Ns (followed_by P v)
 
--- the new lists are the old ones and the columns of the forms of all candidates that P and one column make
-pub record AddsChildren (mode : Mode) (Ns : List Matroid) (P : Rep) (old new : List (List (List ℕ))) : Type 0 where
-  pub kept : (columns : List (List ℕ)) → Contains old columns → Contains new columns
-  pub sound : (columns : List (List ℕ)) → Contains new columns → Contains old columns ⊎ ((v : List ℕ) × IsCandidate Ns P v × IsChild mode P v columns)
-  pub complete : (v : List ℕ) → IsCandidate Ns P v → (columns : List (List ℕ)) × Contains new columns × IsChild mode P v columns
+-- the new keys are the old ones and those of the forms of all candidates that P and one column make
+pub record AddsChildren (mode : Mode) (Ns : List Matroid) (P : Rep) (old new : List (List ℕ)) : Type 0 where
+  pub kept : (key : List ℕ) → Contains old key → Contains new key
+  pub sound : (key : List ℕ) → Contains new key → Contains old key ⊎ ((v : List ℕ) × IsCandidate Ns P v × IsChildKey mode P v key)
+  pub complete : (v : List ℕ) → IsCandidate Ns P v → (key : List ℕ) × Contains new key × IsChildKey mode P v key

@@ -1,7 +1,9 @@
--- What a set of forms keeps of a form.
-use Rattle.std.specs.Prelude.{ℕ, List, map}
-use Rattle.arrayvec.specs.ArrayVec.{ArrayVec}
+-- Keys of standard representations of one shape.
+use Rattle.std.specs.Prelude.{ℕ, List}
+use Rattle.std.specs.List.{Contains}
+use Rattle.matroid_theory.specs.Rep.{Rep, Shape}
+use Rattle.form_key.specs.Packing.{IsPackedAs}
 
--- the columns in a list of columns
-abbrev pub columns_of_key : ArrayVec (ArrayVec ℕ) → List (List ℕ)
-columns_of_key key = map (λ c. c.items) key.items
+-- each key is that of a standard representation of this shape
+abbrev pub HavePacking : Shape → List (List ℕ) → Type 0
+HavePacking s keys = (key : List ℕ) → Contains keys key → (M : Rep) × IsPackedAs s key M

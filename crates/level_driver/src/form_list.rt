@@ -1,8 +1,12 @@
 // Forms in a list.
-ghost use Rattle.std.specs.Prelude.{◌≡◌, [], ◌∷◌, ◌++◌, length, slice_get, OnOk, OnErr, IfErr};
+ghost use Rattle.std.specs.Prelude.{◌≡◌, ◌≤◌, [], ◌∷◌, ◌++◌, length, slice_get, OnOk, OnErr, IfErr};
 ghost use Rattle.std.specs.Option.{option_copied};
+ghost use Rattle.matroid_theory.specs.Rep.{Rep as Matrices};
+ghost use Rattle.form_key.specs.Packing.{IsPackedAs};
 
-use product_rep::Rep;
+use form_key::unpack;
+use link_set::Key;
+use product_rep::{Factors, Rep};
 use std::alloc::{AllocError, Global};
 use std::marker::Model;
 
@@ -58,6 +62,34 @@ impl FormList {
         match self.forms.push(form) {
             Ok(()) => Ok(()),
             Err(refused) => Err((AllocError, refused.value)),
+        }
+    }
+
+    /// Adds at the end the standard representation of this shape that has this key.
+    ///
+    /// # Errors
+    ///
+    /// `AllocError` where there was no memory.
+    pub fn push_unpacked(
+        &mut self,
+        factors: &Factors,
+        rank: u8,
+        size: u8,
+        key: &Key,
+    ) -> Result<(), AllocError>
+        requires low { 1 ≤ rank }
+        requires high { rank ≤ 6 }
+        requires room { rank ≤ size }
+        requires most { size ≤ 16 }
+        requires packing { (M : Matrices) × IsPackedAs (record { factors = factors.now; rank = rank; size = size }) key.now M }
+        ensures { OnOk result ((M : Matrices) × IsPackedAs (record { factors = factors.now; rank = rank; size = size }) key.now M × (self.new ≡ self.old ++ M ∷ [])) }
+    {
+        let Some(form) = unpack(factors.copy(), rank, size, key) else {
+            unreachable!()
+        };
+        match self.push(form) {
+            Ok(()) => Ok(()),
+            Err((error, _)) => Err(error),
         }
     }
 

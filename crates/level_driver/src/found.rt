@@ -1,34 +1,34 @@
-// The forms found so far.
-ghost use Rattle.std.specs.Prelude.{◌≡◌, [], map, IfOk, OnOk};
-ghost use Rattle.std.specs.List.{All, AllPairs};
-ghost use Rattle.std.specs.declared.cmp.Ordering.TheVariants.{Less as less};
-ghost use Rattle.matroid_theory.specs.Rep.{KeepsLimits};
-ghost use Rattle.matroid_theory.specs.Order.{rep_cmp};
-ghost use Rattle.level_driver.specs.Children.{rep_of, Adds};
+// The keys of the forms found so far.
+ghost use Rattle.std.specs.Prelude.{◌≡◌, ◌≤◌, [], IfOk, OnOk};
+ghost use Rattle.std.specs.List.{AllZip};
+ghost use Rattle.std.specs.List.Sorted.{IsStrictlySortedBy};
+ghost use Rattle.std.specs.Cmp.Lexicographic.{slice_cmp};
+ghost use Rattle.std.specs.Ordering.{nat_cmp};
+ghost use Rattle.matroid_theory.specs.Rep.{IsStandard};
+ghost use Rattle.form_key.specs.Packing.{IsPackedAs, packing};
+ghost use Rattle.level_driver.specs.Children.{Adds};
+ghost use Rattle.level_driver.specs.Keys.{HavePacking};
 
 use crate::FormList;
-use arrayvec::ArrayVec;
-use product_rep::{Factors, ProductColumn, Rep};
+use form_key::pack;
+use link_set::Key;
+use product_rep::{Factors, Rep};
 use std::alloc::{AllocError, Global};
 use std::collections::BTreeSet;
 use std::marker::Model;
 
-/// The columns of a form. Their order is that of the forms of one size.
-type ColumnList = ArrayVec<ProductColumn, 16>;
-
-/// The forms found so far, each once. Contracts see their lists of columns, in rising order.
+/// The forms found so far, each once. Contracts see their keys, in rising order.
 #[derive(Drop)]
 pub(crate) struct Found {
-    forms: BTreeSet<ColumnList>,
+    keys: BTreeSet<Key>,
 }
 
 impl Model for Found {
-    ghost use Rattle.std.specs.Prelude.{ℕ, List, map};
-    ghost use Rattle.level_driver.specs.Keys.{columns_of_key};
+    ghost use Rattle.std.specs.Prelude.{ℕ, List};
 
-    ghost Value = { List (List (List ℕ)) };
+    ghost Value = { List (List ℕ) };
 
-    ghost view = { λ s. map columns_of_key s.forms.keys };
+    ghost view = { λ s. s.keys.keys };
 }
 
 impl Found {
@@ -37,59 +37,39 @@ impl Found {
         ensures { result ≡ [] }
     {
         Found {
-            forms: BTreeSet::new(alloc),
+            keys: BTreeSet::new(alloc),
         }
     }
 
     /// Adds a form, unless it is there.
-    pub(crate) fn insert(&mut self, form: &Rep) -> Result<(), AllocError>
-        ensures { OnOk result (Adds self.old self.new form.now.columns) }
+    pub(crate) fn insert(&mut self, alloc: Global, form: &Rep) -> Result<(), AllocError>
+        requires { IsStandard form.now }
+        ensures { OnOk result (Adds self.old self.new (packing form.now)) }
     {
-        self.forms.insert(columns_of(form))?;
+        self.keys.insert(pack(alloc, form)?)?;
         Ok(())
     }
 
-    /// The forms, which all have these factors and this rank, in rising order.
+    /// The forms, which all have this shape, in the order of their keys.
     pub(crate) fn to_list(
         &self,
         alloc: Global,
         factors: &Factors,
         rank: u8,
+        size: u8,
     ) -> Result<FormList, AllocError>
-        requires { All (λ columns. KeepsLimits (rep_of factors.now rank columns)) self.now }
-        ensures forms { IfOk result (λ forms. forms ≡ map (rep_of factors.now rank) self.now) }
-        ensures rising { IfOk result (λ forms. AllPairs (λ M N. rep_cmp M N ≡ less) forms) }
+        requires low { 1 ≤ rank }
+        requires high { rank ≤ 6 }
+        requires room { rank ≤ size }
+        requires most { size ≤ 16 }
+        requires packings { HavePacking (record { factors = factors.now; rank = rank; size = size }) self.now }
+        ensures forms { IfOk result (λ forms. AllZip (λ M key. IsPackedAs (record { factors = factors.now; rank = rank; size = size }) key M) forms self.now) }
+        ensures rising { IfOk result (λ _. IsStrictlySortedBy (slice_cmp nat_cmp) self.now) }
     {
         let mut forms = FormList::new(alloc);
-        for columns in &self.forms {
-            match forms.push(rep_with(factors.copy(), rank, columns)) {
-                Ok(()) => {}
-                Err((error, _)) => return Err(error),
-            }
+        for key in &self.keys {
+            forms.push_unpacked(factors, rank, size, key)?;
         }
         Ok(forms)
     }
-}
-
-/// The columns of a form.
-fn columns_of(form: &Rep) -> ColumnList
-    ensures { map (λ c. c.items) result.items ≡ form.now.columns }
-{
-    let mut columns = ArrayVec::new();
-    for j in 0..form.size() {
-        columns.push(form.column(j));
-    }
-    columns
-}
-
-/// The representation with these columns.
-fn rep_with(factors: Factors, rank: u8, columns: &ColumnList) -> Rep
-    requires { KeepsLimits (rep_of factors rank (map (λ c. c.items) columns.now.items)) }
-    ensures { result ≡ rep_of factors rank (map (λ c. c.items) columns.now.items) }
-{
-    let mut rep = Rep::empty(factors, rank);
-    for column in columns.as_slice() {
-        rep.push_column(column);
-    }
-    rep
 }

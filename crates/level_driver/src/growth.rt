@@ -1,6 +1,7 @@
 // The level after a level.
-ghost use Rattle.std.specs.Prelude.{ℕ, ◌≡◌, ◌+◌, ◌<◌, IsSome, IsNone, IfSome, IfOk, OnOk};
-ghost use Rattle.matroid_theory.specs.Rep.{size, IsProductColumn, IsStandard};
+ghost use Rattle.std.specs.Prelude.{ℕ, ◌≡◌, ◌+◌, ◌<◌, ◌≤◌, IsSome, IsNone, IfSome, IfOk, OnOk};
+ghost use Rattle.std.specs.List.{Contains};
+ghost use Rattle.matroid_theory.specs.Rep.{Rep as Matrices, size, IsProductColumn};
 ghost use Rattle.matroid_theory.specs.Matroid.{Agrees};
 ghost use Rattle.matroid_theory.specs.Move.{AreEquivalent};
 ghost use Rattle.matroid_theory.specs.Order.{IsForm};
@@ -31,7 +32,6 @@ pub fn grow_alone(alloc: Global, request: &Request, parents: &FormList) -> Resul
         IsParentLevel request.now n parents.now → AreTriesOf request.now (n + 1) level.tried) }
 {
     request.laws();
-    let rank = request.rank();
     let mode = request.mode();
     let forbidden = Forbidden::of(alloc, request.forbid())?;
     let mut found = Found::new(alloc);
@@ -39,8 +39,23 @@ pub fn grow_alone(alloc: Global, request: &Request, parents: &FormList) -> Resul
     for parent in parents.as_slice() {
         tried += u128::from(add_children(alloc, parent, mode, &forbidden, &mut found)?);
     }
-    let forms = found.to_list(alloc, &request.factors(), rank)?;
+    let size = next_size(request, parents);
+    let forms = found.to_list(alloc, &request.factors(), request.rank(), size)?;
     Ok(Level { forms, tried })
+}
+
+/// The size of the forms that come after the parents. Where there are no parents there are no such forms, and it is the request's.
+pub fn next_size(request: &Request, parents: &FormList) -> u8
+    requires { (n : ℕ) × IsParentLevel request.now n parents.now }
+    ensures room { request.now.rank ≤ result }
+    ensures most { result ≤ 16 }
+    ensures next { (P : Matrices) → Contains parents.now P → result ≡ size P + 1 }
+{
+    request.laws();
+    match parents.get(0) {
+        Some(parent) => parent.size() as u8 + 1,
+        None => request.size(),
+    }
 }
 
 /// Adds the form of the mode of each representation that the parent and one more column make and that has no forbidden minor. The result
@@ -61,7 +76,7 @@ fn add_children(
     let mut tried = 0;
     for column in Columns::of(parent) {
         if let Some(child) = children.child(&column)? {
-            found.insert(&child)?;
+            found.insert(alloc, &child)?;
             tried += 1;
         }
     }

@@ -18,7 +18,7 @@ mod shown;
 pub use filter::passes;
 pub use forbidden::{Forbidden, avoids};
 pub use form_list::FormList;
-pub use growth::grow_alone;
+pub use growth::{grow_alone, next_size};
 pub use level::{Level, first_level};
 pub use level_list::LevelList;
 pub use parent::Children;

@@ -9,11 +9,11 @@ use Rattle.matroid_theory.specs.Minor.{Matroid}
 use Rattle.matroid_theory.specs.Level.{IsCount, followed_by}
 use Rattle.class_store.specs.Seen.{PassSide, calls_with}
 use Rattle.extension.specs.Admissible.{ColumnsAfter, IsNextColumn, IsLastColumn, value, above_values}
-use Rattle.level_driver.specs.Children.{IsCandidate}
+use Rattle.level_driver.specs.Children.{IsCandidate, IsChildKey}
 use Rattle.level_driver.specs.Forbidden.{Avoids}
 use Rattle.level_driver.proofs.Tried.{IsTriedUpTo, IsUpTo, HasTried, tried_none, one_more, not_yet}
 use Rattle.workers.specs.Keys.{AreKeysOf, times}
-use Rattle.workers.specs.Offered.{AreEmpty, IsChildKey, OffersChildren, gathered_with}
+use Rattle.workers.specs.Offered.{AreEmpty, OffersChildren, gathered_with}
 use Rattle.workers.proofs.KeyLists.{keys_both, keys_none, keys_one, keys_same}
 use Rattle.workers.proofs.Calls.{empty_with}
 

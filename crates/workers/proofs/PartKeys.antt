@@ -20,12 +20,12 @@ use Rattle.extension.specs.Admissible.{above_values}
 use Rattle.class_store.specs.Seen.{PassSide}
 use Rattle.steal_deque.specs.Deque.{times as often}
 use Rattle.store_laws.specs.TryKeys.{IsTryKey}
-use Rattle.level_driver.specs.Children.{IsCandidate}
+use Rattle.level_driver.specs.Children.{IsCandidate, IsChildKey}
 use Rattle.level_driver.specs.Grown.{IsParentLevel}
 use Rattle.level_driver.proofs.NextLevel.{tries_are}
 use Rattle.level_driver.proofs.UnitLevel.{forbidden_are}
 use Rattle.workers.specs.Keys.{AreKeysOf, times}
-use Rattle.workers.specs.Offered.{IsChildKey, MadeCalls, OffersChildren}
+use Rattle.workers.specs.Offered.{MadeCalls, OffersChildren}
 use Rattle.workers.specs.Parts.{IsTryFrom, IsPart, DoesPart}
 use Rattle.workers.proofs.KeyLists.{keys_both, keys_by, keys_images, keys_none, keys_same}
 use Rattle.workers.proofs.Numbers.{once_more, short}

@@ -3,4 +3,3 @@ pub mod Offered
 pub mod Parts
 pub mod Store
 pub mod Seats
-pub mod Forms

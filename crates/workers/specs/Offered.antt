@@ -3,15 +3,11 @@ use Rattle.std.specs.Prelude.{ℕ, ◌≡◌, ◌+◌, ◌<◌, ◌≤◌, List,
 use Rattle.std.specs.List.{All, sum_by}
 use Rattle.matroid_theory.specs.declared.Mode.{Mode}
 use Rattle.matroid_theory.specs.Rep.{Rep}
-use Rattle.matroid_theory.specs.Move.{AreEquivalent}
-use Rattle.matroid_theory.specs.Order.{IsForm}
 use Rattle.matroid_theory.specs.Minor.{Matroid}
-use Rattle.matroid_theory.specs.Level.{followed_by}
 use Rattle.link_set.specs.Hash.{stripe_of}
 use Rattle.class_store.specs.Seen.{PassSide, calls_with}
-use Rattle.form_key.specs.Packing.{packing}
 use Rattle.extension.specs.Admissible.{above_values}
-use Rattle.level_driver.specs.Children.{IsCandidate}
+use Rattle.level_driver.specs.Children.{IsCandidate, IsChildKey}
 use Rattle.workers.specs.Keys.{AreKeysOf, times}
 
 -- it is the same pass of the same level
@@ -22,10 +18,6 @@ pub record IsSamePass (old new : PassSide) : Type 0 where
 -- the pass made a call with each of these keys, as often as it stands there, and no other call
 abbrev pub MadeCalls : PassSide → PassSide → List (List ℕ) → Type 0
 MadeCalls old new keys = (key : List ℕ) → calls_with key new ≡ calls_with key old + times key keys
-
--- the key is that of the form of the mode of P followed by v
-abbrev pub IsChildKey : Mode → Rep → List ℕ → List ℕ → Type 0
-IsChildKey mode P v key = (N : Rep) × IsForm mode N × AreEquivalent mode (followed_by P v) N × (packing N ≡ key)
 
 -- the pass offered the key of each form of the mode that P and one more column make where none of the matroids is a minor, and there are so many such columns
 pub record OffersChildren (mode : Mode) (Ns : List Matroid) (P : Rep) (old new : PassSide) (tried : ℕ) : Type 0 where

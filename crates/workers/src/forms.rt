@@ -1,16 +1,12 @@
 // The forms of a level, from its keys.
-ghost use Rattle.std.specs.Prelude.{◌≡◌, ◌≤◌, ◌+◌, ℕ, List, IfOk};
-ghost use Rattle.std.specs.List.{AllZip, Contains};
-ghost use Rattle.matroid_theory.specs.Rep.{Rep as Matrices, Shape, size};
-ghost use Rattle.level_driver.specs.Grown.{IsParentLevel};
+ghost use Rattle.std.specs.Prelude.{◌≤◌, IfOk};
+ghost use Rattle.std.specs.List.{AllZip};
 ghost use Rattle.form_key.specs.Packing.{IsPackedAs};
-ghost use Rattle.workers.specs.Forms.{HavePacking};
+ghost use Rattle.level_driver.specs.Keys.{HavePacking};
 
 use class_store::KeyList;
-use form_key::unpack;
 use level_driver::FormList;
 use product_rep::Factors;
-use request_reader::Request;
 use std::alloc::{AllocError, Global};
 
 /// The standard representations of this shape that have these keys, in their order.
@@ -33,27 +29,7 @@ pub(crate) fn forms_of(
         let Some(key) = keys.get(i) else {
             unreachable!()
         };
-        let Some(form) = unpack(factors.copy(), rank, size, key) else {
-            unreachable!()
-        };
-        match forms.push(form) {
-            Ok(()) => {}
-            Err((error, _)) => return Err(error),
-        }
+        forms.push_unpacked(factors, rank, size, key)?;
     }
     Ok(forms)
-}
-
-/// The size of the forms that come after the parents. Where there are no parents there are no such forms, and it is the request's.
-pub(crate) fn next_size(request: &Request, parents: &FormList) -> u8
-    requires { (n : ℕ) × IsParentLevel request.now n parents.now }
-    ensures room { request.now.rank ≤ result }
-    ensures most { result ≤ 16 }
-    ensures next { (P : Matrices) → Contains parents.now P → result ≡ size P + 1 }
-{
-    request.laws();
-    match parents.get(0) {
-        Some(parent) => parent.size() as u8 + 1,
-        None => request.size(),
-    }
 }

@@ -4,11 +4,11 @@ ghost use Rattle.std.specs.List.{All, sum_by};
 ghost use Rattle.level_driver.specs.Grown.{IsLevelOf, AreTriesOf, IsParentLevel};
 ghost use Rattle.workers.specs.Store.{HoldsTriesOf};
 
-use crate::forms::{forms_of, next_size};
+use crate::forms::forms_of;
 use crate::seats::{seat, unseat};
 use crate::threads::run;
 use class_store::{ClassStore, Closed};
-use level_driver::{FormList, Level};
+use level_driver::{FormList, Level, next_size};
 use outside::Gate;
 use request_reader::Request;
 use std::alloc::{AllocError, Global};

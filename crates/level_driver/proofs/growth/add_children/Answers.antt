@@ -1,14 +1,15 @@
-use Rattle.std.proofs.Common.{◌≡◌, ◌<◌, List, [], None, sym, ◌∙◌, subst, ap}
+use Rattle.std.proofs.Common.{◌≡◌, ◌<◌, List, [], None, refl, sym, ◌∙◌, subst, ap}
 use Rattle.matroid_theory.specs.Rep.{Rep, size, IsProductColumn}
 use Rattle.matroid_theory.specs.Matroid.{Agrees}
 use Rattle.matroid_theory.specs.Level.{IsCount, followed_by}
 use Rattle.matroid_theory.specs.Minor.{Matroid}
 use Rattle.extension.specs.Admissible.{ColumnsAfter, IsNextColumn}
+use Rattle.form_key.specs.Packing.{packing}
 use Rattle.level_driver.specs.Forbidden.{Avoids}
-use Rattle.level_driver.specs.Children.{IsChild, IsCandidate, AddsChildren}
+use Rattle.level_driver.specs.Children.{IsChildKey, IsCandidate, AddsChildren}
 use Rattle.level_driver.specs.Known.{ChildrenOf, IsAnswer, IsChildOf}
 use Rattle.level_driver.proofs.Known.{answer_of}
-use Rattle.level_driver.proofs.Tried.{tried_none, tried_more, tried_same, tried_count, tried_all, is_child}
+use Rattle.level_driver.proofs.Tried.{tried_none, tried_more, tried_same, tried_count, tried_all}
 use Rattle.level_driver.proofs.growth.add_children.Goals as goal
 
 pub loop-column-init : goal.loop-column-init
@@ -73,9 +74,9 @@ loop-column-preserved-in-Some-2 c =
       so_far = tried_more c.loop-column.column-iterator c.in-Some.column.items steps.0 c.args.mode Ns c.args.found.now
           c.loop-column.found c.loop-column.tried c.next.new.self steps.1 progress.2 c.loop-column.invariant.so_far
           (subst (λ (P : Rep). Avoids Ns (followed_by P c.in-Some.column.items)) (sym c.loop-column.invariant.same) h.avoids)
-          c.insert.new.self c.in-Some-2.child.columns
-          (subst (λ (P : Rep). IsChild c.args.mode P c.in-Some.column.items c.in-Some-2.child.columns) (sym c.loop-column.invariant.same)
-          (is_child c.args.mode c.args.parent.now c.in-Some-2.child c.in-Some.column.items h.form h.equivalent))
+          c.insert.new.self (packing c.in-Some-2.child)
+          (subst (λ (P : Rep). IsChildKey c.args.mode P c.in-Some.column.items (packing c.in-Some-2.child)) (sym c.loop-column.invariant.same)
+          (c.in-Some-2.child, h.form, h.equivalent, refl))
           c.in_ok-insert.ensures;
     }
 
@@ -92,3 +93,14 @@ returns-clause-forms c =
     subst (λ (P : Rep). AddsChildren c.args.mode Ns P c.args.found.now c.loop-column.found) c.loop-column.invariant.same
     (tried_all c.args.mode Ns c.args.found.now c.loop-column.found c.loop-column.column-iterator c.loop-column.tried
     c.loop-column.invariant.so_far c.in-None.ensures.steps.0)
+
+pub insert-requires : goal.insert-requires
+insert-requires c =
+    let Ns : List Matroid = c.args.forbidden.now in
+    let k : ChildrenOf = record { parent = c.args.parent.now; mode = c.args.mode; forbidden = Ns } in
+    let answer : IsAnswer k c.in-Some.column.items c.in_ok-child.field-0 =
+    subst (λ (k : ChildrenOf). IsAnswer k c.in-Some.column.items c.in_ok-child.field-0) c.loop-column.invariant.children
+    (answer_of c.loop-column.children c.in-Some.column.items c.in_ok-child.field-0 c.in_ok-child.ensures.none
+    c.in_ok-child.ensures.avoids c.in_ok-child.ensures.form c.in_ok-child.ensures.equivalent) in
+    let h : IsChildOf k c.in-Some.column.items c.in-Some-2.child = subst (IsAnswer k c.in-Some.column.items) c.in-Some-2.is answer in
+    h.form.standard

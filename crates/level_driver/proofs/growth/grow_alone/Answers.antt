@@ -1,17 +1,15 @@
-use Rattle.std.proofs.Common.{◌≡◌, ℕ, ◌+◌, ◌<◌, ◌≤◌, List, map, take, length, get_or, sym, ◌∙◌, ap, subst, arith}
-use Rattle.std.specs.List.{All, AllPairs, Contains}
-use Rattle.std.specs.declared.cmp.Ordering.TheVariants.{Less}
+use Rattle.std.proofs.Common.{◌≡◌, ℕ, ◌+◌, ◌<◌, ◌≤◌, List, take, length, get_or, sym, ◌∙◌, ap, subst, arith}
+use Rattle.std.specs.List.{Contains, AllZip}
 use Rattle.std.proofs.lemmas.List.Elements.{Contains-get_or}
 use Rattle.matroid_theory.specs.declared.Mode.{Mode}
-use Rattle.matroid_theory.specs.Rep.{Rep, KeepsLimits}
-use Rattle.matroid_theory.specs.Order.{rep_cmp}
+use Rattle.matroid_theory.specs.Rep.{Rep, Shape}
 use Rattle.matroid_theory.specs.Minor.{Matroid}
+use Rattle.form_key.specs.Packing.{IsPackedAs}
 use Rattle.formats.specs.Request.{Request}
-use Rattle.level_driver.specs.Children.{rep_of}
-use Rattle.level_driver.specs.Grown.{IsLevelOf}
+use Rattle.level_driver.specs.Keys.{HavePacking}
 use Rattle.level_driver.proofs.Avoiding.{same_given}
 use Rattle.level_driver.proofs.Tries.{HasGrown, grown_none, grown_step, grown_all}
-use Rattle.level_driver.proofs.NextLevel.{parents_rise, each_parent, each_rep, level_grown, tries_grown}
+use Rattle.level_driver.proofs.NextLevel.{parents_rise, each_parent, packings_grown, level_grown, tries_grown}
 use Rattle.level_driver.proofs.growth.grow_alone.Goals as goal
 
 pub add_children-requires : goal.add_children-requires
@@ -59,20 +57,22 @@ loop-parent-preserved c =
       few = (let e = c.from.ensures in omega arith);
     }
 
-pub to_list-requires : goal.to_list-requires
-to_list-requires c =
+pub to_list-requires-clause-packings : goal.to_list-requires-clause-packings
+to_list-requires-clause-packings c =
     let q : Request = c.args.request.now in
     let Ns : List Matroid = c.forbidden.inside.sought.items in
     let given = same_given c.args.request.now _ _ (sym (c.forbidden.view_is ∙ c.in_ok-forbidden.ensures)) c.forbid.ensures.given in
     let parents : List Rep = c.args.parents.now in
     let done : length parents ≤ c.loop-parent.parent-index =
     subst (λ (xs : List Rep). length xs ≤ c.loop-parent.parent-index) c.as_slice-parent-items.ensures c.loop-parent-test.false in
-    subst (λ (factors : List ℕ). All (λ cs. KeepsLimits (rep_of factors c.rank-rank.result cs)) c.loop-parent.found) (sym c.factors.ensures)
-    (subst (λ (rank : ℕ). All (λ cs. KeepsLimits (rep_of q.factors rank cs)) c.loop-parent.found) (sym c.rank-rank.ensures)
-    (each_rep q Ns given c.laws.ensures.factors c.laws.ensures.limits c.requires.0 parents c.requires.1
-    c.loop-parent.tried c.loop-parent.found
+    let s : ◌≡◌ {A = Shape} (record { factors = q.factors; rank = q.rank; size = c.next_size-size.result })
+    (record { factors = c.factors.result; rank = c.rank.result; size = c.next_size-size.result }) =
+    λ i. record { factors = sym c.factors.ensures i; rank = sym c.rank.ensures i; size = c.next_size-size.result } in
+    subst (λ (s : Shape). HavePacking s c.loop-parent.found) s
+    (packings_grown q Ns given c.laws.ensures.factors c.laws.ensures.limits c.requires.0 parents c.requires.1 c.loop-parent.tried c.loop-parent.found
     (subst (λ (mode : Mode). HasGrown mode Ns parents c.loop-parent.tried c.loop-parent.found) c.mode-mode.ensures
-    (grown_all c.mode-mode.result Ns parents c.loop-parent.parent-index c.loop-parent.tried c.loop-parent.found done c.loop-parent.invariant.so_far))))
+    (grown_all c.mode-mode.result Ns parents c.loop-parent.parent-index c.loop-parent.tried c.loop-parent.found done c.loop-parent.invariant.so_far))
+    c.next_size-size.result c.next_size-size.ensures.next)
 
 pub returns-clause-forms : goal.returns-clause-forms
 returns-clause-forms c n h =
@@ -82,14 +82,14 @@ returns-clause-forms c n h =
     let parents : List Rep = c.args.parents.now in
     let done : length parents ≤ c.loop-parent.parent-index =
     subst (λ (xs : List Rep). length xs ≤ c.loop-parent.parent-index) c.as_slice-parent-items.ensures c.loop-parent-test.false in
-    let forms : List Rep = map (rep_of q.factors q.rank) c.loop-parent.found in
-    let is : c.in_ok-forms.forms ≡ forms = c.in_ok-forms.ensures.forms
-    ∙ (λ i. map (rep_of (c.factors.ensures i) (c.rank-rank.ensures i)) c.loop-parent.found) in
-    subst (λ (forms : List Rep). IsLevelOf q (n + 1) forms) (sym is)
-    (level_grown q Ns given c.laws.ensures.factors c.laws.ensures.limits n parents h c.loop-parent.tried c.loop-parent.found
+    let s : ◌≡◌ {A = Shape} (record { factors = c.factors.result; rank = c.rank.result; size = c.next_size-size.result })
+    (record { factors = q.factors; rank = q.rank; size = c.next_size-size.result }) =
+    λ i. record { factors = c.factors.ensures i; rank = c.rank.ensures i; size = c.next_size-size.result } in
+    level_grown q Ns given c.laws.ensures.factors c.laws.ensures.limits n parents h c.loop-parent.tried c.loop-parent.found
     (subst (λ (mode : Mode). HasGrown mode Ns parents c.loop-parent.tried c.loop-parent.found) c.mode-mode.ensures
     (grown_all c.mode-mode.result Ns parents c.loop-parent.parent-index c.loop-parent.tried c.loop-parent.found done c.loop-parent.invariant.so_far))
-    (subst (λ (forms : List Rep). AllPairs (λ M N. rep_cmp M N ≡ Less) forms) is c.in_ok-forms.ensures.rising))
+    c.next_size-size.result c.next_size-size.ensures.next c.in_ok-forms.ensures.rising c.in_ok-forms.forms
+    (subst (λ (s : Shape). AllZip (λ (M : Rep) (key : List ℕ). IsPackedAs s key M) c.in_ok-forms.forms c.loop-parent.found) s c.in_ok-forms.ensures.forms)
 
 pub returns-clause-tried : goal.returns-clause-tried
 returns-clause-tried c n h =

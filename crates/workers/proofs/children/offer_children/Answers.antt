@@ -7,7 +7,8 @@ use Rattle.extension.specs.Admissible.{ColumnsAfter, IsNextColumn}
 use Rattle.level_driver.specs.Forbidden.{Avoids}
 use Rattle.level_driver.specs.Known.{ChildrenOf, IsAnswer, IsChildOf}
 use Rattle.level_driver.proofs.Known.{answer_of}
-use Rattle.workers.specs.Offered.{IsChildKey, OffersChildren}
+use Rattle.level_driver.specs.Children.{IsChildKey}
+use Rattle.workers.specs.Offered.{OffersChildren}
 use Rattle.workers.proofs.Calls.{empty_gathered}
 use Rattle.workers.proofs.ChildKeys.{offered_none, offered_more, offered_same, offered_all}
 use Rattle.workers.proofs.children.offer_children.Goals as goal

@@ -7,9 +7,9 @@ use Rattle.formats.specs.Request.{Request}
 use Rattle.class_store.specs.Closed.{StoreSide}
 use Rattle.form_key.specs.Packing.{IsPackedAs}
 use Rattle.level_driver.proofs.NextLevel.{grown_by, grows_it}
-use Rattle.workers.specs.Forms.{HavePacking}
+use Rattle.level_driver.specs.Keys.{HavePacking}
 use Rattle.workers.specs.Store.{HoldsTriesOf}
-use Rattle.workers.proofs.FromKeys.{forms_level, have_packing}
+use Rattle.workers.proofs.FromKeys.{new_level, new_packing}
 use Rattle.workers.proofs.growth.grow.Goals as goal
 
 pub forms_of-requires-clause-packings : goal.forms_of-requires-clause-packings
@@ -24,7 +24,7 @@ forms_of-requires-clause-packings g c =
     (record { factors = c.factors.result; rank = c.rank.result; size = c.next_size-size.result }) =
     λ i. record { factors = sym c.factors.ensures i; rank = sym c.rank.ensures i; size = c.next_size-size.result } in
     subst (λ (s : Shape). HavePacking s c.in_ok-keys.keys) same
-    (have_packing q family grows n c.args.parents.now h c.in_ok-closed.closed (c.in_ok-closed.ensures.holds n h family grows) c.next_size-size.result
+    (new_packing q family grows n c.args.parents.now h c.in_ok-closed.closed (c.in_ok-closed.ensures.holds n h family grows) c.next_size-size.result
     c.next_size-size.ensures.next c.in_ok-keys.keys c.in_ok-keys.ensures.rising c.in_ok-keys.ensures.keys)
 
 pub returns-clause-forms : goal.returns-clause-forms
@@ -33,7 +33,7 @@ returns-clause-forms g c n h family grows =
     let same : ◌≡◌ {A = Shape} (record { factors = c.factors.result; rank = c.rank.result; size = c.next_size-size.result })
     (record { factors = q.factors; rank = q.rank; size = c.next_size-size.result }) =
     λ i. record { factors = c.factors.ensures i; rank = c.rank.ensures i; size = c.next_size-size.result } in
-    forms_level q family grows n c.args.parents.now h c.in_ok-closed.closed (c.in_ok-closed.ensures.holds n h family grows) c.next_size-size.result
+    new_level q family grows n c.args.parents.now h c.in_ok-closed.closed (c.in_ok-closed.ensures.holds n h family grows) c.next_size-size.result
     c.next_size-size.ensures.next c.in_ok-keys.keys c.in_ok-keys.ensures.rising c.in_ok-keys.ensures.keys c.in_ok-forms.forms
     (subst (λ (s : Shape). AllZip (λ (M : Rep) (key : List ℕ). IsPackedAs s key M) c.in_ok-forms.forms c.in_ok-keys.keys) same c.in_ok-forms.ensures)
 

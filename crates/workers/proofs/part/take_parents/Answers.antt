@@ -11,7 +11,7 @@ use Rattle.level_driver.proofs.NextLevel.{each_parent, parents_rise}
 use Rattle.level_driver.proofs.Sifted.{past}
 use Rattle.workers.specs.Offered.{AreEmpty}
 use Rattle.workers.proofs.Calls.{none_gathered, written}
-use Rattle.workers.proofs.FromKeys.{inside}
+use Rattle.level_driver.proofs.NextLevel.{inside}
 use Rattle.workers.proofs.PartKeys.{HasTaken, part_done, taken_more, taken_none, tries_fit}
 use Rattle.workers.proofs.part.take_parents.Goals as goal
 

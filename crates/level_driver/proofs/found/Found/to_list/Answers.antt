@@ -1,40 +1,43 @@
-use Rattle.std.proofs.Common.{◌≡◌, ℕ, List, map, sym, ◌∙◌, subst, ap}
-use Rattle.std.specs.List.{All, AllPairs}
+use Rattle.std.proofs.Common.{◌≡◌, ℕ, List, sym, subst}
+use Rattle.std.specs.List.{All, AllZip}
+use Rattle.std.specs.List.Sorted.{IsStrictlySortedBy}
+use Rattle.std.specs.Cmp.Lexicographic.{slice_cmp}
+use Rattle.std.specs.Ordering.{nat_cmp}
 use Rattle.std.specs.Map.Iter.{deref}
-use Rattle.std.specs.declared.cmp.Ordering.TheVariants.{Less}
+use Rattle.std.proofs.lemmas.List.Elements.{Contains-get_or}
 use Rattle.std.proofs.lemmas.Map.Iter.{iter_end}
 use Rattle.std.proofs.lemmas.Map.Views.{All-turn}
-use Rattle.arrayvec.specs.ArrayVec.{ArrayVec}
-use Rattle.matroid_theory.specs.Rep.{Rep, KeepsLimits}
-use Rattle.matroid_theory.specs.Order.{rep_cmp}
-use Rattle.level_driver.specs.Keys.{columns_of_key}
-use Rattle.level_driver.specs.Children.{rep_of}
-use Rattle.level_driver.proofs.KeyLemmas.{rising, forms_of_keys, All-from_map}
+use Rattle.matroid_theory.specs.Rep.{Rep}
+use Rattle.form_key.specs.Packing.{IsPackedAs}
+use Rattle.level_driver.specs.Keys.{HavePacking}
+use Rattle.level_driver.proofs.KeyLemmas.{packed_next}
 use Rattle.level_driver.proofs.found.Found.to_list.Goals as goal
 
-pub rep_with-requires : goal.rep_with-requires
-rep_with-requires c =
-    let P : ArrayVec (ArrayVec ℕ) → Type 0 = λ key. KeepsLimits (rep_of c.args.factors.now c.args.rank (columns_of_key key)) in
-    let keys : List (ArrayVec (ArrayVec ℕ)) = c.self.inside.forms.keys in
-    let e : map columns_of_key keys ≡ c.args.self.now = c.self.view_is in
-    let all : All P keys = All-from_map (λ columns. KeepsLimits (rep_of c.args.factors.now c.args.rank columns)) columns_of_key keys
-    (subst (λ (all : List (List (List ℕ))). All (λ columns. KeepsLimits (rep_of c.args.factors.now c.args.rank columns)) all)
-    (sym e) c.requires) in
-    let this : P c.in-Some.columns.now = All-turn deref P keys _ _ _ _ _ _ all
-    (c.into_iter-columns-iterator.ensures.into_iter_gives.0) c.loop-columns.yielded_by c.in-Some.is c.next.ensures.steps in
-    subst (λ (factors : List ℕ). KeepsLimits (rep_of factors c.args.rank (columns_of_key c.in-Some.columns.now))) (sym c.copy.ensures) this
+pub push_unpacked-requires-clause-packing : goal.push_unpacked-requires-clause-packing
+push_unpacked-requires-clause-packing c =
+    let P : List ℕ → Type 0 = λ key. (M : Rep) × IsPackedAs (record { factors = c.args.factors.now; rank = c.args.rank; size = c.args.size }) key M in
+    let keys : List (List ℕ) = c.self.inside.keys.keys in
+    let e : keys ≡ c.args.self.now = c.self.view_is in
+    let have : HavePacking (record { factors = c.args.factors.now; rank = c.args.rank; size = c.args.size }) keys =
+    subst (HavePacking (record { factors = c.args.factors.now; rank = c.args.rank; size = c.args.size })) (sym e) c.requires.packings in
+    let all : All P keys = λ k d l. have _ (Contains-get_or keys k d l) in
+    All-turn deref P keys _ _ _ _ _ _ all (c.into_iter-key-iterator.ensures.into_iter_gives.0) c.loop-key.yielded_by c.in-Some.is c.next.ensures.steps
+
+pub loop-key-preserved : goal.loop-key-preserved
+loop-key-preserved c =
+    packed_next (record { factors = c.args.factors.now; rank = c.args.rank; size = c.args.size }) c.loop-key.forms c.push_unpacked.new.self
+    c.loop-key.yielded c.in-Some.key c.loop-key.invariant c.in_ok-push_unpacked.ensures
 
 pub returns-clause-forms : goal.returns-clause-forms
 returns-clause-forms c =
-    let e : map columns_of_key c.self.inside.forms.keys ≡ c.args.self.now = c.self.view_is in
-    let all = iter_end deref c.self.inside.forms.keys c.loop-columns.yielded
-    _ _ _ _ c.into_iter-columns-iterator.ensures.into_iter_gives.0 c.loop-columns.yielded_by c.in-None.is c.next.ensures.steps in
-    c.loop-columns.invariant ∙ forms_of_keys c.args.factors.now c.args.rank c.loop-columns.yielded
-    ∙ ap (λ (keys : List (ArrayVec (ArrayVec ℕ))). map (rep_of c.args.factors.now c.args.rank) (map columns_of_key keys)) all.0
-    ∙ ap (map (rep_of c.args.factors.now c.args.rank)) e
+    let e : c.self.inside.keys.keys ≡ c.args.self.now = c.self.view_is in
+    let all = iter_end deref c.self.inside.keys.keys c.loop-key.yielded
+    _ _ _ _ c.into_iter-key-iterator.ensures.into_iter_gives.0 c.loop-key.yielded_by c.in-None.is c.next.ensures.steps in
+    subst (λ (keys : List (List ℕ)).
+    AllZip (λ M key. IsPackedAs (record { factors = c.args.factors.now; rank = c.args.rank; size = c.args.size }) key M) c.loop-key.forms keys) e
+    (subst (λ (keys : List (List ℕ)).
+    AllZip (λ M key. IsPackedAs (record { factors = c.args.factors.now; rank = c.args.rank; size = c.args.size }) key M) c.loop-key.forms keys)
+    all.0 c.loop-key.invariant)
 
 pub returns-clause-rising : goal.returns-clause-rising
-returns-clause-rising c =
-    let e : map columns_of_key c.self.inside.forms.keys ≡ c.args.self.now = c.self.view_is in
-    subst (λ (forms : List Rep). AllPairs (λ M N. rep_cmp M N ≡ Less) forms) (ap (map (rep_of c.args.factors.now c.args.rank)) e ∙ sym (returns-clause-forms c))
-    (rising c.args.factors.now c.args.rank c.self.inside.forms.keys c.into_iter-columns-iterator.ensures.into_iter_gives.4)
+returns-clause-rising c = subst (IsStrictlySortedBy (slice_cmp nat_cmp)) c.self.view_is c.into_iter-key-iterator.ensures.into_iter_gives.4

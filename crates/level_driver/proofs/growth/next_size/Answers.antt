@@ -1,7 +1,7 @@
 use Rattle.std.proofs.Common.{◌≡◌, sym, arith}
 use Rattle.matroid_theory.specs.Rep.{size}
-use Rattle.workers.proofs.FromKeys.{inside, parent_size}
-use Rattle.workers.proofs.forms.next_size.Goals as goal
+use Rattle.level_driver.proofs.NextLevel.{inside, parent_size}
+use Rattle.level_driver.proofs.growth.next_size.Goals as goal
 
 pub returns-in-Some-clause-room : goal.returns-in-Some-clause-room
 returns-in-Some-clause-room c =
