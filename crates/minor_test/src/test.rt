@@ -52,6 +52,7 @@ pub fn find_minor(whole: &Whole, sought: &Sought) -> Option<Embedding>
     for set in 0..set_count(whole.size()) {
         let contracted = set as Mask;
         let search = Search {
+            // Lent again, since one lifetime stands for all that a search looks at.
             whole: &*whole,
             sought,
             twins,
