@@ -1,5 +1,6 @@
 -- Sets that may be contracted.
-use Rattle.std.proofs.Common.{◌≡◌, ℕ, ◌+◌, ◌^◌, ◌<◌, refl, sym, ◌∙◌, ap, subst, arith, lit<, Bool, true, false, ◌||◌, List, [], length, slice_index}
+use Rattle.std.proofs.Common.{◌≡◌, ◌↔◌, ℕ, ◌+◌, ◌^◌, ◌<◌, refl, sym, ◌∙◌, ap, subst, arith, lit<, Bool, true, false, ◌||◌, List, [], length, slice_index}
+use Rattle.std.specs.List.{Contains}
 use Rattle.std.proofs.lemmas.List.Elements.{Contains-get_or}
 use Rattle.matroid_theory.specs.Matrix.{size_below}
 use Rattle.matroid_theory.specs.Rep.{Rep, size, order, matrix}
@@ -8,10 +9,10 @@ use Rattle.matroid_theory.specs.Minor.{Matroid, image, IsMinorBy}
 use mathlib.Core.Bool.{true≢false}
 use Rattle.matrix_lemmas.proofs.Bases.{smaller_independent}
 use Rattle.named_matroids.specs.SmallMatroids.{IsSmallMatroid}
-use Rattle.minor_test.specs.declared.search.Tables.{Tables}
 use Rattle.minor_test.specs.declared.search.Images.{Images}
 use Rattle.matroid_theory.specs.Tables.{has}
-use Rattle.minor_test.specs.Searches.{first, AreTables, AreImagesOf, image_with}
+use Rattle.minor_test.specs.Tables.{HasBases, HasMasks}
+use Rattle.minor_test.specs.Searches.{AreImagesOf, image_with}
 use Rattle.minor_test.proofs.Embeddings.{narrower, none_embedded}
 use Rattle.minor_test.proofs.NextImage.{same_from_iff}
 
@@ -36,23 +37,26 @@ contracted_independent N M C small f h =
     or_false true b e = absurd (true≢false e)
     or_false false true e = absurd (true≢false e)
 
-module _ (N : Matroid) (M : Rep) (C : ℕ) (below : C < 2 ^ size M) (tables : Tables) (t : AreTables N M tables) where
+module _ (N : Matroid) (M : Rep) (C : ℕ) where
   -- it is a basis exactly where the minor has the empty one
-  pub empty_alike : (f : ℕ → ℕ) → IsMinorBy N M f (members C) → has tables.minor.now.words 0 ≡ has tables.whole.now.words C
-  empty_alike f h =
-      let e : IsMinorBy (first N 0) M f (members C) = narrower N M 0 f (members C) (omega arith) h in
-      same_from_iff (has tables.minor.now.words 0) (has tables.whole.now.words C) (t.minor.exact 0 (lit< tt)) (t.whole.exact C below) (e.bases 0 (lit< tt))
+  pub empty_alike : (f : ℕ → ℕ) → IsMinorBy N M f (members C) → Contains N.bases 0 ↔ IsBasis M 0 (members C)
+  empty_alike f h = (narrower N M 0 f (members C) (omega arith) h).bases 0 (lit< tt)
+
+  -- as their tables say
+  pub tables_alike : C < 2 ^ size M → (minor whole : List ℕ) → HasMasks N.bases minor → HasBases M whole →
+      (has minor 0 ≡ has whole C) ↔ (Contains N.bases 0 ↔ IsBasis M 0 (members C))
+  tables_alike below minor whole m w = (
+    (λ e. ((λ p. (w.exact C below).0 (sym e ∙ (m.exact 0 (lit< tt)).1 p)), (λ b. (m.exact 0 (lit< tt)).0 (e ∙ (w.exact C below).1 b)))),
+    (λ i. same_from_iff (has minor 0) (has whole C) (m.exact 0 (lit< tt)) (w.exact C below) i),
+  )
 
   -- so with none of the elements the search may begin
-  pub begins : (images : Images) (sets : List ℕ) → images.list.items ≡ [] → images.used ≡ C → slice_index sets 0 ≡ C
-      → N.rank + size_below (size M) (members C) ≡ M.rank → has tables.minor.now.words 0 ≡ has tables.whole.now.words C →
+  pub begins : C < 2 ^ size M → (images : Images) (sets : List ℕ) → images.list.items ≡ [] → images.used ≡ C → slice_index sets 0 ≡ C
+      → N.rank + size_below (size M) (members C) ≡ M.rank → (Contains N.bases 0 ↔ IsBasis M 0 (members C)) →
       AreImagesOf N M C (length images.list.items) images sets
-  begins images sets el eu es r e = subst (λ (n : ℕ). AreImagesOf N M C n images sets) (sym (ap (λ (xs : List ℕ). length xs) el)) (record {
+  begins below images sets el eu es r e = subst (λ (n : ℕ). AreImagesOf N M C n images sets) (sym (ap (λ (xs : List ℕ). length xs) el)) (record {
     few = omega arith;
-    embedding = none_embedded N M (slice_index images.list.items) (members C) r (
-      (λ p. (t.whole.exact C below).0 (sym e ∙ (t.minor.exact 0 (lit< tt)).1 p)),
-      (λ b. (t.minor.exact 0 (lit< tt)).0 (e ∙ (t.whole.exact C below).1 b)),
-    );
+    embedding = none_embedded N M (slice_index images.list.items) (members C) r e;
     used_below = subst (λ (x : ℕ). x < 2 ^ size M) (sym eu) below;
     used = λ j _. ap (λ x. members x j) eu;
     sets_below = λ X l. subst (λ (x : ℕ). x < 2 ^ size M) (sym (first_set X l)) below;

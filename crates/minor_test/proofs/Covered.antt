@@ -2,10 +2,9 @@
 use Rattle.std.proofs.Common.{◌≡◌, ℕ, ◌+◌, ◌<◌, sym, ◌∙◌, ap, arith, inl, inr, List, [], ◌∷◌, ◌++◌, length, length-append, slice_index}
 use Rattle.std.proofs.lemmas.Bool.{cases_lt}
 use Rattle.std.proofs.lemmas.List.{get_or_append_left, get_or-append-add}
-use Rattle.matroid_theory.specs.Rep.{Rep}
 use Rattle.matroid_theory.specs.Matroid.{members}
-use Rattle.matroid_theory.specs.Minor.{Matroid, IsMinorBy}
-use Rattle.minor_test.specs.Searches.{first, BeginsWith, IsNext}
+use Rattle.minor_test.specs.declared.search.Search.{Search}
+use Rattle.minor_test.specs.Searches.{first, BeginsWith, Embeds, IsNext}
 use Rattle.minor_test.proofs.Embeddings.{embedding-same, narrower}
 
 length_next : (images : List ℕ) (j : ℕ) → length (images ++ j ∷ []) ≡ length images + 1
@@ -23,9 +22,10 @@ begins_next images f b x l =
     ]
 
 -- and the images that it begins with pass each test
-pub next_of : (N : Matroid) (M : Rep) (C : ℕ) (images : List ℕ) (j : ℕ) (f : ℕ → ℕ) → length images < N.size →
-    BeginsWith (images ++ j ∷ []) f → IsMinorBy N M f (members C) → IsNext N M C images j
-next_of N M C images j f l b h =
+pub next_of : (search : Search) (images : List ℕ) (j : ℕ) (f : ℕ → ℕ) → length images < search.sought.now.size →
+    BeginsWith (images ++ j ∷ []) f → Embeds search f → IsNext search images j
+next_of search images j f l b h =
     let e : length (images ++ j ∷ []) ≡ length images + 1 = length_next images j in
-    embedding-same (first N (length images + 1)) M f (slice_index (images ++ j ∷ [])) (members C) (λ x m. b x (omega arith))
-    (narrower N M (length images + 1) f (members C) (omega arith) h)
+    embedding-same (first search.sought.now (length images + 1)) search.whole.now f (slice_index (images ++ j ∷ [])) (members search.contracted)
+    (λ x m. b x (omega arith))
+    (narrower search.sought.now search.whole.now (length images + 1) f (members search.contracted) (omega arith) h)

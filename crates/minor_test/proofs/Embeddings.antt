@@ -1,10 +1,11 @@
 -- Embeddings of the first elements of a matroid.
-use Rattle.std.proofs.Common.{◌≡◌, ◌≢◌, ◌↔◌, ℕ, suc, ◌+◌, ◌-◌, ◌^◌, ◌<◌, ◌≤◌, refl, sym, ◌∙◌, ap, subst, arith, Bool, true, false, inl, inr, ◌||◌, List, [], ◌∷◌, ◌++◌, lit<, Option}
+use Rattle.std.proofs.Common.{◌≡◌, ◌≢◌, ◌↔◌, ℕ, suc, ◌+◌, ◌-◌, ◌^◌, ◌<◌, ◌≤◌, refl, sym, ◌∙◌, ap, subst, arith, Bool, true, false, inl, inr, ◌||◌, List, [], ◌∷◌, ◌++◌, lit<}
 use Rattle.std.specs.List.{Contains}
 use Rattle.std.specs.Bool.{◌==◌}
 use Rattle.std.proofs.lemmas.Bool.{cases_lt}
 use Rattle.std.proofs.Math.Nat.{pow-le-pow_right, two-pow-succ}
 use Rattle.std.proofs.lemmas.Nat.Bits.{bit_at_above}
+use Rattle.minor_test.specs.declared.search.Search.{Search}
 use Rattle.minor_test.specs.Twins.{KeepsOrder}
 use Rattle.matroid_theory.specs.Matrix.{size_below}
 use Rattle.matroid_theory.specs.Rep.{Rep, size}
@@ -12,12 +13,12 @@ use Rattle.matroid_theory.specs.Matroid.{members, IsBasis}
 use Rattle.matroid_theory.specs.Minor.{Matroid, image, IsMinorBy}
 use Rattle.matrix_lemmas.proofs.Masks.{mask, members-mask, size-same, IsBasis-same}
 use Rattle.matrix_lemmas.proofs.Bases.{size_most}
-use Rattle.minor_test.specs.Searches.{first, BeginsWith, image_with}
+use Rattle.minor_test.specs.Searches.{first, BeginsWith, Embeds, image_with}
 use Rattle.minor_test.proofs.Images.{image-same, image_narrower, size_image_with}
 
--- no embedding that keeps the order of these twins begins with these images and this one
-abbrev pub IsDone : Matroid → Rep → List (Option ℕ) → ℕ → List ℕ → ℕ → Type 0
-IsDone N M twins C images j = (f : ℕ → ℕ) → BeginsWith (images ++ j ∷ []) f → KeepsOrder twins f → ¬ (IsMinorBy N M f (members C))
+-- no embedding that keeps the order of twins begins with these images and this one
+abbrev pub IsDone : Search → List ℕ → ℕ → Type 0
+IsDone search images j = (f : ℕ → ℕ) → BeginsWith (images ++ j ∷ []) f → KeepsOrder search.twins.now.items f → ¬ (Embeds search f)
 
 -- what a set is a basis exactly with
 pub basis_iff : {P : Type 0} (M : Rep) (S T : ℕ → Bool) → ((j : ℕ) → j < size M → S j ≡ T j) → P ↔ IsBasis M 0 S → P ↔ IsBasis M 0 T

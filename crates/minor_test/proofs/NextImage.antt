@@ -13,10 +13,10 @@ use Rattle.matroid_theory.specs.Matroid.{members, IsBasis}
 use Rattle.matroid_theory.specs.Minor.{Matroid, image, IsMinorBy}
 use Rattle.matrix_lemmas.proofs.Sums.{same_number, other_number}
 use Rattle.matrix_lemmas.proofs.Masks.{IsBasis-same}
-use Rattle.minor_test.specs.declared.search.Tables.{Tables}
 use Rattle.minor_test.specs.declared.search.Images.{Images}
 use Rattle.matroid_theory.specs.Tables.{has}
-use Rattle.minor_test.specs.Searches.{first, AgreeBelow, AreTables, AreImagesOf, image_with, CarriesNext}
+use Rattle.minor_test.specs.Tables.{HasBases, HasMasks}
+use Rattle.minor_test.specs.Searches.{first, AgreeBelow, AreImagesOf, image_with, CarriesNext}
 use Rattle.minor_test.proofs.Images.{image-same, image_narrower, image_has, image_lacks, image_with_next}
 use Rattle.minor_test.proofs.Embeddings.{embedding-same, one_more_embedded}
 
@@ -102,15 +102,25 @@ module _ (N : Matroid) (M : Rep) (C n : ℕ) (images : Images) (sets : List ℕ)
       mask_below : (X : ℕ) → X < 2 ^ n → bit_or (slice_index sets X) (2 ^ j) < 2 ^ size M
       mask_below X m = or_lt (size M) (slice_index sets X) (2 ^ j) (h.sets_below X m) (pow_below j (size M) l)
 
-      module _ (tables : Tables) (t : AreTables N M tables) (room : 2 ^ suc n ≤ 2 ^ 16) where
-        in_minor : (X : ℕ) → X < 2 ^ n → IsTrue (has tables.minor.now.words (2 ^ n + X)) ↔ Contains N.bases (2 ^ n + X)
-        in_minor X m = t.minor.exact (2 ^ n + X) (let d : 2 ^ suc n ≡ 2 ^ n + 2 ^ n = two-pow-succ n in omega arith)
+      -- an image is new
+      pub next_free : IsMinorBy (first N (n + 1)) M new (members C) → members images.used j ≡ false
+      next_free g =
+          h.used j l
+          ∙ ap (λ a. a || members C j)
+          (image_lacks n old (λ _. true) j
+          (λ x m s. absurd (let i : x ≡ n = g.injection.apart x n (omega arith) (omega arith)
+          (new_before x m ∙ s ∙ sym new_last) in omega arith)))
+          ∙ ap (members C) (sym new_last) ∙ g.outside n (omega arith)
+
+      module _ (minor whole : List ℕ) (has_masks : HasMasks N.bases minor) (has_bases : HasBases M whole) (room : 2 ^ suc n ≤ 2 ^ 16) where
+        in_minor : (X : ℕ) → X < 2 ^ n → IsTrue (has minor (2 ^ n + X)) ↔ Contains N.bases (2 ^ n + X)
+        in_minor X m = has_masks.exact (2 ^ n + X) (let d : 2 ^ suc n ≡ 2 ^ n + 2 ^ n = two-pow-succ n in omega arith)
 
         in_whole : (X : ℕ) → X < 2 ^ n →
-            IsTrue (has tables.whole.now.words (bit_or (slice_index sets X) (2 ^ j))) ↔ IsBasis M 0
+            IsTrue (has whole (bit_or (slice_index sets X) (2 ^ j))) ↔ IsBasis M 0
             (image_with (suc n) new (members C) (members (2 ^ n + X)))
         in_whole X m =
-            let w = t.whole.exact (bit_or (slice_index sets X) (2 ^ j)) (mask_below X m) in (
+            let w = has_bases.exact (bit_or (slice_index sets X) (2 ^ j)) (mask_below X m) in (
               (λ y. IsBasis-same M 0 (members (bit_or (slice_index sets X) (2 ^ j)))
                   (image_with (suc n) new (members C) (members (2 ^ n + X))) (λ i o. mask_top X i m o) (w.0 y)),
               (λ b. w.1 (IsBasis-same M 0 (image_with (suc n) new (members C) (members (2 ^ n + X)))
@@ -118,7 +128,7 @@ module _ (N : Matroid) (M : Rep) (C n : ℕ) (images : Images) (sets : List ℕ)
             )
 
         -- what is tested
-        pub next_from : members images.used j ≡ false → CarriesNext tables (2 ^ n) sets j → IsMinorBy (first N (n + 1)) M new (members C)
+        pub next_from : members images.used j ≡ false → CarriesNext minor whole (2 ^ n) sets j → IsMinorBy (first N (n + 1)) M new (members C)
         next_from free c = subst (λ (y : ℕ). IsMinorBy (first N y) M new (members C)) (sym (add-one n)) (
             let (unreached, out) = or_parts (image n old (λ _. true) j) (members C j) (sym (h.used j l) ∙ free) in
             one_more_embedded N M n new (members C) (subst (λ (y : ℕ). y < size M) (sym new_last) l) (ap (members C) new_last ∙ out)
@@ -129,18 +139,9 @@ module _ (N : Matroid) (M : Rep) (C n : ℕ) (images : Images) (sets : List ℕ)
             ))
             (embedding-same (first N n) M old new (members C) (λ x m. sym (new_before x m)) h.embedding))
 
-        pub next_free : IsMinorBy (first N (n + 1)) M new (members C) → members images.used j ≡ false
-        next_free g =
-            h.used j l
-            ∙ ap (λ a. a || members C j)
-            (image_lacks n old (λ _. true) j
-            (λ x m s. absurd (let i : x ≡ n = g.injection.apart x n (omega arith) (omega arith)
-            (new_before x m ∙ s ∙ sym new_last) in omega arith)))
-            ∙ ap (members C) (sym new_last) ∙ g.outside n (omega arith)
-
-        pub next_carries : IsMinorBy (first N (n + 1)) M new (members C) → CarriesNext tables (2 ^ n) sets j
+        pub next_carries : IsMinorBy (first N (n + 1)) M new (members C) → CarriesNext minor whole (2 ^ n) sets j
         next_carries g X o =
-            same_from_iff (has tables.minor.now.words (2 ^ n + X)) (has tables.whole.now.words (bit_or (slice_index sets X) (2 ^ j)))
+            same_from_iff (has minor (2 ^ n + X)) (has whole (bit_or (slice_index sets X) (2 ^ j)))
             (in_minor X o) (in_whole X o)
             ((subst (λ (y : ℕ). IsMinorBy (first N y) M new (members C)) (add-one n) g).bases (2 ^ n + X)
             (let d : 2 ^ suc n ≡ 2 ^ n + 2 ^ n = two-pow-succ n in omega arith))

@@ -3,12 +3,9 @@ use Rattle.std.specs.Prelude.{ℕ, ◌<◌, ◌≤◌, ◌≡◌, ◌+◌, ◌^�
 use Rattle.matroid_theory.specs.Rep.{Rep, size}
 use Rattle.matroid_theory.specs.Matroid.{members}
 use Rattle.matroid_theory.specs.Minor.{Matroid, image, IsMinorBy}
-use Rattle.bases.specs.FactorColumns.{IsFactorOf}
-use Rattle.minor_test.specs.declared.search.Tables.{Tables}
-use Rattle.minor_test.specs.declared.search.Images.{Images}
 use Rattle.matroid_theory.specs.Tables.{has}
-use Rattle.minor_test.specs.Tables.{HasBases, HasMasks}
-use Rattle.minor_test.specs.Twins.{AreTwinsOf}
+use Rattle.minor_test.specs.declared.search.Search.{Search}
+use Rattle.minor_test.specs.declared.search.Images.{Images}
 
 -- N with its first k elements alone, and the bases that lie within them
 abbrev pub first : Matroid → ℕ → Matroid
@@ -18,12 +15,9 @@ first N k = record N { size = k }
 abbrev pub BeginsWith : List ℕ → (ℕ → ℕ) → Type 0
 BeginsWith images f = (x : ℕ) → x < length images → f x ≡ slice_index images x
 
--- the tables of the bases of both, the columns of M, and twins of N
-pub record AreTables (N : Matroid) (M : Rep) (tables : Tables) : Type 0 where
-  pub minor : HasMasks N.bases tables.minor.now.words
-  pub whole : HasBases M tables.whole.now.words
-  pub columns : IsFactorOf M 0 tables.columns.now.field tables.columns.now.columns.items
-  pub twins : AreTwinsOf N tables.twins.now.items
+-- with these images, the matroid that a search is for is a minor of the whole one
+abbrev pub Embeds : Search → (ℕ → ℕ) → Type 0
+Embeds search f = IsMinorBy search.sought.now search.whole.now f (members search.contracted)
 
 -- f(X) together with C, for X a set of numbers below n
 abbrev pub image_with : ℕ → (ℕ → ℕ) → (ℕ → Bool) → (ℕ → Bool) → ℕ → Bool
@@ -39,17 +33,18 @@ pub record AreImagesOf (N : Matroid) (M : Rep) (C n : ℕ) (images : Images) (se
   pub sets_are : (X : ℕ) → X < 2 ^ n → (j : ℕ) → j < size M →
       members (slice_index sets X) j ≡ image_with n (slice_index images.list.items) (members C) (members X) j
 
-abbrev pub AreImages : Matroid → Rep → ℕ → Images → List ℕ → Type 0
-AreImages N M C images sets = AreImagesOf N M C (length images.list.items) images sets
+abbrev pub AreImages : Search → Images → List ℕ → Type 0
+AreImages search images sets = AreImagesOf search.sought.now search.whole.now search.contracted (length images.list.items) images sets
 
 -- two lists agree below a place
 abbrev pub AgreeBelow : ℕ → List ℕ → List ℕ → Type 0
 AgreeBelow n sets others = (X : ℕ) → X < n → slice_index others X ≡ slice_index sets X
 
 -- the next element may have this image
-abbrev pub IsNext : Matroid → Rep → ℕ → List ℕ → ℕ → Type 0
-IsNext N M C images j = IsMinorBy (first N (length images + 1)) M (slice_index (images ++ j ∷ [])) (members C)
+abbrev pub IsNext : Search → List ℕ → ℕ → Type 0
+IsNext search images j =
+    IsMinorBy (first search.sought.now (length images + 1)) search.whole.now (slice_index (images ++ j ∷ [])) (members search.contracted)
 
--- of n sets of elements, each with the next element is a basis exactly where its image with the contracted set is one
-abbrev pub CarriesNext : Tables → ℕ → List ℕ → ℕ → Type 0
-CarriesNext tables n sets j = (X : ℕ) → X < n → has tables.minor.now.words (n + X) ≡ has tables.whole.now.words (bit_or (slice_index sets X) (2 ^ j))
+-- of n sets of elements, each with the next element is in the one table exactly where its image with the contracted set is in the other
+abbrev pub CarriesNext : List ℕ → List ℕ → ℕ → List ℕ → ℕ → Type 0
+CarriesNext minor whole n sets j = (X : ℕ) → X < n → has minor (n + X) ≡ has whole (bit_or (slice_index sets X) (2 ^ j))

@@ -1,5 +1,6 @@
 // A matroid that is sought as a minor, made ready.
 ghost use Rattle.std.specs.Prelude.{◌≡◌};
+ghost use Rattle.named_matroids.specs.SmallMatroids.{IsSmallMatroid};
 ghost use Rattle.minor_test.specs.Tables.{HasMasks};
 ghost use Rattle.minor_test.specs.Twins.{AreTwinsOf};
 
@@ -48,6 +49,27 @@ impl Sought {
         ensures { result.now ≡ self.now }
     {
         &self.minor
+    }
+
+    /// What holds of each matroid of few elements.
+    pub(crate) fn laws(&self)
+        ensures { IsSmallMatroid self.now }
+    {
+        self.minor.laws();
+    }
+
+    /// The number of its elements.
+    pub(crate) fn size(&self) -> usize
+        ensures { result ≡ self.now.size }
+    {
+        self.minor.size()
+    }
+
+    /// Its rank.
+    pub(crate) fn rank(&self) -> usize
+        ensures { result ≡ self.now.rank }
+    {
+        self.minor.rank()
     }
 
     /// The table of its bases.

@@ -1,5 +1,6 @@
 // A representation in which minors are sought, made ready.
 ghost use Rattle.std.specs.Prelude.{◌≡◌};
+ghost use Rattle.matroid_theory.specs.Rep.{size, KeepsLimits};
 ghost use Rattle.bases.specs.FactorColumns.{IsFactorOf};
 ghost use Rattle.minor_test.specs.Tables.{HasBases};
 
@@ -49,6 +50,27 @@ impl<'a> Whole<'a> {
         ensures { result.now ≡ self.now }
     {
         self.rep
+    }
+
+    /// What holds of each representation.
+    pub(crate) fn laws(&self)
+        ensures { KeepsLimits self.now }
+    {
+        self.rep.laws();
+    }
+
+    /// The number of its columns.
+    pub(crate) fn size(&self) -> usize
+        ensures { result ≡ size self.now }
+    {
+        self.rep.size()
+    }
+
+    /// Its rank.
+    pub(crate) fn rank(&self) -> usize
+        ensures { result ≡ self.now.rank }
+    {
+        self.rep.rank()
     }
 
     /// The columns of its first factor.

@@ -4,4 +4,4 @@ use Rattle.minor_test.proofs.search.carries_next.Given as goal
 
 abbrev pub invariant-loop-place : goal.invariant-loop-place
 invariant-loop-place l = (X : ℕ) → X < l.place →
-    has l.tables.minor.now.words (length l.sets + X) ≡ has l.tables.whole.now.words (bit_or (slice_index l.sets X) (2 ^ l.image))
+    has l.minor.words (length l.sets + X) ≡ has l.whole.words (bit_or (slice_index l.sets X) (2 ^ l.image))

@@ -5,20 +5,20 @@ use Rattle.arrayvec.specs.ArrayVec.{ArrayVec}
 use Rattle.matroid_theory.specs.Rep.{size}
 use Rattle.matroid_theory.specs.Matroid.{members}
 use Rattle.matroid_theory.specs.Minor.{IsMinorBy}
-use Rattle.minor_test.specs.Searches.{first, BeginsWith}
+use Rattle.minor_test.specs.Searches.{first, BeginsWith, Embeds}
 use Rattle.minor_test.specs.Twins.{KeepsOrder}
 use Rattle.minor_test.proofs.Embeddings.{IsDone}
 use Rattle.minor_test.proofs.Covered.{begins_next, next_of}
-use Rattle.minor_test.proofs.search.+complete.Goals as goal
-use Rattle.minor_test.proofs.search.+complete.Goals.{then-is_next+else-is_some, else-is_next}
+use Rattle.minor_test.proofs.search.Search.+complete.Goals as goal
+use Rattle.minor_test.proofs.search.Search.+complete.Goals.{then-is_next+else-is_some, else-is_next}
 
 pub returns-then-len-size-clause-found : goal.returns-then-len-size-clause-found
 returns-then-len-size-clause-found t c =
-    let e : length c.args.images.now.list.items ≡ c.args.minor.now.size = sym c.len.ensures.value ∙ c.if-len-size.true ∙ c.size.ensures.value in
-    subst (λ (xs : List ℕ). IsMinorBy c.args.minor.now c.args.rep.now (slice_index xs) (members c.args.contracted))
+    let e : length c.args.images.now.list.items ≡ c.args.self.now.sought.now.size = sym c.len.ensures.value ∙ c.if-len-size.true ∙ c.size.ensures in
+    subst (λ (xs : List ℕ). Embeds c.args.self.now (slice_index xs))
     (sym (c.list_of.ensures ∙ c.as_slice.ensures.value))
-    (subst (λ (n : ℕ). IsMinorBy (first c.args.minor.now n) c.args.rep.now (slice_index c.args.images.now.list.items)
-    (members c.args.contracted)) e c.requires.images.embedding)
+    (subst (λ (n : ℕ). IsMinorBy (first c.args.self.now.sought.now n) c.args.self.now.whole.now (slice_index c.args.images.now.list.items)
+    (members c.args.self.now.contracted)) e c.requires.images.embedding)
 
 -- there are elements without an image
 room : (n s len size : ℕ) → n ≤ s → len ≡ n → size ≡ s → ¬ (len ≡ size) → n < s
@@ -37,15 +37,15 @@ longer_below X longer list j e l =
 pub loop-image-preserved : goal.loop-image-preserved
 loop-image-preserved t c = record {
   done = below_more (λ j. c.first_image-first.result ≤ j →
-      IsDone c.args.minor.now c.args.rep.now c.args.tables.now.twins.now.items c.args.contracted c.args.images.now.list.items j)
+      IsDone c.args.self.now c.args.images.now.list.items j)
       c.loop-image.image c.loop-image.invariant.done
       (λ _ f b k h. elim c.if-is_next.branch [
         | then-is_next+else-is_some w ↦ w.complete-found.ensures.none (nothing w.complete-found.result (sym w.is_some.ensures ∙ w.if-is_some.false)) f
             (subst (λ (xs : List ℕ). BeginsWith xs f) (sym w.with_next-longer.ensures.list) b) k h
         | else-is_next w ↦ false≢true (sym w.if-is_next.false ∙ c.is_next.ensures.1
-            (next_of c.args.minor.now c.args.rep.now c.args.contracted c.args.images.now.list.items c.loop-image.image f
-            (room (length c.args.images.now.list.items) c.args.minor.now.size c.len.result c.size.result c.requires.images.few
-            c.len.ensures.value c.size.ensures.value c.if-len-size.false) b h))
+            (next_of c.args.self.now c.args.images.now.list.items c.loop-image.image f
+            (room (length c.args.images.now.list.items) c.args.self.now.sought.now.size c.len.result c.size.result c.requires.images.few
+            c.len.ensures.value c.size.ensures c.if-len-size.false) b h))
       ]);
   kept = λ X l. elim c.if-is_next.branch [
     | then-is_next+else-is_some w ↦ ap (λ (xs : List ℕ). slice_index xs X) w.sets-is
@@ -66,13 +66,13 @@ least first images list twins items f e d h =
 
 pub returns-clause-none : goal.returns-clause-none
 returns-clause-none t c _ f b k h =
-    let l : length c.args.images.now.list.items < c.args.minor.now.size =
-    room (length c.args.images.now.list.items) c.args.minor.now.size c.len.result c.size.result c.requires.images.few
-    c.len.ensures.value c.size.ensures.value c.if-len-size.false in
-    let m : f (length c.args.images.now.list.items) < size c.args.rep.now = h.injection.below (length c.args.images.now.list.items) l in
-    let e : c.size-image-end.result ≡ size c.args.rep.now = c.size-image-end.ensures.value in
+    let l : length c.args.images.now.list.items < c.args.self.now.sought.now.size =
+    room (length c.args.images.now.list.items) c.args.self.now.sought.now.size c.len.result c.size.result c.requires.images.few
+    c.len.ensures.value c.size.ensures c.if-len-size.false in
+    let m : f (length c.args.images.now.list.items) < size c.args.self.now.whole.now = h.injection.below (length c.args.images.now.list.items) l in
+    let e : c.size-image-end.result ≡ size c.args.self.now.whole.now = c.size-image-end.ensures in
     let g : c.size-image-end.result ≤ c.loop-image.image = c.loop-image-test.false in
     c.loop-image.invariant.done (f (length c.args.images.now.list.items)) (omega arith)
     (least c.first_image-first.result c.as_slice-3.result.now c.args.images.now.list.items c.as_slice-2.result.now
-    c.args.tables.now.twins.now.items f c.as_slice-3.ensures.value c.as_slice-2.ensures.value (c.first_image-first.ensures f) b k)
+    c.args.self.now.twins.now.items f c.as_slice-3.ensures.value c.as_slice-2.ensures.value (c.first_image-first.ensures f) b k)
     f (begins_next c.args.images.now.list.items f b) k h
