@@ -90,7 +90,7 @@ fn closed_level<R: Threads + Wait + Sync, G: Gate + Sync>(
         &mut seated,
     );
     let answers = unseat(seated, &mut passes, &mut shifts);
-    // The proof learns here that each parent was taken just once.
+    // Together the shifts took each parent just once.
     let _taken = finish(shifts);
     let Some(tried) = total_of(answers.as_slice()) else {
         return Err(AllocError);
