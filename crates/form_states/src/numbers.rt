@@ -4,22 +4,24 @@ ghost use Rattle.std.specs.Cmp.Lexicographic.{slice_cmp};
 ghost use Rattle.std.specs.Ordering.{nat_cmp};
 ghost use Rattle.std.specs.declared.cmp.Ordering.TheVariants.{Less};
 
-use arrayvec::ArrayVec;
 use std::cmp::Ordering;
 use std::marker::Model;
 
-/// The numbers of at most 16 columns, in order. Contracts see the list of numbers.
+/// The numbers of at most 16 columns, in order. Contracts see the list of numbers. What stands after the last one doesn't count.
 #[derive(Drop)]
 pub struct Numbers {
-    numbers: ArrayVec<u128, 16>,
+    numbers: [u128; 16],
+    count: usize,
 }
 
 impl Model for Numbers {
-    ghost use Rattle.std.specs.Prelude.{ℕ, List, ◌≤◌, length};
+    ghost use Rattle.std.specs.Prelude.{ℕ, List, ◌≤◌, take};
 
     ghost Value = { List ℕ };
 
-    ghost view = { λ s. s.numbers.items };
+    ghost view = { λ s. take s.count s.numbers };
+
+    ghost invariant = { λ s. s.count ≤ 16 };
 }
 
 impl Numbers {
@@ -28,7 +30,8 @@ impl Numbers {
         ensures { result ≡ [] }
     {
         Numbers {
-            numbers: ArrayVec::new(),
+            numbers: [0; 16],
+            count: 0,
         }
     }
 
@@ -37,7 +40,7 @@ impl Numbers {
         ensures count { result ≡ length self.now }
         ensures few { length self.now ≤ 16 }
     {
-        self.numbers.len()
+        self.count
     }
 
     /// The number at this place.
@@ -45,18 +48,17 @@ impl Numbers {
         requires { place < length self.now }
         ensures { result ≡ slice_index self.now place }
     {
-        self.numbers[place]
+        self.as_slice()[place]
     }
 
     /// The same numbers.
     pub fn copy(&self) -> Numbers
         ensures { result ≡ self.now }
     {
-        let mut numbers = ArrayVec::new();
-        for number in self.numbers.as_slice() {
-            numbers.push(*number);
+        Numbers {
+            numbers: self.numbers,
+            count: self.count,
         }
-        Numbers { numbers }
     }
 
     /// The numbers with one more at the end.
@@ -64,15 +66,25 @@ impl Numbers {
         requires { length self.now < 16 }
         ensures { result ≡ self.now ++ last ∷ [] }
     {
-        let mut longer = self.copy();
-        longer.numbers.push(last);
-        longer
+        let mut numbers = self.numbers;
+        numbers[self.count] = last;
+        Numbers {
+            numbers,
+            count: self.count + 1,
+        }
     }
 
     /// Whether the numbers come before others, compared from the first on.
     pub fn is_below(&self, other: &Numbers) -> bool
         ensures { (result ≡ true) → slice_cmp nat_cmp self.now other.now ≡ Less }
     {
-        self.numbers.as_slice().cmp(other.numbers.as_slice()) == Ordering::Less
+        self.as_slice().cmp(other.as_slice()) == Ordering::Less
+    }
+
+    /// The numbers.
+    fn as_slice(&self) -> &[u128]
+        ensures { result.now ≡ self.now }
+    {
+        &self.numbers[..self.count]
     }
 }
