@@ -1,6 +1,6 @@
 // Reads and writes that fail.
 use crate::resume::run;
-use crate::rows::{TO_FIVE, TO_FOUR};
+use crate::binary::{TO_FIVE, TO_FOUR};
 use resume_run::ResumeStatus;
 use std::test::Fail;
 

@@ -2,10 +2,10 @@
 #![tactic(auto)]
 
 #[cfg(test)]
+mod binary;
+#[cfg(test)]
 mod cuts;
 #[cfg(test)]
 mod faults;
 #[cfg(test)]
 mod resume;
-#[cfg(test)]
-mod rows;
