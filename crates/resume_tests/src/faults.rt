@@ -1,6 +1,6 @@
 // Reads and writes that fail.
-use crate::resume::run;
 use crate::binary::{TO_FIVE, TO_FOUR};
+use crate::resume::run;
 use resume_run::ResumeStatus;
 use std::test::Fail;
 
