@@ -3,10 +3,13 @@
 
 mod key;
 mod order;
+mod rows;
 mod set;
+mod steps;
 mod table;
 
 pub use key::Key;
-pub use rows::{Rows, Steps};
+pub use rows::Rows;
 pub use set::LinkSet;
 pub use std::alloc::AllocError as NoMemory;
+pub use steps::Steps;

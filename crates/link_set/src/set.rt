@@ -7,8 +7,9 @@ ghost use Rattle.link_set.specs.Room.{HasRoom, IsBlank};
 ghost use Rattle.link_set.specs.Contents.{Contents, heads_after};
 
 use crate::key::Key;
+use crate::rows::Rows;
+use crate::steps::Steps;
 use crate::table::{Heads, Table, move_some, stands};
-use rows::{Rows, Steps};
 use std::alloc::{AllocError, Global};
 use std::marker::{Brand, Model};
 use std::mem;

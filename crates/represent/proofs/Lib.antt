@@ -1,3 +1,4 @@
+mod TableMasks
 mod Places
 mod FilledMatrices
 mod Completing

@@ -1,3 +1,4 @@
+pub mod Tables
 pub mod Sought
 pub mod Filled
 pub mod Kept

@@ -9,8 +9,8 @@ ghost use Rattle.represent.specs.Sought.{matroid_of, IsSought};
 
 use crate::fill::fill;
 use crate::matrix::filled;
+use crate::table::{bases_of, table_of};
 use crate::target::{Codes, Target};
-use base_tables::{bases_of, table_of};
 use field_tables::Field;
 use named_matroids::Minor;
 use product_rep::Rep;

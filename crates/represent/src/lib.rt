@@ -10,6 +10,7 @@ mod free;
 mod laws;
 mod least;
 mod matrix;
+mod table;
 mod target;
 mod told;
 

@@ -1,7 +1,7 @@
 //! What a search looks for.
 
+use crate::table::Table;
 use arrayvec::ArrayVec;
-use base_tables::Table;
 
 /// A matrix is sought over the field of this order, of this rank and size, with these bases.
 #[derive(Drop)]

@@ -7,3 +7,4 @@ pub mod Whole
 pub mod Held
 pub mod FromKeys
 pub mod Ended
+pub mod Sending

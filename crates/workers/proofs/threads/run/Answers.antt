@@ -9,7 +9,7 @@ use Rattle.std.proofs.sync.atomic.AtomicBool.TheSendSync as flags
 use Rattle.request_reader.proofs.request.Request.TheSendSync as requests
 use Rattle.level_driver.proofs.form_list.FormList.TheSendSync as forms
 use Rattle.workers.specs.contracts.worker.Worker as worker
-use Rattle.crossing.proofs.Sending.{closure_sync, seen, seen_with}
+use Rattle.workers.proofs.Sending.{closure_sync, seen, seen_with}
 use Rattle.workers.proofs.threads.run.Goals as goal
 
 worker_send : IsSend worker.the_row
