@@ -80,10 +80,7 @@ fn take_all<R: Wait + Sync>(
     let mut turn = turn;
     let mut taken = taken;
     for at in 0..count {
-        let stripe = turns.lock(rt, &mut turn, at);
-        let Ok(()) = taken.push(stripe) else {
-            unreachable!()
-        };
+        taken.push_reserved(turns.lock(rt, &mut turn, at));
     }
     taken
 }
@@ -136,9 +133,7 @@ fn end_all(
         let Some(stripe) = taken.next() else {
             unreachable!()
         };
-        let Ok(()) = room.push(end_one(table, stripe)) else {
-            unreachable!()
-        };
+        room.push_reserved(end_one(table, stripe));
     }
     room
 }

@@ -1,4 +1,5 @@
 ghost use Rattle.std.specs.Prelude.{◌≡◌, ◌<◌, ◌≤◌, [], IfOk, length, replicate};
+ghost use Rattle.stripe_book.specs.Seen.{EachLeft};
 ghost use Rattle.class_store.specs.declared.closed.ClosedStripe.{ClosedStripe};
 ghost use Rattle.class_store.specs.Closed.{IsReplayed, histories_of};
 ghost use Rattle.class_store.specs.Seen.{fresh_passes};
@@ -11,7 +12,7 @@ use crate::pass::Pass;
 use link_set::LinkSet;
 use std::alloc::{AllocError, Global};
 use std::marker::Model;
-use stripe_book::open_stripe;
+use stripe_book::{Book, StripeTable, open_stripe};
 use stripe_turn::Stripe;
 
 /// A number of stripes, from 1 to 64, and the level that was closed last, which has as many.
@@ -94,15 +95,25 @@ fn empty_stripe(alloc: Global) -> Result<ClosedStripe, AllocError>
     ensures empty { IfOk result (λ c. c.ended.history ≡ []) }
 {
     let set = LinkSet::new(alloc)?;
-    let (table, mut book, mut callers) = open_stripe(alloc, 1)?;
-    let Some(caller) = callers.pop() else {
-        unreachable!()
-    };
-    table.leave(&mut book, caller);
+    let (table, book) = left_stripe(alloc)?;
     let stripe = Stripe {
         set,
         book,
         entries: 0,
     };
     Ok(end_one(table, stripe))
+}
+
+// The table and the book of a stripe that its one caller has left.
+fn left_stripe(alloc: Global) -> Result<(StripeTable, Book), AllocError>
+    ensures table { IfOk result (λ r. r.1.table ≡ r.0.table) }
+    ensures left { IfOk result (λ r. EachLeft r.0.callers r.1.left) }
+    ensures empty { IfOk result (λ r. r.1.history ≡ []) }
+{
+    let (table, mut book, mut callers) = open_stripe(alloc, 1)?;
+    let Some(caller) = callers.pop() else {
+        unreachable!()
+    };
+    table.leave(&mut book, caller);
+    Ok((table, book))
 }

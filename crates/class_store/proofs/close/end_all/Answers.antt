@@ -6,9 +6,9 @@ use Rattle.class_store.proofs.close.end_all.Goals as goal
 
 pub loop-preserved : goal.loop-preserved
 loop-preserved c = let i = c.loop.invariant in (
-  ended_next _ _ _ c.in-Some-next.stripe _ _ c.end_one.result i.0 c.in-Some-next.ensures.items c.in-Ok.ensures.items c.end_one.ensures.ended,
+  ended_next _ _ _ c.in-Some-next.stripe _ _ c.end_one.result i.0 c.in-Some-next.ensures.items c.push_reserved.ensures.items c.end_one.ensures.ended,
   may_end_next _ _ c.in-Some.table _ _ c.in-Some-next.stripe i.1 c.in-Some.ensures.items c.in-Some-next.ensures.items,
-  settled_next _ _ _ c.in-Some.table _ _ c.end_one.result i.2 c.in-Some.ensures.items c.in-Ok.ensures.items c.end_one.ensures.settled,
+  settled_next _ _ _ c.in-Some.table _ _ c.end_one.result i.2 c.in-Some.ensures.items c.push_reserved.ensures.items c.end_one.ensures.settled,
   search rules,
   search rules,
   search rules,
