@@ -172,14 +172,39 @@ fn batches_are_offered_in_their_order(rt: HostRuntime) -> Result<(), Fail> {
     Ok(())
 }
 
+// A store of so many stripes.
+fn store_of(alloc: Global, stripes: usize) -> Result<ClassStore, NoMemory>
+    requires some { 0 < stripes }
+    requires few { stripes ≤ 64 }
+    ensures { IfOk result (λ store. store.stripes ≡ stripes) }
+{
+    ClassStore::new(alloc, stripes)
+}
+
+// A level of so many passes that is opened and closed: how many stripes and how many passes it had, and what is left.
+fn opened_and_closed<R: Wait + Sync>(
+    rt: &R,
+    alloc: Global,
+    store: &ClassStore,
+    passes: usize,
+) -> Result<(usize, usize, Closed), NoMemory>
+    requires some { 0 < passes }
+    requires few { passes ≤ 64 }
+    ensures { IfOk result (λ r. length r.2 ≡ store.now.stripes) }
+{
+    let (level, all) = store.open_level(alloc, passes)?;
+    let stripes = level.stripes();
+    let count = all.len();
+    Ok((stripes, count, level.close(rt, all)))
+}
+
 #[test]
 fn the_greatest_level_is_opened_and_closed(rt: HostRuntime) -> Result<(), Fail> {
     let alloc = rt.alloc();
-    let mut store = ClassStore::new(alloc, 64)?;
-    let (level, passes) = store.open_level(alloc, 64)?;
-    assert_eq!(rt; level.stripes(), 64);
-    assert_eq!(rt; passes.len(), 64);
-    let closed = level.close(&rt, passes);
+    let mut store = store_of(alloc, 64)?;
+    let (stripes, passes, closed) = opened_and_closed(&rt, alloc, &store, 64)?;
+    assert_eq!(rt; stripes, 64);
+    assert_eq!(rt; passes, 64);
     assert_eq!(rt; closed.rising(alloc)?.len(), 0);
     store.keep(closed);
     assert_eq!(rt; store.last().entries(63), 0);

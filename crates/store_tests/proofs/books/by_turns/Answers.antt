@@ -52,3 +52,74 @@ returns c =
     (one_entry key other) mine in
     ap (λ (b : BookSide). b.history) c.end.ensures.book
     ∙ (ap (λ (b : BookSide). b.history) c.leave-2.ensures ∙ (ap (λ (b : BookSide). b.history) c.leave.ensures ∙ three))
+
+pub call-requires-clause-book_table : goal.call-requires-clause-book_table
+call-requires-clause-book_table c =
+    ap (λ (b : BookSide). b.table) c.in_ok-table.ensures.book
+
+pub call-requires-clause-caller_table : goal.call-requires-clause-caller_table
+call-requires-clause-caller_table c =
+    let both = both_callers _ _ _ _ _ (sym c.in_ok-table.ensures.callers ∙ c.in-Some.ensures.items) c.in-Some-pop.ensures.items in
+    sym (ap (λ (k : CallerSide). k.table) both.0)
+
+pub call-requires-clause-idle : goal.call-requires-clause-idle
+call-requires-clause-idle c =
+    let both = both_callers _ _ _ _ _ (sym c.in_ok-table.ensures.callers ∙ c.in-Some.ensures.items) c.in-Some-pop.ensures.items in
+    sym (ap (λ (k : CallerSide). k.phase) both.0)
+
+pub call-requires-2-clause-book_table : goal.call-requires-2-clause-book_table
+call-requires-2-clause-book_table c =
+    ap (λ (b : BookSide). b.table) c.call.ensures.book ∙ (ap (λ (b : BookSide). b.table) c.in_ok-table.ensures.book)
+
+pub call-requires-2-clause-caller_table : goal.call-requires-2-clause-caller_table
+call-requires-2-clause-caller_table c =
+    let both = both_callers _ _ _ _ _ (sym c.in_ok-table.ensures.callers ∙ c.in-Some.ensures.items) c.in-Some-pop.ensures.items in
+    sym (ap (λ (k : CallerSide). k.table) both.1)
+
+pub call-requires-2-clause-idle : goal.call-requires-2-clause-idle
+call-requires-2-clause-idle c =
+    let both = both_callers _ _ _ _ _ (sym c.in_ok-table.ensures.callers ∙ c.in-Some.ensures.items) c.in-Some-pop.ensures.items in
+    sym (ap (λ (k : CallerSide). k.phase) both.1)
+
+pub call-requires-3-clause-book_table : goal.call-requires-3-clause-book_table
+call-requires-3-clause-book_table c =
+    ap (λ (b : BookSide). b.table) c.call-2.ensures.book ∙ (ap (λ (b : BookSide). b.table) c.call.ensures.book ∙ (ap (λ (b : BookSide). b.table) c.in_ok-table.ensures.book))
+
+pub call-requires-3-clause-caller_table : goal.call-requires-3-clause-caller_table
+call-requires-3-clause-caller_table c =
+    let both = both_callers _ _ _ _ _ (sym c.in_ok-table.ensures.callers ∙ c.in-Some.ensures.items) c.in-Some-pop.ensures.items in
+    ap (λ (k : CallerSide). k.table) c.call.ensures.caller ∙ sym (ap (λ (k : CallerSide). k.table) both.0)
+
+pub call-requires-3-clause-idle : goal.call-requires-3-clause-idle
+call-requires-3-clause-idle c =
+    ap (λ (k : CallerSide). k.phase) c.call.ensures.caller
+
+pub leave-requires-clause-book_table : goal.leave-requires-clause-book_table
+leave-requires-clause-book_table c =
+    ap (λ (b : BookSide). b.table) c.call-3.ensures.book ∙ (ap (λ (b : BookSide). b.table) c.call-2.ensures.book ∙ (ap (λ (b : BookSide). b.table) c.call.ensures.book ∙ (ap (λ (b : BookSide). b.table) c.in_ok-table.ensures.book)))
+
+pub leave-requires-clause-caller_table : goal.leave-requires-clause-caller_table
+leave-requires-clause-caller_table c =
+    let both = both_callers _ _ _ _ _ (sym c.in_ok-table.ensures.callers ∙ c.in-Some.ensures.items) c.in-Some-pop.ensures.items in
+    ap (λ (k : CallerSide). k.table) c.call-3.ensures.caller ∙ (ap (λ (k : CallerSide). k.table) c.call.ensures.caller ∙ sym (ap (λ (k : CallerSide). k.table) both.0))
+
+pub leave-requires-clause-idle : goal.leave-requires-clause-idle
+leave-requires-clause-idle c =
+    ap (λ (k : CallerSide). k.phase) c.call-3.ensures.caller
+
+pub leave-requires-2-clause-book_table : goal.leave-requires-2-clause-book_table
+leave-requires-2-clause-book_table c =
+    ap (λ (b : BookSide). b.table) c.leave.ensures ∙ (ap (λ (b : BookSide). b.table) c.call-3.ensures.book ∙ (ap (λ (b : BookSide). b.table) c.call-2.ensures.book ∙ (ap (λ (b : BookSide). b.table) c.call.ensures.book ∙ (ap (λ (b : BookSide). b.table) c.in_ok-table.ensures.book))))
+
+pub leave-requires-2-clause-caller_table : goal.leave-requires-2-clause-caller_table
+leave-requires-2-clause-caller_table c =
+    let both = both_callers _ _ _ _ _ (sym c.in_ok-table.ensures.callers ∙ c.in-Some.ensures.items) c.in-Some-pop.ensures.items in
+    ap (λ (k : CallerSide). k.table) c.call-2.ensures.caller ∙ sym (ap (λ (k : CallerSide). k.table) both.1)
+
+pub leave-requires-2-clause-idle : goal.leave-requires-2-clause-idle
+leave-requires-2-clause-idle c =
+    ap (λ (k : CallerSide). k.phase) c.call-2.ensures.caller
+
+pub end-requires-clause-table : goal.end-requires-clause-table
+end-requires-clause-table c =
+    ap (λ (b : BookSide). b.table) c.leave-2.ensures ∙ (ap (λ (b : BookSide). b.table) c.leave.ensures ∙ (ap (λ (b : BookSide). b.table) c.call-3.ensures.book ∙ (ap (λ (b : BookSide). b.table) c.call-2.ensures.book ∙ (ap (λ (b : BookSide). b.table) c.call.ensures.book ∙ (ap (λ (b : BookSide). b.table) c.in_ok-table.ensures.book)))))

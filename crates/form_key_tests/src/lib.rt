@@ -1,5 +1,0 @@
-//! Keys of forms on examples.
-#![tactic(auto)]
-
-#[cfg(test)]
-mod tests;

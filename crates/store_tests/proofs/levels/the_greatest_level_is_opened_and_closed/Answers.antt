@@ -1,6 +1,0 @@
-use Rattle.std.proofs.Common.{rules}
-use Rattle.store_tests.proofs.PutBack.{all_fresh}
-use Rattle.store_tests.proofs.levels.the_greatest_level_is_opened_and_closed.Goals as goal
-
-pub close-closed-requires : goal.close-closed-requires
-close-closed-requires g c = (search rules, all_fresh _ _ _ c.in_ok-level.ensures.level.1 c.in_ok-level.ensures.passes)
