@@ -1,3 +1,0 @@
-mod Turned
-mod Serving
-mod OneNew
