@@ -1,5 +1,0 @@
-use Rattle.steal_pool.proofs.Stays.{pool_stays}
-use Rattle.pool_tests.proofs.tests.times_taken.Goals as goal
-
-pub finish-requires : goal.finish-requires
-finish-requires g c = pool_stays _ _ c.in_ok-shifts.ensures.pool c.take_in_threads.ensures.same

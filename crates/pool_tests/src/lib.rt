@@ -1,5 +1,0 @@
-//! Tests of pools whose numbers workers take and steal.
-#![tactic(auto)]
-
-#[cfg(test)]
-mod tests;

@@ -1,0 +1,14 @@
+use denote.Exit.{no}
+use denote.Param.Send.{param_send, arg_send, shr_sync, shr_slice_sync}
+use Rattle.class_store.proofs.Crossing.{pass_send, level_sync}
+use Rattle.crossing.proofs.Sending.{closure_sync, seen, seen_with}
+use Rattle.thread_tests.proofs.callers.Caller.TheSendSync as caller
+use Rattle.thread_tests.proofs.callers.offer_all.Goals as goal
+
+pub for_each_mut-requires-send-T : goal.for_each_mut-requires-send-T
+for_each_mut-requires-send-T g c κs within = param_send 1 _ (arg_send _ no _ pass_send)
+
+pub for_each_mut-requires-sync-F : goal.for_each_mut-requires-sync-F
+for_each_mut-requires-sync-F g c κs within =
+    closure_sync 2 _ no _ (seen_with (shr_sync _ _ _ c.type_bounds.sync-R) (seen_with (shr_sync _ _ _ level_sync)
+    (seen_with (shr_slice_sync _ _ _ caller.the_sync) (seen (shr_sync _ _ _ c.type_bounds.sync-P)))))

@@ -1,5 +1,0 @@
-//! Growth by threads, run.
-#![tactic(auto)]
-
-#[cfg(test)]
-mod tests;
