@@ -1,12 +1,11 @@
 // The adapters over readers and writers that are slow, that give or take nothing, and that fail once.
-use outside::{Failed, ReadFrom, Sink, Source, TakeFault, WriteTo, put, take};
+use crate::sources::{gives, three_lines};
+use outside::{Failed, ReadFrom, Sink, TakeFault, WriteTo, put, take};
 use std::alloc::Global;
 use std::io;
 use std::io::{ErrorKind, Read, Write};
 use std::process::Abort;
 use std::test::Fail;
-
-const TEXT: &[u8; 22] = b"field 3\nrank 2\nsize 2\n";
 
 // Gives one byte a call, and fails at one of them (0: at none).
 #[derive(Drop)]
@@ -61,6 +60,14 @@ impl Write for SlowWriter {
     }
 }
 
+fn reader(failing: u64) -> SlowReader<'static> {
+    SlowReader {
+        left: three_lines(),
+        calls: 0,
+        failing,
+    }
+}
+
 fn writer(alloc: Global, most: usize, failing_write: u64, failing_flush: u64) -> SlowWriter {
     SlowWriter {
         taken: Vec::new(alloc),
@@ -72,60 +79,39 @@ fn writer(alloc: Global, most: usize, failing_write: u64, failing_flush: u64) ->
     }
 }
 
-// The source gives these bytes.
-fn gives<S: Source>(
-    rt: &impl Abort,
-    alloc: Global,
-    source: &mut S,
-    want: &[u8],
-) -> Result<(), Fail> {
-    let bytes = take(alloc, source, 100)?;
-    assert_eq!(rt; bytes.as_slice(), want);
-    Ok(())
-}
-
 #[test]
 fn reads_a_byte_at_a_time(rt: HostRuntime) -> Result<(), Fail> {
     let alloc = rt.alloc();
-    let mut source = ReadFrom::new(SlowReader {
-        left: TEXT,
-        calls: 0,
-        failing: 0,
-    });
-    gives(&rt, alloc, &mut source, TEXT)?;
-    gives(&rt, alloc, &mut source, b"")?;
-    gives(&rt, alloc, &mut ReadFrom::new(io::empty()), b"")
+    let mut source = ReadFrom::new(reader(0));
+    gives(&rt, alloc, &mut source, 100, three_lines())?;
+    gives(&rt, alloc, &mut source, 100, b"")?;
+    gives(&rt, alloc, &mut ReadFrom::new(io::empty()), 100, b"")
 }
 
 // A read that fails once is a fault, whatever was read before it, and what is left is given by the next calls.
+fn fails_once(rt: &impl Abort, alloc: Global, failing: u64, left: &[u8]) -> Result<(), Fail> {
+    let mut source = ReadFrom::new(reader(failing));
+    assert!(rt;
+        matches!(take(alloc, &mut source, 100), Err(TakeFault::Failed)),
+        "at {failing}"
+    );
+    gives(rt, alloc, &mut source, 100, left)
+}
+
 #[test]
 fn each_failed_read_is_a_fault(rt: HostRuntime) -> Result<(), Fail> {
     let alloc = rt.alloc();
-    for (failing, left) in [
-        (1, TEXT.as_slice()),
-        (3, b"eld 3\nrank 2\nsize 2\n"),
-        (22, b"\n"),
-        (23, b""),
-    ] {
-        let mut source = ReadFrom::new(SlowReader {
-            left: TEXT,
-            calls: 0,
-            failing,
-        });
-        assert!(rt;
-            matches!(take(alloc, &mut source, 100), Err(TakeFault::Failed)),
-            "at {failing}"
-        );
-        gives(&rt, alloc, &mut source, left)?;
-    }
-    Ok(())
+    fails_once(&rt, alloc, 1, three_lines())?;
+    fails_once(&rt, alloc, 3, b"eld 3\nrank 2\nsize 2\n")?;
+    fails_once(&rt, alloc, 22, b"\n")?;
+    fails_once(&rt, alloc, 23, b"")
 }
 
 #[test]
 fn writes_a_byte_at_a_time(rt: HostRuntime) -> Result<(), Fail> {
     let mut slow = writer(rt.alloc(), 1, 0, 0);
-    assert_eq!(rt; put(&mut WriteTo::new(&mut slow), TEXT), Ok(()));
-    assert_eq!(rt; slow.taken.as_slice(), TEXT.as_slice());
+    assert_eq!(rt; put(&mut WriteTo::new(&mut slow), three_lines()), Ok(()));
+    assert_eq!(rt; slow.taken.as_slice(), three_lines());
     assert_eq!(rt; (slow.writes, slow.flushes), (22, 22));
     Ok(())
 }
@@ -136,21 +122,38 @@ fn to_take_nothing_is_a_fault(rt: HostRuntime) -> Result<(), Fail> {
     let mut full = writer(rt.alloc(), 0, 0, 0);
     let mut sink = WriteTo::new(&mut full);
     assert_eq!(rt; sink.write(b""), Ok(0));
-    assert_eq!(rt; sink.write(TEXT), Err(Failed));
+    assert_eq!(rt; sink.write(three_lines()), Err(Failed));
     assert_eq!(rt; put(&mut sink, b""), Ok(()));
-    assert_eq!(rt; put(&mut sink, TEXT), Err(Failed));
+    assert_eq!(rt; put(&mut sink, three_lines()), Err(Failed));
     assert_eq!(rt; (full.writes, full.flushes), (2, 0));
+    Ok(())
+}
+
+// The writer fails at one write and at one flush (0: at none), and has taken so many bytes before.
+fn fails_to_put(
+    rt: &impl Abort,
+    alloc: Global,
+    write: u64,
+    flush: u64,
+    taken: usize,
+) -> Result<(), Fail> {
+    let mut slow = writer(alloc, 9, write, flush);
+    let mut sink = WriteTo::new(&mut slow);
+    assert_eq!(rt;
+        put(&mut sink, three_lines()),
+        Err(Failed),
+        "at {write}, {flush}"
+    );
+    assert_eq!(rt; put(&mut sink, b"end\n"), Ok(()));
+    let more = slow.taken.len().checked_sub(taken);
+    assert_eq!(rt; more, Some(4), "at {write}, {flush}");
     Ok(())
 }
 
 #[test]
 fn each_failed_write_or_flush_is_a_fault(rt: HostRuntime) -> Result<(), Fail> {
     for (write, flush, taken) in [(1, 0, 0), (2, 0, 9), (3, 0, 18), (0, 1, 9), (0, 3, 22)] {
-        let mut slow = writer(rt.alloc(), 9, write, flush);
-        let mut sink = WriteTo::new(&mut slow);
-        assert_eq!(rt; put(&mut sink, TEXT), Err(Failed), "at {write}, {flush}");
-        assert_eq!(rt; put(&mut sink, b"end\n"), Ok(()));
-        assert_eq!(rt; slow.taken.len(), taken + 4, "at {write}, {flush}");
+        fails_to_put(&rt, rt.alloc(), write, flush, taken)?;
     }
     Ok(())
 }

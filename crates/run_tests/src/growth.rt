@@ -2,6 +2,7 @@
 use level_driver::{first_level, grow_alone, listed, passes};
 use request_reader::read_request;
 use std::alloc::Global;
+use std::process::Abort;
 use std::test::Fail;
 
 // The number of forms, of those that are listed, and of tries of each size that the request asks for.
@@ -19,36 +20,51 @@ fn counts(alloc: Global, text: &str) -> Result<Vec<(usize, usize, u128)>, Fail> 
     Ok(counts)
 }
 
-#[test]
-fn forms_and_tries_of_each_size(rt: HostRuntime) -> Result<(), Fail> {
-    let table = [
+// Requests, and the numbers of each of their sizes.
+fn sizes() -> [(&'static str, &'static [(usize, usize, u128)]); 6] {
+    [
         (
             "rank 3\nfield 2\nsize 7\n",
-            &[(1, 1, 0), (2, 2, 4), (1, 1, 6), (1, 1, 2), (1, 1, 1)][..],
+            &[(1, 1, 0), (2, 2, 4), (1, 1, 6), (1, 1, 2), (1, 1, 1)],
         ),
         (
             "rank 3\nfield 2 x 3\nsize 7\n",
-            &[(1, 1, 0), (2, 2, 10), (1, 1, 9), (1, 1, 2), (0, 0, 0)][..],
+            &[(1, 1, 0), (2, 2, 10), (1, 1, 9), (1, 1, 2), (0, 0, 0)],
         ),
         (
             "rank 2\nfield 4 x 4\nsize 5\n",
-            &[(1, 1, 0), (1, 1, 9), (2, 2, 4), (2, 2, 2)][..],
+            &[(1, 1, 0), (1, 1, 9), (2, 2, 4), (2, 2, 2)],
         ),
         (
             "rank 3\nfield 2\nsize 7\nfilter 3conn\n",
-            &[(1, 0, 0), (2, 0, 4), (1, 0, 6), (1, 1, 2), (1, 1, 1)][..],
+            &[(1, 0, 0), (2, 0, 4), (1, 0, 6), (1, 1, 2), (1, 1, 1)],
         ),
         (
             "rank 3\nfield 2\nsize 7\nfilter has K4\n",
-            &[(1, 0, 0), (2, 0, 4), (1, 0, 6), (1, 1, 2), (1, 1, 1)][..],
+            &[(1, 0, 0), (2, 0, 4), (1, 0, 6), (1, 1, 2), (1, 1, 1)],
         ),
         (
             "rank 2\nfield 7\nsize 4\nfilter distinct\n",
-            &[(1, 1, 0), (1, 1, 6), (2, 1, 5)][..],
+            &[(1, 1, 0), (1, 1, 6), (2, 1, 5)],
         ),
-    ];
-    for (text, want) in table {
-        assert_eq!(rt; counts(rt.alloc(), text)?.as_slice(), want, "at {text:?}");
+    ]
+}
+
+// The request asks for these numbers.
+fn counted(
+    rt: &impl Abort,
+    alloc: Global,
+    text: &str,
+    want: &[(usize, usize, u128)],
+) -> Result<(), Fail> {
+    assert_eq!(rt; counts(alloc, text)?.as_slice(), want, "at {text:?}");
+    Ok(())
+}
+
+#[test]
+fn forms_and_tries_of_each_size(rt: HostRuntime) -> Result<(), Fail> {
+    for (text, want) in sizes() {
+        counted(&rt, rt.alloc(), text, want)?;
     }
     Ok(())
 }

@@ -1,4 +1,6 @@
 // Sources and sinks.
+use crate::alone::flow;
+use crate::resume::front;
 use outside::{
     Failed, MemorySink, MemorySource, ReadFrom, Sink, Source, SureSink, SureSource, TakeFault,
     WriteTo, put, take,
@@ -8,8 +10,12 @@ use std::io;
 use std::io::{ErrorKind, Read, Write};
 use std::process::Abort;
 use std::test::Fail;
+use test_support::Flow;
 
-const TEXT: &[u8; 22] = b"field 3\nrank 2\nsize 2\n";
+/// A request of three lines.
+pub fn three_lines() -> &'static [u8] {
+    b"field 3\nrank 2\nsize 2\n"
+}
 
 // Fails at its first call, and then passes on what the reader gives.
 #[derive(Drop)]
@@ -54,8 +60,8 @@ impl Write for Device {
     }
 }
 
-// The source gives these bytes, at most so many of them.
-fn gives<S: Source>(
+/// The source gives these bytes, at most so many of them.
+pub fn gives<S: Source>(
     rt: &impl Abort,
     alloc: Global,
     source: &mut S,
@@ -67,52 +73,70 @@ fn gives<S: Source>(
     Ok(())
 }
 
+// Each kind of source gives these bytes of the request, at most so many of them.
+fn each_gives(rt: &impl Abort, alloc: Global, most: u16, want: &[u8]) -> Result<(), Fail> {
+    let text = three_lines();
+    let mut sure = SureSource::new(text.to_vec(alloc)?);
+    gives(rt, alloc, &mut sure, most, want)?;
+    let mut slow = MemorySource::new(text.to_vec(alloc)?, 1, Vec::new(alloc));
+    gives(rt, alloc, &mut slow, most, want)?;
+    let mut reader = ReadFrom::new(text);
+    gives(rt, alloc, &mut reader, most, want)
+}
+
 #[test]
 fn takes_to_the_end_or_to_the_most(rt: HostRuntime) -> Result<(), Fail> {
     let alloc = rt.alloc();
-    for (most, want) in [(22, TEXT.as_slice()), (5, b"field"), (23, TEXT), (0, b"")] {
-        let mut sure = SureSource::new(TEXT.to_vec(alloc)?);
-        gives(&rt, alloc, &mut sure, most, want)?;
-        let mut slow = MemorySource::new(TEXT.to_vec(alloc)?, 1, Vec::new(alloc));
-        gives(&rt, alloc, &mut slow, most, want)?;
-        let mut reader = ReadFrom::new(TEXT.as_slice());
-        gives(&rt, alloc, &mut reader, most, want)?;
-    }
-    Ok(())
+    each_gives(&rt, alloc, 22, three_lines())?;
+    each_gives(&rt, alloc, 5, b"field")?;
+    each_gives(&rt, alloc, 23, three_lines())?;
+    each_gives(&rt, alloc, 0, b"")
 }
 
 #[test]
 fn a_failed_read_is_no_end(rt: HostRuntime) -> Result<(), Fail> {
     let alloc = rt.alloc();
-    let mut slow = MemorySource::new(TEXT.to_vec(alloc)?, 1, vec![in alloc; 3]?);
+    let mut slow = MemorySource::new(three_lines().to_vec(alloc)?, 1, vec![in alloc; 3]?);
     assert!(rt; matches!(take(alloc, &mut slow, 22), Err(TakeFault::Failed)));
     gives(&rt, alloc, &mut slow, 22, b"eld 3\nrank 2\nsize 2\n")?;
     let mut reader = ReadFrom::new(FailsFirst {
-        inner: TEXT.as_slice(),
+        inner: three_lines(),
         failed: false,
     });
     assert!(rt; matches!(take(alloc, &mut reader, 22), Err(TakeFault::Failed)));
-    gives(&rt, alloc, &mut reader, 22, TEXT)
+    gives(&rt, alloc, &mut reader, 22, three_lines())
+}
+
+// A sink that takes at most so many bytes a call and fails at one holds so many of them.
+fn holds(
+    rt: &impl Abort,
+    alloc: Global,
+    flow: Flow,
+    outcome: Result<(), Failed>,
+    len: usize,
+) -> Result<(), Fail> {
+    let most = flow.most;
+    let mut sink = MemorySink::new(alloc, most.max(1), vec![in alloc; flow.failing]?);
+    assert_eq!(rt; put(&mut sink, three_lines()), outcome, "at {most}");
+    assert_eq!(rt; sink.held(), front(rt, three_lines(), len), "at {most}");
+    assert_eq!(rt; sink.refused(), 0);
+    Ok(())
 }
 
 #[test]
 fn puts_the_whole_or_a_front(rt: HostRuntime) -> Result<(), Fail> {
-    let alloc = rt.alloc();
-    for (most, failing, result, len) in [
+    for (most, failing, outcome, len) in [
         (7, 3, Err(Failed), 14),
         (7, 4, Err(Failed), 21),
         (7, 5, Ok(()), 22),
         (1, 1, Err(Failed), 0),
         (100, 2, Ok(()), 22),
     ] {
-        let mut sink = MemorySink::new(alloc, most, vec![in alloc; failing]?);
-        assert_eq!(rt; put(&mut sink, TEXT), result, "at {most}");
-        assert_eq!(rt; sink.held(), &TEXT[..len], "at {most}");
-        assert_eq!(rt; sink.refused(), 0);
+        holds(&rt, rt.alloc(), flow(most, failing), outcome, len)?;
     }
     let mut sure = SureSink::new();
-    assert_eq!(rt; sure.write(TEXT), Ok(22));
-    assert_eq!(rt; put(&mut sure, TEXT), Ok(()));
+    assert_eq!(rt; sure.write(three_lines()), Ok(22));
+    assert_eq!(rt; put(&mut sure, three_lines()), Ok(()));
     Ok(())
 }
 
@@ -120,16 +144,16 @@ fn puts_the_whole_or_a_front(rt: HostRuntime) -> Result<(), Fail> {
 fn writes_and_flushes(rt: HostRuntime) -> Result<(), Fail> {
     let alloc = rt.alloc();
     let mut bytes: Vec<u8> = Vec::new(alloc);
-    assert_eq!(rt; put(&mut WriteTo::new(&mut bytes), TEXT), Ok(()));
-    assert_eq!(rt; bytes.as_slice(), TEXT.as_slice());
+    assert_eq!(rt; put(&mut WriteTo::new(&mut bytes), three_lines()), Ok(()));
+    assert_eq!(rt; bytes.as_slice(), three_lines());
     let mut device = Device {
         failed: false,
         waiting: Vec::new(alloc),
         flushed: Vec::new(alloc),
     };
     let mut sink = WriteTo::new(&mut device);
-    assert_eq!(rt; put(&mut sink, TEXT), Err(Failed));
-    assert_eq!(rt; put(&mut sink, TEXT), Ok(()));
-    assert_eq!(rt; device.flushed.as_slice(), TEXT.as_slice());
+    assert_eq!(rt; put(&mut sink, three_lines()), Err(Failed));
+    assert_eq!(rt; put(&mut sink, three_lines()), Ok(()));
+    assert_eq!(rt; device.flushed.as_slice(), three_lines());
     Ok(())
 }

@@ -1,13 +1,12 @@
 // Representations over another field.
-use crate::words::{answer, answer_with, line_for};
+use crate::answers::{answer_with, has_no_answer, is_answered};
 use ask_run::AskStatus;
 use std::test::Fail;
 
 // The four-point line isn't binary, and a line over a field has one point more than the field; the Fano matroid has matrices in
 // characteristic 2 alone, the non-Fano matroid in every other (Oxley, chapter 6 and appendix).
-#[test]
-fn names(rt: HostRuntime) -> Result<(), Fail> {
-    for (words, line) in [
+fn named() -> [(&'static str, &'static str); 13] {
+    [
         ("over 2 name U2,4", "none"),
         ("over 3 name U2,4", "10 01 11 12"),
         ("over 3 name F7", "none"),
@@ -21,21 +20,21 @@ fn names(rt: HostRuntime) -> Result<(), Fail> {
         ("over 8 name F7-", "none"),
         ("over 13 name F7", "none"),
         ("over 3 name K4", "100 010 001 011 101 120"),
-    ] {
-        assert_eq!(rt;
-            line_for(&rt, rt.alloc(), words)?.as_str(),
-            line,
-            "at {words:?}"
-        );
+    ]
+}
+
+#[test]
+fn matroids_by_name(rt: HostRuntime) -> Result<(), Fail> {
+    for (words, line) in named() {
+        is_answered(&rt, rt.alloc(), words, line)?;
     }
     Ok(())
 }
 
 // Independent sets of every rank; the dual of the Fano matroid, whose matrix is that of its complements; and the complete graph
 // on five vertices, whose edges are differences of unit columns over a field where 2 isn't 0.
-#[test]
-fn names_of_every_rank(rt: HostRuntime) -> Result<(), Fail> {
-    for (words, line) in [
+fn of_every_rank() -> [(&'static str, &'static str); 7] {
+    [
         ("over 2 name U1,1", "1"),
         ("over 2 name U1,3", "1 1 1"),
         (
@@ -49,21 +48,21 @@ fn names_of_every_rank(rt: HostRuntime) -> Result<(), Fail> {
             "over 3 name K5",
             "1000 0100 0010 0001 1100 1010 1001 0120 0102 0012",
         ),
-    ] {
-        assert_eq!(rt;
-            line_for(&rt, rt.alloc(), words)?.as_str(),
-            line,
-            "at {words:?}"
-        );
+    ]
+}
+
+#[test]
+fn names_of_every_rank(rt: HostRuntime) -> Result<(), Fail> {
+    for (words, line) in of_every_rank() {
+        is_answered(&rt, rt.alloc(), words, line)?;
     }
     Ok(())
 }
 
 // The matroid of a representation: that of a graph; one with as many columns as rows; one over a product; one with a loop and two
 // elements that are parallel; and seven points of a line, of which a field of five elements has six.
-#[test]
-fn forms(rt: HostRuntime) -> Result<(), Fail> {
-    for (words, line) in [
+fn of_forms() -> [(&'static str, &'static str); 6] {
+    [
         (
             "over 3 form 2 100 010 001 011 101 110",
             "100 010 001 011 101 120",
@@ -73,19 +72,19 @@ fn forms(rt: HostRuntime) -> Result<(), Fail> {
         ("over 3 form 2 10 01 00 10", "10 01 00 10"),
         ("over 5 form 7 10 01 11 12 13 14 15", "none"),
         ("over 11 form 13 10 01 11 1c", "10 01 11 12"),
-    ] {
-        assert_eq!(rt;
-            line_for(&rt, rt.alloc(), words)?.as_str(),
-            line,
-            "at {words:?}"
-        );
+    ]
+}
+
+#[test]
+fn matroids_of_forms(rt: HostRuntime) -> Result<(), Fail> {
+    for (words, line) in of_forms() {
+        is_answered(&rt, rt.alloc(), words, line)?;
     }
     Ok(())
 }
 
-#[test]
-fn words_that_ask_nothing(rt: HostRuntime) -> Result<(), Fail> {
-    for words in [
+fn without_answer() -> [&'static str; 21] {
+    [
         "over 6 name F7",
         "over 2 name U0,3",
         "over 2 name U7,8",
@@ -107,16 +106,19 @@ fn words_that_ask_nothing(rt: HostRuntime) -> Result<(), Fail> {
         "over 2 form 6 10 01 11",
         "over 2 form 2 10 01 12",
         "name F7",
-    ] {
-        let (status, held) = answer(rt.alloc(), words)?;
-        assert_eq!(rt; status, AskStatus::Usage, "at {words:?}");
-        assert_eq!(rt; held.len(), 0, "at {words:?}");
+    ]
+}
+
+#[test]
+fn words_that_ask_nothing(rt: HostRuntime) -> Result<(), Fail> {
+    for words in without_answer() {
+        has_no_answer(&rt, rt.alloc(), words)?;
     }
     Ok(())
 }
 
 #[test]
-fn a_sink_that_fails(rt: HostRuntime) -> Result<(), Fail> {
+fn a_matrix_for_a_sink_that_fails(rt: HostRuntime) -> Result<(), Fail> {
     let (status, held) = answer_with(rt.alloc(), "over 2 name U2,4", 1)?;
     assert_eq!(rt; status, AskStatus::WriteFault);
     assert_eq!(rt; held.len(), 0);

@@ -4,7 +4,7 @@
 // (Tutte). The excluded minors of the near-regular matroids, which have matrices over each field but GF(2), are known (Hall, Mayhew
 // and van Zwam): of those that are ternary, of rank 3 and of at most seven elements, there is the non-Fano matroid alone. It has a
 // matrix over each field of odd characteristic and none over GF(4) and GF(8).
-use crate::words::{line_for, listing};
+use crate::answers::{is_answered, line_for, listing};
 use std::alloc::Global;
 use std::process::Abort;
 use std::test::Fail;
@@ -30,12 +30,9 @@ fn matrices_over(
     Ok(matrices)
 }
 
-#[test]
-fn ternary_matroids_over_other_fields(rt: HostRuntime) -> Result<(), Fail> {
-    let alloc = rt.alloc();
-    let held = listing(alloc, b"field 3\nrank 3\nsize 7\n")?;
-    let forms = str::from_utf8(&held).ok().ok_or("not a text")?;
-    for (order, numbers) in [
+// For each order of a field, how many of the matroids of each size have a matrix over it.
+fn numbers() -> [(u8, [usize; 5]); 9] {
+    [
         (2, [1, 2, 1, 1, 0]),
         (3, [1, 2, 3, 4, 4]),
         (4, [1, 2, 3, 4, 3]),
@@ -45,11 +42,31 @@ fn ternary_matroids_over_other_fields(rt: HostRuntime) -> Result<(), Fail> {
         (9, [1, 2, 3, 4, 4]),
         (11, [1, 2, 3, 4, 4]),
         (13, [1, 2, 3, 4, 4]),
-    ] {
-        for (size, number) in (3..8).zip(numbers) {
-            let matrices = matrices_over(&rt, alloc, order, forms, size)?;
-            assert_eq!(rt; matrices.len(), number, "over {order} at size {size}");
-        }
+    ]
+}
+
+// So many of the forms have a matrix over the field of this order.
+fn has_so_many(
+    rt: &impl Abort,
+    alloc: Global,
+    order: u8,
+    forms: &str,
+    numbers: [usize; 5],
+) -> Result<(), Fail> {
+    for (size, number) in (3..8).zip(numbers) {
+        let matrices = matrices_over(rt, alloc, order, forms, size)?;
+        assert_eq!(rt; matrices.len(), number, "over {order} at size {size}");
+    }
+    Ok(())
+}
+
+#[test]
+fn ternary_matroids_over_other_fields(rt: HostRuntime) -> Result<(), Fail> {
+    let alloc = rt.alloc();
+    let held = listing(alloc, b"field 3\nrank 3\nsize 7\n")?;
+    let forms = str::from_utf8(&held).ok().ok_or("not a text")?;
+    for (order, numbers) in numbers() {
+        has_so_many(&rt, alloc, order, forms, numbers)?;
     }
     Ok(())
 }
@@ -64,8 +81,8 @@ fn forms_over_their_own_field(rt: HostRuntime) -> Result<(), Fail> {
     let mut is_tried = false;
     for form in forms.lines() {
         if form.starts_with('1') {
-            let line = line_for(&rt, alloc, &format!(in alloc; "over 3 form 3 {form}")?)?;
-            assert_eq!(rt; line.as_str(), form);
+            let words = format!(in alloc; "over 3 form 3 {form}")?;
+            is_answered(&rt, alloc, &words, form)?;
             is_tried = true;
         }
     }
