@@ -1,7 +1,7 @@
 use denote.Exit.{no}
 use denote.Param.Send.{param_send, arg_send, shr_sync, shr_slice_sync}
 use Rattle.class_store.proofs.Crossing.{pass_send, level_sync}
-use Rattle.crossing.proofs.Sending.{closure_sync, seen, seen_with}
+use Rattle.workers.proofs.Sending.{closure_sync, seen, seen_with}
 use Rattle.thread_tests.proofs.callers.Caller.TheSendSync as caller
 use Rattle.thread_tests.proofs.callers.offer_all.Goals as goal
 
