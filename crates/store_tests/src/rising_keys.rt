@@ -50,10 +50,10 @@ fn insert_rising(
     Ok(missing)
 }
 
-// How many of the rising keys are in the set.
-fn found_rising(alloc: Global, set: &LinkSet) -> Result<usize, NoMemory> {
+// How many of so many rising keys are in the set.
+fn found_rising(alloc: Global, set: &LinkSet, count: usize) -> Result<usize, NoMemory> {
     let mut found = 0usize;
-    for n in 0..2000 {
+    for n in 0..count {
         if set.contains(&rising_key(alloc, n)?) {
             found = found.saturating_add(1);
         }
@@ -70,10 +70,10 @@ fn is_placed(alloc: Global, set: &LinkSet, n: usize) -> Result<bool, NoMemory> {
     })
 }
 
-// How many of the rising keys stand at their own place.
-fn placed_rising(alloc: Global, set: &LinkSet) -> Result<usize, NoMemory> {
+// How many of so many rising keys stand at their own place.
+fn placed_rising(alloc: Global, set: &LinkSet, count: usize) -> Result<usize, NoMemory> {
     let mut placed = 0usize;
-    for n in 0..2000 {
+    for n in 0..count {
         if is_placed(alloc, set, n)? {
             placed = placed.saturating_add(1);
         }
@@ -94,13 +94,18 @@ fn grows(
     Ok(())
 }
 
-// Makes room for a key, and inserts it with a count of steps.
-fn counts_one(rt: &impl Abort, alloc: Global, set: &mut LinkSet, n: usize) -> Result<(), NoMemory> {
-    set.reserve(16)?;
-    assert!(rt; set.spare() >= 16);
-    let key = rising_key(alloc, n)?;
-    assert_eq!(rt; counted::<Brand>(set, key, Blank::new(1)), Some(true));
+// Makes room for so many keys.
+fn make_room(rt: &impl Abort, set: &mut LinkSet, more: usize) -> Result<(), NoMemory>
+    requires { more ≤ 16 }
+{
+    set.reserve(more)?;
+    assert!(rt; set.spare() >= more);
     Ok(())
+}
+
+// Inserts a key with a count of steps of its own, and says whether it was missing.
+fn counted_alone(set: &mut LinkSet, key: Key) -> Option<bool> {
+    counted::<Brand>(set, key, Blank::new(1))
 }
 
 #[test]
@@ -110,7 +115,9 @@ fn seventeen_keys(rt: HostRuntime) -> Result<(), Fail> {
     grows(&rt, alloc, &mut set, 0, (16, 16))?;
     grows(&rt, alloc, &mut set, 16, (17, 32))?;
     assert_eq!(rt; set.len(), 17);
-    counts_one(&rt, alloc, &mut set, 17)?;
+    make_room(&rt, &mut set, 16)?;
+    let key = rising_key(alloc, 17)?;
+    assert_eq!(rt; counted_alone(&mut set, key), Some(true));
     Ok(())
 }
 
@@ -148,8 +155,8 @@ fn keys_of_rising_length(rt: HostRuntime) -> Result<(), Fail> {
     let alloc = rt.alloc();
     let mut set = all_rising(&rt, alloc)?;
     assert_eq!(rt; set.len(), 2000);
-    assert_eq!(rt; found_rising(alloc, &set)?, 2000);
-    assert_eq!(rt; placed_rising(alloc, &set)?, 2000);
+    assert_eq!(rt; found_rising(alloc, &set, 2000)?, 2000);
+    assert_eq!(rt; placed_rising(alloc, &set, 2000)?, 2000);
     assert!(rt; !set.contains(&equal_key(alloc, 25, 11)?));
     assert_eq!(rt; insert_one(alloc, &mut set, 1024)?, Some(false));
     Ok(())
