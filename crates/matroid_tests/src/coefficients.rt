@@ -42,11 +42,41 @@ fn compare_coefficients<const N: usize>(
 
 #[test]
 fn coefficients_of_three(rt: HostRuntime) -> Result<(), Fail> {
-    compare_coefficients(&rt, 2, [[1, 1, 0], [0, 1, 1], [0, 0, 1]], [1, 0, 1], [1, 1, 0])?;
-    compare_coefficients(&rt, 3, [[1, 1, 0], [0, 1, 1], [0, 0, 1]], [1, 0, 1], [1, 2, 2])?;
-    compare_coefficients(&rt, 4, [[0, 1, 0], [1, 0, 0], [0, 0, 2]], [1, 2, 3], [2, 1, 2])?;
-    compare_coefficients(&rt, 7, [[1, 2, 3], [2, 5, 1], [0, 1, 4]], [5, 2, 2], [3, 1, 5])?;
-    compare_coefficients(&rt, 8, [[3, 0, 0], [0, 5, 0], [1, 0, 6]], [2, 4, 5], [2, 3, 4])
+    compare_coefficients(
+        &rt,
+        2,
+        [[1, 1, 0], [0, 1, 1], [0, 0, 1]],
+        [1, 0, 1],
+        [1, 1, 0],
+    )?;
+    compare_coefficients(
+        &rt,
+        3,
+        [[1, 1, 0], [0, 1, 1], [0, 0, 1]],
+        [1, 0, 1],
+        [1, 2, 2],
+    )?;
+    compare_coefficients(
+        &rt,
+        4,
+        [[0, 1, 0], [1, 0, 0], [0, 0, 2]],
+        [1, 2, 3],
+        [2, 1, 2],
+    )?;
+    compare_coefficients(
+        &rt,
+        7,
+        [[1, 2, 3], [2, 5, 1], [0, 1, 4]],
+        [5, 2, 2],
+        [3, 1, 5],
+    )?;
+    compare_coefficients(
+        &rt,
+        8,
+        [[3, 0, 0], [0, 5, 0], [1, 0, 6]],
+        [2, 4, 5],
+        [2, 3, 4],
+    )
 }
 
 #[test]

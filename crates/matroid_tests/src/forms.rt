@@ -26,10 +26,7 @@ fn is_line_over_five(rep: &Rep) -> bool
     ensures size { IsTrue result → size rep.now ≡ 4 }
 {
     let factors = rep.factors();
-    factors.count() == 1
-        && factors.field(0).order() == 5
-        && rep.rank() == 2
-        && rep.size() == 4
+    factors.count() == 1 && factors.field(0).order() == 5 && rep.rank() == 2 && rep.size() == 4
 }
 
 /// What a move makes of four columns of rank 2 over GF(5), where it is a move for them: it adds the scalar times the second row

@@ -93,7 +93,11 @@ fn compare_raised(rt: &impl Abort, rep: &Rep, factor: usize, codes: &[u8]) -> Re
     let image = raised_in(rep, factor, 1).ok_or("no power")?;
     assert!(rt; has_column(&image, 2, codes), "at {factor}");
     let restored = raised_in(&image, factor, 1).ok_or("no power")?;
-    assert_eq!(rt; order_of(&restored, rep), Some(Ordering::Equal), "at {factor}");
+    assert_eq!(rt;
+        order_of(&restored, rep),
+        Some(Ordering::Equal),
+        "at {factor}"
+    );
     Ok(())
 }
 
@@ -117,10 +121,7 @@ fn has_two_fields(rep: &Rep) -> bool
     ensures size { IsTrue result → size rep.now ≡ 3 }
 {
     let factors = rep.factors();
-    factors.count() == 2
-        && factors.field(1).order() > 2
-        && rep.rank() == 3
-        && rep.size() == 3
+    factors.count() == 2 && factors.field(1).order() > 2 && rep.rank() == 3 && rep.size() == 3
 }
 
 /// A scalar 0 is none of a move.

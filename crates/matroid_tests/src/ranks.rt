@@ -51,7 +51,11 @@ fn compare_rank<const N: usize, const M: usize>(
     let field = Field::of(order).ok_or("no field of that order")?;
     let list = columns(field, codes);
     assert_eq!(rt; rank(field, list.as_slice()), size, "at {order}");
-    assert_eq!(rt; independent(field, list.as_slice()), size == M, "at {order}");
+    assert_eq!(rt;
+        independent(field, list.as_slice()),
+        size == M,
+        "at {order}"
+    );
     Ok(())
 }
 

@@ -15,3 +15,10 @@ codes_in_rows fs r v e h = record {
       subst (λ (x : ℕ). slice_index v (i * length fs + f) < slice_index fs x) (mod-mul-add i (length fs) f m)
       (h (i * length fs + f) (omega arith));
 }
+
+pub returns : goal.returns
+returns c = λ _.
+    let all : length c.args.codes.now ≡ c.args.rank * c.count-count.result = omega arith in
+    let rows : length c.args.codes.now ≡ c.args.rank * length c.args.factors.now =
+    subst (λ (n : ℕ). length c.args.codes.now ≡ c.args.rank * n) c.count-count.ensures.count all in
+    codes_in_rows c.args.factors.now c.args.rank c.args.codes.now rows (λ p l. c.loop-place.invariant p (omega arith))
