@@ -1,6 +1,7 @@
-ghost use Rattle.std.specs.Prelude.{◌≡◌};
+//! The columns by which a representation can be extended.
 ghost use Rattle.matroid_theory.specs.Rep.{IsStandard};
 
+use crate::build::unit_rep;
 use bases::{agree, is_simple};
 use extension::Columns;
 use product_rep::{Factors, ProductColumn, Rep};
@@ -28,11 +29,11 @@ fn extend_by(rep: &Rep, count: usize, first: &[u8], last: &[u8]) -> bool
 // the six over GF(7) of rank 2.
 #[test]
 fn columns_after_the_unit_columns(rt: HostRuntime) -> Result<(), Fail> {
-    let both = Rep::unit(Factors::of(&[2, 3]).ok_or("no factors")?, 3);
+    let both = unit_rep(&[2, 3], 3)?;
     assert!(rt; extend_by(&both, 10, &[0, 0, 1, 1, 1, 1], &[1, 1, 1, 2, 1, 2]));
-    let binary = Rep::unit(Factors::of(&[2]).ok_or("no factors")?, 3);
+    let binary = unit_rep(&[2], 3)?;
     assert!(rt; extend_by(&binary, 4, &[0, 1, 1], &[1, 1, 1]));
-    let line = Rep::unit(Factors::of(&[7]).ok_or("no factors")?, 2);
+    let line = unit_rep(&[7], 2)?;
     assert!(rt; extend_by(&line, 6, &[1, 1], &[1, 6]));
     Ok(())
 }

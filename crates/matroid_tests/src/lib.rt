@@ -1,39 +1,40 @@
-//! Tests of the crates that ask questions about matroids, and of those for forms and extensions.
+//! Tests of fields, columns, representations and matroids, of forms and extensions, and of the searches and the generation that
+//! stand on them.
 #![tactic(auto)]
 
-// The unit columns over these fields, and then these columns, each row by row and factor by factor within a row.
 #[cfg(test)]
-macro_rules! unit_and {
-    ($orders:expr, $rank:expr $(, $codes:expr)*) => {
-        followed_by!(Rep::unit(Factors::of(&$orders).ok_or("no factors")?, $rank) $(, $codes)*)
-    };
-}
-
-// A representation, and then these columns.
+mod both_searches;
 #[cfg(test)]
-macro_rules! followed_by {
-    ($rep:expr $(, $codes:expr)*) => {{
-        let mut rep = $rep;
-        $(
-            let mut column = ProductColumn::new();
-            column.try_extend_from_slice(&$codes)?;
-            rep.push_column(&column);
-        )*
-        rep
-    }};
-}
-
+mod build;
+#[cfg(test)]
+mod coefficients;
 #[cfg(test)]
 mod connections;
 #[cfg(test)]
 mod extensions;
 #[cfg(test)]
+mod fields;
+#[cfg(test)]
 mod forms;
 #[cfg(test)]
 mod isomorphisms;
 #[cfg(test)]
+mod lists;
+#[cfg(test)]
 mod matrices;
+#[cfg(test)]
+mod matroids;
 #[cfg(test)]
 mod minors;
 #[cfg(test)]
+mod moves;
+#[cfg(test)]
 mod names;
+#[cfg(test)]
+mod orderly_levels;
+#[cfg(test)]
+mod other_fields;
+#[cfg(test)]
+mod ranks;
+#[cfg(test)]
+mod representations;

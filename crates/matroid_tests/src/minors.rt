@@ -1,7 +1,9 @@
+//! Minors of named matroids.
+use crate::build::rep_of;
 use bases::agree;
 use minor_test::has_minor;
 use named_matroids::named;
-use product_rep::{Factors, ProductColumn, Rep};
+use product_rep::Rep;
 use std::test::Fail;
 
 // How many elements are contracted for the matroid of that name; none where it isn't a minor.
@@ -18,7 +20,7 @@ fn contracted(rep: &Rep, name: &[u8]) -> Result<Option<u32>, Fail> {
 // The Fano matroid is binary, and without one point it is the cycle matroid of K4.
 #[test]
 fn minors_of_the_fano_matroid(rt: HostRuntime) -> Result<(), Fail> {
-    let rep = unit_and!([2], 3, [1, 1, 0], [1, 0, 1], [0, 1, 1], [1, 1, 1]);
+    let rep = rep_of(&[2], 3, &[[1, 1, 0], [1, 0, 1], [0, 1, 1], [1, 1, 1]])?;
     assert_eq!(rt; contracted(&rep, b"F7")?, Some(0));
     assert_eq!(rt; contracted(&rep, b"K4")?, Some(0));
     assert_eq!(rt; contracted(&rep, b"U2,4")?, None);
@@ -28,7 +30,7 @@ fn minors_of_the_fano_matroid(rt: HostRuntime) -> Result<(), Fail> {
 // A line of four points over GF(3).
 #[test]
 fn minors_of_a_line(rt: HostRuntime) -> Result<(), Fail> {
-    let rep = unit_and!([3], 2, [1, 1], [1, 2]);
+    let rep = rep_of(&[3], 2, &[[1, 1], [1, 2]])?;
     assert_eq!(rt; contracted(&rep, b"U2,4")?, Some(0));
     assert_eq!(rt; contracted(&rep, b"U1,3")?, Some(1));
     assert_eq!(rt; contracted(&rep, b"U0,2")?, Some(2));
@@ -39,7 +41,7 @@ fn minors_of_a_line(rt: HostRuntime) -> Result<(), Fail> {
 // The dual of the Fano matroid, which has K4 where one element is contracted.
 #[test]
 fn minors_of_a_dual(rt: HostRuntime) -> Result<(), Fail> {
-    let rep = unit_and!([2], 4, [0, 1, 1, 1], [1, 0, 1, 1], [1, 1, 0, 1]);
+    let rep = rep_of(&[2], 4, &[[0, 1, 1, 1], [1, 0, 1, 1], [1, 1, 0, 1]])?;
     assert_eq!(rt; contracted(&rep, b"F7*")?, Some(0));
     assert_eq!(rt; contracted(&rep, b"K4")?, Some(1));
     assert_eq!(rt; contracted(&rep, b"U0,2")?, Some(4));

@@ -1,6 +1,0 @@
-use Rattle.std.proofs.Common.{◌≡◌}
-use Rattle.orderly_tests.proofs.tests.answers_of_first.Given as goal
-
--- the columns are those of the parent
-abbrev pub invariant-loop-column : goal.invariant-loop-column
-invariant-loop-column l = l.column-iterator.parent ≡ l.parent
