@@ -76,7 +76,7 @@ pub fn negative(fields: &Fields, count: usize, a: &Codes) -> Codes
     [first, second, fields[2].neg(a[2])]
 }
 
-/// The codes whose products with these are 1, for the first `count` factors; 1 for the others, and where the code is 0.
+/// Codes that aren't 0. Their products with these are 1, for the first `count` factors where the code isn't 0.
 #[inline(always)]
 pub fn inverse(fields: &Fields, count: usize, a: &Codes) -> Codes
     requires count { count ≤ 3 }
@@ -97,7 +97,7 @@ pub fn inverse(fields: &Fields, count: usize, a: &Codes) -> Codes
     [first, second, inverse_in(fields[2], a[2])]
 }
 
-/// The code whose product with `a` is 1; 1 where `a` is 0.
+/// A code that isn't 0. Its product with `a` is 1 where `a` isn't 0.
 fn inverse_in(field: Field, a: u8) -> u8
     requires { a < field }
     ensures code { result < field }
