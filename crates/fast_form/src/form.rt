@@ -1,5 +1,5 @@
 // The form of a standard representation.
-ghost use Rattle.std.specs.Prelude.{is_some, ◌≢◌, true, false, ◌↔◌, ◌≡◌, ◌<◌, ◌≤◌, ◌+◌, ◌-◌, ◌*◌, ◌/◌, ◌%◌, ◌^◌, ◌∷◌, [], ℕ, IfSome, length, slice_index, slice_index_or};
+ghost use Rattle.std.specs.Prelude.{is_some, ◌⊎◌, ◌≢◌, true, false, ◌↔◌, ◌≡◌, ◌<◌, ◌≤◌, ◌+◌, ◌-◌, ◌*◌, ◌/◌, ◌%◌, ◌^◌, ◌∷◌, [], ℕ, IfSome, length, slice_index, slice_index_or};
 ghost use Rattle.matroid_theory.specs.declared.Mode.TheVariants.{Linear as linear};
 ghost use Rattle.matroid_theory.specs.Rep.{shape, size, count, matrix, IsShaped, IsStandard};
 ghost use Rattle.matroid_theory.specs.Matroid.{Agrees};
@@ -13,11 +13,13 @@ ghost use Rattle.matroid_theory.specs.Order.{IsForm};
 ghost use Rattle.form_search.specs.Search.{AreOfClass, Stands, numbers_of};
 ghost use Rattle.form_search.specs.Start.{CoversAll, IsStarted, IsZeroTest, zero_test};
 ghost use Rattle.form_states.specs.Codes.{code};
-ghost use Rattle.form_states.specs.States.{IsShapeOf, AreColumns, own_groups};
+ghost use Rattle.form_states.specs.States.{IsShapeOf, AreColumns, AreGroups};
 
 use crate::search::rows;
 use crate::start::{columns_of, nonzero_marks, shape_of};
 use arrayvec::ArrayVec;
+use form_states::codes::are_binary;
+use form_states::groups::Groups;
 use form_states::lists::{Columns, Marks, normalised_columns};
 use form_states::numbers::Numbers;
 use form_states::states::{Frame, Shape};
@@ -98,11 +100,12 @@ fn found(rep: &Rep, shape: &Shape) -> Outcome
 {
     let columns = columns_of(rep, shape);
     let marks = nonzero_marks(&columns, shape.rank, shape.size);
-    let settled = zero_numbers(rep, shape, &marks);
+    let groups = first_groups(shape);
+    let settled = zero_numbers(rep, shape, &marks, &groups);
     let after = normalised_columns(shape, &columns);
     let frame = Frame {
         there: marks,
-        groups: [0, 1, 2, 3, 4, 5],
+        groups,
     };
     let mut best = first_best(rep, shape, &columns, &settled);
     let level = best.is_some();
@@ -117,6 +120,18 @@ fn found(rep: &Rep, shape: &Shape) -> Outcome
         level,
     );
     Outcome { best, better }
+}
+
+/// Each row in a group of its own; all in one over GF(2), where no factors but 1 are there.
+fn first_groups(shape: &Shape) -> Groups
+    ensures groups { AreGroups result }
+    ensures apart { (i l : ℕ) → i < 6 → l < 6 → slice_index result i ≡ slice_index result l → (i ≡ l) ⊎ ((f : ℕ) → f < 3 → slice_index shape.now.fields f ≡ 2) }
+{
+    if are_binary(&shape.fields) {
+        [0; 6]
+    } else {
+        [0, 1, 2, 3, 4, 5]
+    }
 }
 
 /// What the search begins with: the numbers of the later columns; none where columns are zero, since those come first.
@@ -148,10 +163,11 @@ fn own_numbers(rep: &Rep, shape: &Shape, columns: &Columns) -> Numbers
 }
 
 /// The numbers of the zero columns, which come first.
-fn zero_numbers(rep: &Rep, shape: &Shape, marks: &Marks) -> Numbers
+fn zero_numbers(rep: &Rep, shape: &Shape, marks: &Marks, groups: &Groups) -> Numbers
     requires shape { IsShapeOf rep.now shape.now.fields shape.now.count shape.now.rank shape.now.size }
     requires test { IsZeroTest rep.now (zero_test marks.now) }
-    ensures { IsStarted rep.now (slice_index own_groups) (zero_test marks.now) shape.now.size result }
+    requires apart { (i l : ℕ) → i < 6 → l < 6 → slice_index groups.now i ≡ slice_index groups.now l → (i ≡ l) ⊎ ((f : ℕ) → f < 3 → slice_index shape.now.fields f ≡ 2) }
+    ensures { IsStarted rep.now (slice_index groups.now) (zero_test marks.now) shape.now.size result }
 {
     let mut settled = Numbers::new();
     for e in 0..shape.size {

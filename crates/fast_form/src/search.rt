@@ -7,14 +7,14 @@ ghost use Rattle.matroid_theory.specs.Move.{Move};
 ghost use Rattle.form_trails.specs.Trail.{Trail, ReachesForm, Follows};
 ghost use Rattle.form_search.specs.Search.{IsFrame, IsPlacing, IsThere, IsAtMost, Stands, AreOfClass, Improves, Covers, numbers_of};
 ghost use Rattle.form_states.specs.States.{IsShapeOf, AreColumns, AreGroups, entries_of, layer_of, rest_of, AreLeastNumbers, IsLeastNumber, IsLeastOf};
-ghost use Rattle.form_states.specs.Steps.{AreStateCodes};
+ghost use Rattle.form_states.specs.Steps.{AreStateCodes, AreNumbered};
 
 use form_states::lists::{Columns, next_columns, pivoted_columns};
 use form_states::numbers::Numbers;
 use form_states::states::{Frame, Row, Shape, State};
 use form_states::steps::{
-    chosen, gives_up, least_numbers, least_of, next_frame, placed, placed_column, placed_scalars,
-    row_of, standing,
+    chosen, gives_up, least_of, next_frame, numbers_are_least, placed, placed_column,
+    placed_scalars, row_of, standing,
 };
 use product_rep::Rep;
 
@@ -78,6 +78,7 @@ pub fn place(
     requires shape { IsShapeOf rep.now shape.now.fields shape.now.count shape.now.rank shape.now.size }
     requires row { k < rep.now.rank }
     requires codes { AreStateCodes shape.now.fields shape.now.rank columns.now row.now.p row.now.minus layer.now state.now.scalars state.now.groups }
+    requires numbered { AreNumbered shape.now.fields shape.now.count shape.now.rank shape.now.size layer.now state.now.scalars state.now.open state.now.groups state.now.numbers }
     requires state { (d : Trail) × IsPlacing rep.now k (slice_index state.now.groups) settled.now (layer_of rep.now layer.now state.now.scalars state.now.open) (rest_of rep.now k columns.now row.now.p row.now.minus state.now.scalars row.now.rest) d }
     requires sound { IfSome best.old (AreOfClass rep.now) }
     requires stands { Stands level best.old settled.now }
@@ -86,15 +87,15 @@ pub fn place(
         IsPlacing rep.now k (slice_index state.now.groups) settled.now (layer_of rep.now layer.now state.now.scalars state.now.open) (rest_of rep.now k columns.now row.now.p row.now.minus state.now.scalars row.now.rest) d →
         Covers rep.now d k (length settled.now) best.new }
 {
-    let numbers = least_numbers(rep, shape, k, columns, row, layer, state);
-    match least_of(rep, shape, layer, state, &numbers) {
+    numbers_are_least(rep, shape, k, columns, row, layer, state);
+    match least_of(rep, shape, layer, state) {
         None => next_row(
             rep, shape, k, columns, row, layer, state, settled, best, level,
         ),
         Some(low) => match standing(level, best, settled, low) {
             None => false,
             Some(level) => place_each(
-                rep, shape, k, columns, row, layer, state, &numbers, low, settled, best, level,
+                rep, shape, k, columns, row, layer, state, low, settled, best, level,
             ),
         },
     }
@@ -110,7 +111,6 @@ fn place_each(
     row: &Row,
     layer: &Columns,
     state: &State,
-    numbers: &[u128; 16],
     low: u128,
     settled: &Numbers,
     best: &mut Option<Numbers>,
@@ -119,9 +119,10 @@ fn place_each(
     requires shape { IsShapeOf rep.now shape.now.fields shape.now.count shape.now.rank shape.now.size }
     requires row { k < rep.now.rank }
     requires codes { AreStateCodes shape.now.fields shape.now.rank columns.now row.now.p row.now.minus layer.now state.now.scalars state.now.groups }
+    requires numbered { AreNumbered shape.now.fields shape.now.count shape.now.rank shape.now.size layer.now state.now.scalars state.now.open state.now.groups state.now.numbers }
     requires state { (d : Trail) × IsPlacing rep.now k (slice_index state.now.groups) settled.now (layer_of rep.now layer.now state.now.scalars state.now.open) (rest_of rep.now k columns.now row.now.p row.now.minus state.now.scalars row.now.rest) d }
-    requires numbers { AreLeastNumbers rep.now (slice_index state.now.groups) (layer_of rep.now layer.now state.now.scalars state.now.open) numbers.now }
-    requires low { IsLeastOf (layer_of rep.now layer.now state.now.scalars state.now.open) numbers.now low }
+    requires numbers { AreLeastNumbers rep.now (slice_index state.now.groups) (layer_of rep.now layer.now state.now.scalars state.now.open) state.now.numbers }
+    requires low { IsLeastOf (layer_of rep.now layer.now state.now.scalars state.now.open) state.now.numbers low }
     requires sound { IfSome best.old (AreOfClass rep.now) }
     requires stands { (longer : List ℕ) → longer ≡ settled.now ++ low ∷ [] → Stands level best.old longer }
     ensures improves { Improves rep.now best.old best.new settled.now result }
@@ -133,7 +134,7 @@ fn place_each(
     let mut abreast = level;
     let mut better = false;
     for e in 0..shape.size {
-        if state.open[e] && numbers[e] == low {
+        if state.open[e] && state.numbers[e] == low {
             let found = place_one(
                 rep, shape, k, columns, row, layer, state, e, low, settled, &longer, best, abreast,
             );
@@ -167,6 +168,7 @@ fn place_one(
     requires shape { IsShapeOf rep.now shape.now.fields shape.now.count shape.now.rank shape.now.size }
     requires row { k < rep.now.rank }
     requires codes { AreStateCodes shape.now.fields shape.now.rank columns.now row.now.p row.now.minus layer.now state.now.scalars state.now.groups }
+    requires numbered { AreNumbered shape.now.fields shape.now.count shape.now.rank shape.now.size layer.now state.now.scalars state.now.open state.now.groups state.now.numbers }
     requires state { (d : Trail) × IsPlacing rep.now k (slice_index state.now.groups) settled.now (layer_of rep.now layer.now state.now.scalars state.now.open) (rest_of rep.now k columns.now row.now.p row.now.minus state.now.scalars row.now.rest) d }
     requires element { IsThere (layer_of rep.now layer.now state.now.scalars state.now.open) e }
     requires number { IsLeastNumber rep.now (slice_index state.now.groups) (λ f i. (layer_of rep.now layer.now state.now.scalars state.now.open).codes e f i) low }

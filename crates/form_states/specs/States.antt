@@ -114,7 +114,3 @@ IsLeastMarked marks numbers total found =
     MatchOption found ((e : ℕ) → e < total → slice_index_or marks e false ≡ true → ⊥)
     (λ low. ((e : ℕ) → e < total → slice_index_or marks e false ≡ true → low ≤ slice_index numbers e) ×
     ((e : ℕ) × (e < total) × (slice_index_or marks e false ≡ true) × (slice_index numbers e ≡ low)))
-
--- each row in a group of its own
-abbrev pub own_groups : List ℕ
-own_groups = 0 ∷ (1 ∷ (2 ∷ (3 ∷ (4 ∷ (5 ∷ [])))))

@@ -8,7 +8,7 @@ use Rattle.form_trails.specs.Trail.{Trail, Follows}
 use Rattle.form_search.specs.Search.{Entries, IsThere, IsFrame, IsPlacing}
 use Rattle.form_states.specs.Codes.{AreColumnCodes, code, cleared_code, IsNormalisedFrom}
 use Rattle.form_states.specs.Groups.{AreGroupFactors}
-use Rattle.form_states.specs.States.{AreColumns, AreGroups, HasHead, HasOtherHead, IsLeastNumber}
+use Rattle.form_states.specs.States.{AreColumns, AreGroups, HasHead, HasOtherHead, IsLeastNumber, IsScaledNumber}
 
 -- a state is the frame's with the element chosen for row k: for each trail that the frame describes there is one that the state describes and that each form
 -- follows which has the element in row k
@@ -66,6 +66,12 @@ pub record AreStateCodes (fields : List ℕ) (rank : ℕ) (columns : List (List 
   pub layer_are : AreColumns fields layer
   pub scalars_are : AreColumnCodes fields scalars
   pub groups_are : AreGroups groups
+
+-- the numbers of the open columns of the layer, with their rows multiplied by the scalars and their groups scaled
+abbrev pub AreNumbered : List ℕ → ℕ → ℕ → ℕ → List (List (List ℕ)) → List (List ℕ) → List Bool → List ℕ → List ℕ → Type 0
+AreNumbered fields factors rank total layer scalars marks groups numbers = (e : ℕ) → e < total → slice_index_or marks e false ≡ true →
+    IsScaledNumber fields (slice_index groups) factors rank
+    (λ f i. times (slice_index fields f) (code scalars f i) (code (slice_index_or layer e []) f i)) (slice_index numbers e)
 
 -- the scalars are multiplied by the factors of the groups that make ones of a column with these codes
 pub record AreScaled (fields : List ℕ) (factors : ℕ) (groups : ℕ → ℕ) (rank : ℕ) (c : ℕ → ℕ → ℕ) (scalars after : List (List ℕ)) : Type 0 where

@@ -1,6 +1,6 @@
 // The codes of one row, one for each of three factors. Where there are fewer factors the others are GF(2), and their codes 0.
-ghost use Rattle.std.specs.Prelude.{◌≡◌, ◌≢◌, ◌<◌, ◌≤◌, ◌∷◌, [], ℕ, slice_index};
-ghost use Rattle.matroid_theory.specs.Field.{plus, times};
+ghost use Rattle.std.specs.Prelude.{◌≡◌, ◌≢◌, ◌<◌, ◌≤◌, ◌∷◌, ◌↔◌, [], ℕ, slice_index, true};
+ghost use Rattle.matroid_theory.specs.Field.{IsField, plus, times};
 ghost use Rattle.form_states.specs.Codes.{AreCodes};
 
 use field_tables::Field;
@@ -10,6 +10,42 @@ pub type Codes = [u8; 3];
 
 /// Three fields.
 pub type Fields = [Field; 3];
+
+/// The laws of three fields, for the proofs of callers.
+#[inline(always)]
+pub fn laws(fields: &Fields)
+    ensures { (f : ℕ) → f < 3 → IsField (slice_index fields.now f) }
+{
+    fields[0].laws();
+    fields[1].laws();
+    fields[2].laws();
+}
+
+/// Whether all three fields are GF(2).
+#[inline(always)]
+pub fn are_binary(fields: &Fields) -> bool
+    ensures { result ≡ true → (f : ℕ) → f < 3 → slice_index fields.now f ≡ 2 }
+{
+    fields[0].order() == 2 && fields[1].order() == 2 && fields[2].order() == 2
+}
+
+/// Whether the codes of the first `count` factors are 0.
+#[inline(always)]
+pub fn are_zeros(count: usize, a: &Codes) -> bool
+    requires { count ≤ 3 }
+    ensures { (result ≡ true) ↔ ((f : ℕ) → f < count → slice_index a.now f ≡ 0) }
+{
+    (count < 1 || a[0] == 0) && (count < 2 || a[1] == 0) && (count < 3 || a[2] == 0)
+}
+
+/// Whether the codes of the first `count` factors are 1.
+#[inline(always)]
+pub fn are_ones(count: usize, a: &Codes) -> bool
+    requires { count ≤ 3 }
+    ensures { (result ≡ true) ↔ ((f : ℕ) → f < count → slice_index a.now f ≡ 1) }
+{
+    (count < 1 || a[0] == 1) && (count < 2 || a[1] == 1) && (count < 3 || a[2] == 1)
+}
 
 /// The products, factor by factor, for the first `count` factors.
 #[inline(always)]
@@ -76,7 +112,7 @@ pub fn negative(fields: &Fields, count: usize, a: &Codes) -> Codes
     [first, second, fields[2].neg(a[2])]
 }
 
-/// The codes whose products with these are 1, for the first `count` factors; 1 for the others, and where the code is 0.
+/// Codes that aren't 0. Their products with these are 1, for the first `count` factors where the code isn't 0.
 #[inline(always)]
 pub fn inverse(fields: &Fields, count: usize, a: &Codes) -> Codes
     requires count { count ≤ 3 }
@@ -97,7 +133,7 @@ pub fn inverse(fields: &Fields, count: usize, a: &Codes) -> Codes
     [first, second, inverse_in(fields[2], a[2])]
 }
 
-/// The code whose product with `a` is 1; 1 where `a` is 0.
+/// A code that isn't 0. Its product with `a` is 1 where `a` isn't 0.
 fn inverse_in(field: Field, a: u8) -> u8
     requires { a < field }
     ensures code { result < field }

@@ -5,7 +5,7 @@ ghost use Rattle.matroid_theory.specs.Exchange.{exchange};
 ghost use Rattle.form_states.specs.Codes.{AreCodes, AreColumnCodes, code, cleared_code, IsNormalisedFrom};
 ghost use Rattle.form_states.specs.States.{AreLimits};
 
-use crate::codes::{Codes, inverse, negative, product, sum_with};
+use crate::codes::{Codes, are_ones, are_zeros, inverse, laws, negative, product, sum_with};
 use crate::states::Shape;
 
 /// A column: the codes of its rows, of which those from the rank on are 0.
@@ -35,11 +35,47 @@ pub fn pivoted_column(shape: &Shape, column: &Column, minus: &Column, p: usize, 
     ensures codes { AreColumnCodes shape.now.fields result }
     ensures pivoted { (f i : ℕ) → f < shape.now.count → i < shape.now.rank → code result f i ≡ cleared_code shape.now.fields p (code minus.now) (code column.now) f (exchange p k i) }
 {
+    if are_zeros(shape.count, &column[p]) {
+        return exchanged_column(shape, column, minus, p, k);
+    }
     let mut pivoted = *column;
     for i in 0..shape.rank {
         pivoted[i] = cleared_row(shape, column, minus, p, exchanged(p, k, i));
     }
     pivoted
+}
+
+/// The column with rows `p` and `k` exchanged, where row `p` is 0, so that there is nothing to clear.
+fn exchanged_column(shape: &Shape, column: &Column, minus: &Column, p: usize, k: usize) -> Column
+    requires limits { AreLimits shape.now.fields shape.now.count shape.now.rank shape.now.size }
+    requires column { AreColumnCodes shape.now.fields column.now }
+    requires minus { AreColumnCodes shape.now.fields minus.now }
+    requires p { p < shape.now.rank }
+    requires k { k < shape.now.rank }
+    requires zero { (f : ℕ) → f < shape.now.count → code column.now f p ≡ 0 }
+    ensures codes { AreColumnCodes shape.now.fields result }
+    ensures pivoted { (f i : ℕ) → f < shape.now.count → i < shape.now.rank → code result f i ≡ cleared_code shape.now.fields p (code minus.now) (code column.now) f (exchange p k i) }
+{
+    let mut pivoted = *column;
+    for i in 0..shape.rank {
+        pivoted[i] = kept_row(shape, column, minus, p, exchanged(p, k, i));
+    }
+    pivoted
+}
+
+/// Row `i` of a column that has nothing to clear.
+#[inline(always)]
+fn kept_row(shape: &Shape, column: &Column, minus: &Column, p: usize, i: usize) -> Codes
+    requires limits { AreLimits shape.now.fields shape.now.count shape.now.rank shape.now.size }
+    requires column { AreColumnCodes shape.now.fields column.now }
+    requires zero { (f : ℕ) → f < shape.now.count → code column.now f p ≡ 0 }
+    requires p { p < 6 }
+    requires i { i < 6 }
+    ensures codes { AreCodes shape.now.fields result }
+    ensures cleared { (f : ℕ) → f < shape.now.count → slice_index result f ≡ cleared_code shape.now.fields p (code minus.now) (code column.now) f i }
+{
+    laws(&shape.fields);
+    column[i]
 }
 
 /// Row `i`, or the other of `p` and `k` if it is one of these.
@@ -117,9 +153,13 @@ pub fn normalised_column(shape: &Shape, column: &Column) -> Column
     ensures codes { AreColumnCodes shape.now.fields result }
     ensures normalised { IsNormalisedFrom shape.now.fields shape.now.count shape.now.rank (code column.now) (code result) }
 {
+    laws(&shape.fields);
     let p = lead(column, shape.rank);
     if p == shape.rank {
-        return multiplied_column(shape, column, &[1, 1, 1]);
+        return *column;
+    }
+    if are_ones(shape.count, &column[p]) {
+        return *column;
     }
     multiplied_column(
         shape,
@@ -149,6 +189,19 @@ pub fn next_column(
 {
     let pivoted = pivoted_column(shape, column, minus, p, k);
     normalised_column(shape, &scaled_column(shape, &pivoted, by))
+}
+
+/// Whether all rows are 1, so that to multiply by them changes nothing.
+pub fn are_all_ones(shape: &Shape, by: &Column) -> bool
+    requires limits { AreLimits shape.now.fields shape.now.count shape.now.rank shape.now.size }
+    ensures { result ≡ true → (f i : ℕ) → f < shape.now.count → i < shape.now.rank → code by.now f i ≡ 1 }
+{
+    for i in 0..shape.rank {
+        if !are_ones(shape.count, &by[i]) {
+            return false;
+        }
+    }
+    true
 }
 
 /// The first row before `end` whose first code isn't 0; `end` where there is none.

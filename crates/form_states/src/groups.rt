@@ -12,7 +12,7 @@ use crate::states::Shape;
 /// The group of each row: a number below 6.
 pub type Groups = [u8; 6];
 
-/// For each group the factors that make 1 of its first codes in the column that aren't 0; 1 where there are none.
+/// For each group factors that aren't 0 and make 1 of its first codes in the column that aren't 0.
 pub fn group_factors(shape: &Shape, column: &Column, groups: &Groups) -> Column
     requires limits { AreLimits shape.now.fields shape.now.count shape.now.rank shape.now.size }
     requires column { AreColumnCodes shape.now.fields column.now }

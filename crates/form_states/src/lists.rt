@@ -1,13 +1,16 @@
 // Sixteen columns at a time, with their marks. What isn't marked is left as it is.
-ghost use Rattle.std.specs.Prelude.{◌≡◌, ◌≢◌, ◌<◌, ◌≤◌, ◌+◌, ◌↔◌, ◌⊎◌, [], ℕ, IsTrue, true, false, slice_index, slice_index_or, slice_set};
+ghost use Rattle.std.specs.Prelude.{◌≡◌, ◌≢◌, ◌<◌, ◌≤◌, ◌+◌, ◌*◌, ◌/◌, ◌%◌, ◌↔◌, ◌⊎◌, [], ℕ, IsTrue, true, false, slice_index, slice_index_or, slice_set};
 ghost use Rattle.std.specs.Option.{MatchOption};
 ghost use Rattle.matroid_theory.specs.Field.{times};
 ghost use Rattle.matroid_theory.specs.Exchange.{exchange};
+ghost use Rattle.form_trails.specs.Numbers.{weighed};
 ghost use Rattle.form_states.specs.Codes.{AreColumnCodes, code, cleared_code, IsNormalisedFrom};
 ghost use Rattle.form_states.specs.States.{AreLimits, AreColumns, AreGroups, IsScaledNumber, IsLeastMarked, HasHead, HasOtherHead, marked};
 
+use crate::codes::{are_binary, laws};
 use crate::columns::{
-    Column, agree_before, next_column, normalised_column, pivoted_column, scaled_column,
+    Column, agree_before, are_all_ones, next_column, normalised_column, pivoted_column,
+    scaled_column,
 };
 use crate::groups::{Groups, group_factors, row_factors};
 use crate::states::Shape;
@@ -91,11 +94,65 @@ pub fn next_columns(
         (λ f i. times (slice_index shape.now.fields f) (code by.now f i) (cleared_code shape.now.fields p (code minus.now) (code (slice_index_or columns.now e [])) f (exchange p k i)))
         (code (slice_index_or result e [])) }
 {
+    laws(&shape.fields);
+    if are_all_ones(shape, by) {
+        return normalised_pivots(shape, columns, marks, minus, p, k);
+    }
     let mut next = *columns;
     for e in 0..shape.size {
         next[e] = marked_next(shape, &columns[e], marks[e], minus, p, k, by);
     }
     next
+}
+
+/// Each marked column after the pivot, normalised.
+fn normalised_pivots(
+    shape: &Shape,
+    columns: &Columns,
+    marks: &Marks,
+    minus: &Column,
+    p: usize,
+    k: usize,
+) -> Columns
+    requires limits { AreLimits shape.now.fields shape.now.count shape.now.rank shape.now.size }
+    requires columns { AreColumns shape.now.fields columns.now }
+    requires minus { AreColumnCodes shape.now.fields minus.now }
+    requires p { p < shape.now.rank }
+    requires k { k < shape.now.rank }
+    ensures codes { AreColumns shape.now.fields result }
+    ensures normalised { (e : ℕ) → e < shape.now.size → slice_index_or marks.now e false ≡ true →
+        IsNormalisedFrom shape.now.fields shape.now.count shape.now.rank
+        (λ f i. cleared_code shape.now.fields p (code minus.now) (code (slice_index_or columns.now e [])) f (exchange p k i)) (code (slice_index_or result e [])) }
+{
+    let mut next = *columns;
+    for e in 0..shape.size {
+        next[e] = normalised_pivot(shape, &columns[e], marks[e], minus, p, k);
+    }
+    next
+}
+
+/// The column after the pivot, normalised, if it is marked.
+fn normalised_pivot(
+    shape: &Shape,
+    column: &Column,
+    mark: bool,
+    minus: &Column,
+    p: usize,
+    k: usize,
+) -> Column
+    requires limits { AreLimits shape.now.fields shape.now.count shape.now.rank shape.now.size }
+    requires column { AreColumnCodes shape.now.fields column.now }
+    requires minus { AreColumnCodes shape.now.fields minus.now }
+    requires p { p < shape.now.rank }
+    requires k { k < shape.now.rank }
+    ensures codes { AreColumnCodes shape.now.fields result }
+    ensures normalised { mark ≡ true → IsNormalisedFrom shape.now.fields shape.now.count shape.now.rank
+        (λ f i. cleared_code shape.now.fields p (code minus.now) (code column.now) f (exchange p k i)) (code result) }
+{
+    if !mark {
+        return *column;
+    }
+    normalised_column(shape, &pivoted_column(shape, column, minus, p, k))
 }
 
 /// The column after the pivot, with its rows multiplied, normalised, if it is marked.
@@ -208,6 +265,7 @@ pub fn without(marks: &Marks, e: usize) -> Marks
     requires below { e < 16 }
     requires marked { slice_index_or marks.now e false ≡ true }
     ensures marks { result ≡ slice_set marks.now e false }
+    ensures within { (i : ℕ) → slice_index_or result i false ≡ true → slice_index_or marks.now i false ≡ true }
     ensures fewer { marked result < marked marks.now }
 {
     let mut fewer = *marks;
@@ -231,11 +289,69 @@ pub fn marked_numbers(
         IsScaledNumber shape.now.fields (slice_index groups.now) shape.now.count shape.now.rank
         (λ f i. times (slice_index shape.now.fields f) (code by.now f i) (code (slice_index_or columns.now e []) f i)) (slice_index result e) }
 {
+    laws(&shape.fields);
+    if scales_nothing(shape, by) {
+        return own_numbers(shape, columns, marks);
+    }
+    scaled_numbers(shape, columns, marks, by, groups)
+}
+
+/// The same, column by column.
+fn scaled_numbers(
+    shape: &Shape,
+    columns: &Columns,
+    marks: &Marks,
+    by: &Column,
+    groups: &Groups,
+) -> [u128; 16]
+    requires limits { AreLimits shape.now.fields shape.now.count shape.now.rank shape.now.size }
+    requires columns { AreColumns shape.now.fields columns.now }
+    requires by { AreColumnCodes shape.now.fields by.now }
+    requires groups { AreGroups groups.now }
+    ensures { (e : ℕ) → e < shape.now.size → slice_index_or marks.now e false ≡ true →
+        IsScaledNumber shape.now.fields (slice_index groups.now) shape.now.count shape.now.rank
+        (λ f i. times (slice_index shape.now.fields f) (code by.now f i) (code (slice_index_or columns.now e []) f i)) (slice_index result e) }
+{
     let mut numbers = [0; 16];
     for e in 0..shape.size {
         numbers[e] = marked_number(shape, &columns[e], marks[e], by, groups);
     }
     numbers
+}
+
+/// Whether these factors are 1, and those of groups are: over GF(2) no others are there.
+fn scales_nothing(shape: &Shape, by: &Column) -> bool
+    requires { AreLimits shape.now.fields shape.now.count shape.now.rank shape.now.size }
+    ensures binary { result ≡ true → (f : ℕ) → f < 3 → slice_index shape.now.fields f ≡ 2 }
+    ensures ones { result ≡ true → (f i : ℕ) → f < shape.now.count → i < shape.now.rank → code by.now f i ≡ 1 }
+{
+    are_binary(&shape.fields) && are_all_ones(shape, by)
+}
+
+/// The numbers of the marked columns as they are: over GF(2) nothing is scaled.
+fn own_numbers(shape: &Shape, columns: &Columns, marks: &Marks) -> [u128; 16]
+    requires limits { AreLimits shape.now.fields shape.now.count shape.now.rank shape.now.size }
+    requires columns { AreColumns shape.now.fields columns.now }
+    ensures { (e : ℕ) → e < shape.now.size → slice_index_or marks.now e false ≡ true →
+        slice_index result e ≡ weighed (λ i. code (slice_index_or columns.now e []) (i % shape.now.count) (i / shape.now.count)) (shape.now.rank * shape.now.count) }
+{
+    let mut numbers = [0; 16];
+    for e in 0..shape.size {
+        numbers[e] = own_number(shape, &columns[e], marks[e]);
+    }
+    numbers
+}
+
+/// The number of the column, if it is marked.
+fn own_number(shape: &Shape, column: &Column, mark: bool) -> u128
+    requires limits { AreLimits shape.now.fields shape.now.count shape.now.rank shape.now.size }
+    requires column { AreColumnCodes shape.now.fields column.now }
+    ensures { mark ≡ true → result ≡ weighed (λ i. code column.now (i % shape.now.count) (i / shape.now.count)) (shape.now.rank * shape.now.count) }
+{
+    if !mark {
+        return 0;
+    }
+    number(column, shape.count, shape.rank)
 }
 
 /// The number of the column with its rows multiplied, scaled by groups, if it is marked.

@@ -1,5 +1,5 @@
 // Lists of numbers of columns.
-ghost use Rattle.std.specs.Prelude.{true, ◌≡◌, ◌<◌, ◌≤◌, [], ◌∷◌, ◌++◌, length, slice_index};
+ghost use Rattle.std.specs.Prelude.{IsTrue, ◌↔◌, ◌≡◌, ◌<◌, ◌≤◌, [], ◌∷◌, ◌++◌, length, slice_index};
 ghost use Rattle.std.specs.Cmp.Lexicographic.{slice_cmp};
 ghost use Rattle.std.specs.Ordering.{nat_cmp};
 ghost use Rattle.std.specs.declared.cmp.Ordering.TheVariants.{Less};
@@ -76,7 +76,7 @@ impl Numbers {
 
     /// Whether the numbers come before others, compared from the first on.
     pub fn is_below(&self, other: &Numbers) -> bool
-        ensures { (result ≡ true) → slice_cmp nat_cmp self.now other.now ≡ Less }
+        ensures { IsTrue result ↔ (slice_cmp nat_cmp self.now other.now ≡ Less) }
     {
         self.as_slice().cmp(other.as_slice()) == Ordering::Less
     }

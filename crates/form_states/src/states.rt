@@ -32,10 +32,12 @@ pub struct Row {
     pub rest: Marks,
 }
 
-/// What changes while the elements of the flat are placed: those that are open, what each row is multiplied by, and the groups.
+/// What changes while the elements of the flat are placed: those that are open, what each row is multiplied by, the groups, and the
+/// least number that each open element can have as the next column.
 #[derive(Drop)]
 pub struct State {
     pub open: Marks,
     pub scalars: Column,
     pub groups: Groups,
+    pub numbers: [u128; 16],
 }

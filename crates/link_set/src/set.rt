@@ -154,7 +154,8 @@ impl LinkSet {
     }
 
     /// Puts the key last where it is missing, and says whether it was. That is at most 12 steps, and none where the key is there.
-    /// Memory is wanting only where the key is missing and no room was made; the key then comes back, and the set stays.
+    /// Memory is wanting only where the key is missing and no room was made; the key then comes back, the set stays, and no step is
+    /// counted.
     pub fn insert_counted<L: Ledger>(
         &mut self,
         key: Key,
@@ -169,6 +170,7 @@ impl LinkSet {
         ensures spare { IfOk result (λ added. self.old.spare ≤ self.new.spare + 1) }
         ensures heads { IfOk result (λ added. added ≡ true → self.new.heads ≡ heads_after self.old) }
         ensures cost { IfOk result (λ added. MatchBool added (steps.new ≤ steps.old + 12) (steps.new ≡ steps.old)) }
+        ensures unmoved { OnErr result (steps.new ≡ steps.old) }
     {
         if self.contains(&key) {
             return Ok(false);

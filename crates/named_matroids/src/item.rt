@@ -1,6 +1,6 @@
 //! A matroid with its name.
 ghost use Rattle.std.specs.Prelude.{◌≡◌, ◌≤◌, ◌↔◌, [], ◌∷◌, length, IfOk, IsErrOf};
-ghost use Rattle.formats.specs.Statement.{ByMatrix, IsMatrix, minor_words};
+ghost use Rattle.formats.specs.Statement.{ByMatrix, Uniform, IsMatrix, minor_words};
 ghost use Rattle.formats.specs.Minors.{given_as};
 ghost use Rattle.matroid_theory.specs.Given.{ColumnsOver, IsGivenBy};
 ghost use Rattle.small_lists.specs.Lists.{lists};
@@ -71,6 +71,8 @@ impl MinorItem {
 }
 
 impl Default for MinorItem {
+    ghost is_default = { λ item. named_by item.spelling ≡ Uniform 0 1 };
+
     /// `U0,1`, for a place of a list that holds no matroid yet.
     fn default() -> Self {
         item_of(Spelling::Uniform(0, 1))

@@ -4,3 +4,4 @@ pub mod Said
 pub mod Walks
 pub mod Texts
 pub mod Examples
+pub mod Starts

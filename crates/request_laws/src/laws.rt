@@ -6,6 +6,7 @@ ghost use Rattle.formats.specs.Minors.{given_as};
 ghost use Rattle.formats.specs.Request.{Request, StandsFor};
 ghost use Rattle.formats.specs.Levels.{Grows, Keeps, IsListingUpTo, IsListingCutOff};
 ghost use Rattle.existence.specs.Exists.{HasMatroid};
+ghost use Rattle.request_laws.specs.Starts.{IsSomeStart, HasSomeFault, IsSomeStartFor, HasSomeFaultFor};
 ghost use Rattle.request_laws.specs.Answered.{StandsForSome, HasSomeRefusal, NamesMinors, HasFamily, HasFilters, HasLevelEntry, HasListing, IsFrontOfListing};
 
 /// Each text stands for a request or has a refusal.
@@ -37,4 +38,11 @@ pub fn each_request_has_a_listing()
         StandsFor text q → IsListingCutOff q whole written → IsFrontOfListing q written }
     ensures up_to { (text : List ℕ) (q : Request) (whole : ℕ) (written : List ℕ) →
         StandsFor text q → IsListingUpTo q whole written → IsFrontOfListing q written }
+{}
+
+/// Growth can start from a text, or the text has a fault of a listing. The same holds for growth to a wanted size, so a run that
+/// resumes has an answer for each text.
+pub fn each_text_is_a_start_or_has_a_fault()
+    ensures text { (text : List ℕ) → IsSomeStart text ⊎ HasSomeFault text }
+    ensures wanted { (wanted : ℕ) (text : List ℕ) → IsSomeStartFor wanted text ⊎ HasSomeFaultFor wanted text }
 {}

@@ -35,7 +35,7 @@ pub record NoMoreFits (q : Request) (levels : List LevelEntry) (rest : List ℕ)
       → length rest < length (concat (level_pieces q.print x))
 
 -- of two fronts of a list the longer begins with the other
-longer_front : {X : Type 0} (xs ys zs ws : List X) → xs ++ zs ≡ ys ++ ws → length xs ≤ length ys → (ms : List X) × (ys ≡ xs ++ ms)
+pub longer_front : {X : Type 0} (xs ys zs ws : List X) → xs ++ zs ≡ ys ++ ws → length xs ≤ length ys → (ms : List X) × (ys ≡ xs ++ ms)
 longer_front [] ys zs ws e l = (ys, refl)
 longer_front (x ∷ xs) [] zs ws e l = absurd (omega arith)
 longer_front (x ∷ xs) (y ∷ ys) zs ws e l =

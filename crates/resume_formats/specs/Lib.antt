@@ -1,5 +1,6 @@
 pub mod Fronts
 pub mod Cut
+pub mod Heads
 pub mod Fault
 pub mod Resumed
 pub mod Status

@@ -18,5 +18,5 @@ pub returns-then-is_below : goal.returns-then-is_below
 returns-then-is_below c = (
   λ e. absurd (true≢false (sym e)),
   λ f. absurd (not_form c.args.rep.now (shaped _ _ _ _ _ c.requires.shape) c.requires.shape.standard c.args.least.now c.requires.class
-      (ap (λ (w : List ℕ). slice_cmp nat_cmp c.args.least.now w) (sym c.own_numbers-own.ensures) ∙ c.is_below.ensures c.if-is_below.true) f),
+      (ap (λ (w : List ℕ). slice_cmp nat_cmp c.args.least.now w) (sym c.own_numbers-own.ensures) ∙ c.is_below.ensures.0 c.if-is_below.true) f),
 )

@@ -1,4 +1,4 @@
-use Rattle.std.proofs.Common.{◌≡◌, ◌+◌, ◌<◌, ℕ, true, false, List, length, sym, ◌∙◌, ap, subst, arith, rules}
+use Rattle.std.proofs.Common.{◌≡◌, ◌+◌, ◌<◌, ℕ, List, length, sym, ◌∙◌, ap, subst, arith, rules}
 use Rattle.matroid_theory.specs.Field.{degree}
 use Rattle.matroid_theory.specs.Rep.{Shape, count, order}
 use Rattle.matroid_laws.proofs.Compared.{below_not_above, not_below_reversed}

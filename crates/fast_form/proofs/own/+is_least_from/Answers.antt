@@ -1,4 +1,4 @@
-use Rattle.std.proofs.Common.{◌≡◌, ◌≢◌, ◌<◌, ℕ, true, List, length, sym, ◌∙◌, ap, arith, rules}
+use Rattle.std.proofs.Common.{◌≡◌, ◌<◌, ℕ, List, length, sym, ◌∙◌, ap, arith, rules}
 use mathlib.Core.Bool.{true≢false}
 use Rattle.matroid_theory.specs.Field.{degree}
 use Rattle.matroid_theory.specs.Rep.{Shape, count, order}

@@ -1,4 +1,4 @@
-use Rattle.std.proofs.Common.{◌≢◌, ◌↔◌, true, false, sym, ◌∙◌}
+use Rattle.std.proofs.Common.{◌↔◌, sym, ◌∙◌}
 use mathlib.Core.Bool.{true≢false}
 use Rattle.fast_form.proofs.OwnForms.{form_enough, equal_own, above_own}
 use Rattle.form_states.proofs.Shapes.{whole}

@@ -9,7 +9,7 @@ use Rattle.form_states.specs.States.{layer_of, rest_of, IsLeastNumber}
 use Rattle.form_states.specs.Codes.{code}
 use Rattle.fast_form.proofs.Covering.{all_tried, all_branched, branched_improves, above_covers, beyond_covers, one_covers, standing_room, tried_same, branched_same, unstopped, more_tried, not_there, more_branched, other_branched}
 use Rattle.fast_form.proofs.search.+search.Goals as goal
-use Rattle.fast_form.proofs.search.+search.Goals.{rows-then-frame-b+else-stops, rows-else-frame-b, place_each-then-state-e+then-numbers-e+else-stops, place_each-else-state-e, place_each-else-state-e-via-then-state-e+else-numbers-e, place_each-else-state-e-via-else-state-e}
+use Rattle.fast_form.proofs.search.+search.Goals.{rows-then-frame-b+else-stops, rows-else-frame-b, place_each-then-state-e+then-state-e-2+else-stops, place_each-else-state-e, place_each-else-state-e-via-then-state-e+else-state-e-2, place_each-else-state-e-via-else-state-e}
 
 pub rows-returns-clause-improves : goal.rows-returns-clause-improves
 rows-returns-clause-improves t c = c.loop-b.invariant.improves
@@ -29,7 +29,7 @@ rows-place-found-requires t c =
         c.requires.shape,
         (
           c.requires.row,
-          (c.chosen-state.ensures.codes, ((e, p), (c.loop-b.invariant.improves.sound, c.loop-b.invariant.stands))),
+          (c.chosen-state.ensures.codes, (c.chosen-state.ensures.numbered, ((e, p), (c.loop-b.invariant.improves.sound, c.loop-b.invariant.stands)))),
         ),
       ),
     )
@@ -70,14 +70,14 @@ place-standing-requires-clause-room t c =
     standing_room c.args.rep.now c.requires.shape.is_rep c.args.k c.requires.row c.args.state.now.groups (λ e. code (slice_index_or c.args.layer.now e []))
     c.args.state.now.scalars c.args.state.now.open
     (rest_of c.args.rep.now c.args.k c.args.columns.now c.args.row.now.p c.args.row.now.minus c.args.state.now.scalars c.args.row.now.rest) c.args.settled.now
-    c.least_numbers-numbers.result c.in-Some.low (c.least_numbers-numbers.ensures d c.args.settled.now h) c.in-Some.ensures c.args.best.now c.requires.sound d h
+    c.args.state.now.numbers c.in-Some.low (c.numbers_are_least.ensures d c.args.settled.now h) c.in-Some.ensures c.args.best.now c.requires.sound d h
 
 pub place-returns-in-None-standing-clause-covers : goal.place-returns-in-None-standing-clause-covers
 place-returns-in-None-standing-clause-covers t c q d h =
     above_covers c.args.rep.now c.requires.shape.is_rep c.args.k c.requires.row c.args.state.now.groups (λ e. code (slice_index_or c.args.layer.now e []))
     c.args.state.now.scalars c.args.state.now.open
     (rest_of c.args.rep.now c.args.k c.args.columns.now c.args.row.now.p c.args.row.now.minus c.args.state.now.scalars c.args.row.now.rest) c.args.settled.now
-    c.least_numbers-numbers.result c.in-Some.low (c.least_numbers-numbers.ensures d c.args.settled.now h) c.in-Some.ensures c.args.best.now c.requires.sound
+    c.args.state.now.numbers c.in-Some.low (c.numbers_are_least.ensures d c.args.settled.now h) c.in-Some.ensures c.args.best.now c.requires.sound
     (subst (λ (b : Bool). Stands b c.args.best.now c.args.settled.now) c.in-None-standing.ensures.was_level c.requires.stands)
     c.in-None-standing.ensures.above d h
 
@@ -86,7 +86,7 @@ place_each-returns-clause-improves t c =
     branched_improves c.args.rep.now c.requires.shape.is_rep c.args.k c.requires.row c.args.state.now.groups
     (λ e. code (slice_index_or c.args.layer.now e [])) c.args.state.now.scalars c.args.state.now.open
     (rest_of c.args.rep.now c.args.k c.args.columns.now c.args.row.now.p c.args.row.now.minus c.args.state.now.scalars c.args.row.now.rest) c.args.settled.now
-    c.args.numbers.now c.args.low c.requires.numbers c.requires.low
+    c.args.state.now.numbers c.args.low c.requires.numbers c.requires.low
     c.loop-e.e c.followed_by-longer.result c.args.best.now c.loop-e.best c.loop-e.better c.loop-e.abreast c.followed_by-longer.ensures c.loop-e.invariant
 
 pub place_each-returns-clause-covers : goal.place_each-returns-clause-covers
@@ -94,7 +94,7 @@ place_each-returns-clause-covers t c q d h =
     all_branched c.args.rep.now c.requires.shape.is_rep c.args.k c.requires.row c.args.state.now.groups (λ e. code (slice_index_or c.args.layer.now e []))
     c.args.state.now.scalars c.args.state.now.open
     (rest_of c.args.rep.now c.args.k c.args.columns.now c.args.row.now.p c.args.row.now.minus c.args.state.now.scalars c.args.row.now.rest) c.args.settled.now
-    c.args.numbers.now c.args.low c.requires.numbers c.requires.low
+    c.args.state.now.numbers c.args.low c.requires.numbers c.requires.low
     c.loop-e.e c.followed_by-longer.result c.args.best.now c.loop-e.best c.loop-e.better c.loop-e.abreast c.loop-e.invariant
     (omega (arith, c.requires.shape.total_is)) d h
 
@@ -110,14 +110,17 @@ place_each-place_one-found-requires t c =
           (
             c.requires.codes,
             (
-              c.requires.state,
+              c.requires.numbered,
               (
-                there,
+                c.requires.state,
                 (
-                  subst (IsLeastNumber c.args.rep.now (slice_index c.args.state.now.groups)
-                      (λ f i. times (order c.args.rep.now f) (code c.args.state.now.scalars f i) (code (slice_index_or c.args.layer.now c.loop-e.e []) f i)))
-                      c.if-numbers-e.true (c.requires.numbers c.loop-e.e there),
-                  (c.followed_by-longer.ensures, (c.loop-e.invariant.improves.sound, c.loop-e.invariant.stands)),
+                  there,
+                  (
+                    subst (IsLeastNumber c.args.rep.now (slice_index c.args.state.now.groups)
+                        (λ f i. times (order c.args.rep.now f) (code c.args.state.now.scalars f i) (code (slice_index_or c.args.layer.now c.loop-e.e []) f i)))
+                        c.if-state-e-2.true (c.requires.numbers c.loop-e.e there),
+                    (c.followed_by-longer.ensures, (c.loop-e.invariant.improves.sound, c.loop-e.invariant.stands)),
+                  ),
                 ),
               ),
             ),
@@ -128,7 +131,7 @@ place_each-place_one-found-requires t c =
 
 pub place_each-loop-e-preserved : goal.place_each-loop-e-preserved
 place_each-loop-e-preserved t c = elim c.if-state-e.branch [
-  | place_each-then-state-e+then-numbers-e+else-stops w ↦
+  | place_each-then-state-e+then-state-e-2+else-stops w ↦
       branched_same c.args.rep.now c.args.k c.args.state.now.groups (layer_of c.args.rep.now c.args.layer.now c.args.state.now.scalars c.args.state.now.open)
       (rest_of c.args.rep.now c.args.k c.args.columns.now c.args.row.now.p c.args.row.now.minus c.args.state.now.scalars c.args.row.now.rest)
       c.args.settled.now (c.loop-e.e + 1) c.followed_by-longer.result c.args.best.now
@@ -138,7 +141,7 @@ place_each-loop-e-preserved t c = elim c.if-state-e.branch [
       (more_branched c.args.rep.now c.requires.shape.is_rep c.args.k c.requires.row c.args.state.now.groups
       (λ e. code (slice_index_or c.args.layer.now e [])) c.args.state.now.scalars c.args.state.now.open
       (rest_of c.args.rep.now c.args.k c.args.columns.now c.args.row.now.p c.args.row.now.minus c.args.state.now.scalars c.args.row.now.rest) c.args.settled.now
-      c.args.numbers.now c.args.low c.requires.numbers c.requires.low
+      c.args.state.now.numbers c.args.low c.requires.numbers c.requires.low
       c.loop-e.e c.followed_by-longer.result c.args.best.now c.loop-e.best w.place_one-found.new.best c.loop-e.better c.loop-e.abreast w.place_one-found.result
       c.loop-e.invariant w.place_one-found.ensures.improves (w.place_one-found.ensures.covers (unstopped _ _ _ w.stops.ensures.1 w.if-stops.false)))
   | place_each-else-state-e w ↦
@@ -149,10 +152,10 @@ place_each-loop-e-preserved t c = elim c.if-state-e.branch [
       (other_branched c.args.rep.now c.requires.shape.is_rep c.args.k c.requires.row c.args.state.now.groups
       (λ e. code (slice_index_or c.args.layer.now e [])) c.args.state.now.scalars c.args.state.now.open
       (rest_of c.args.rep.now c.args.k c.args.columns.now c.args.row.now.p c.args.row.now.minus c.args.state.now.scalars c.args.row.now.rest) c.args.settled.now
-      c.args.numbers.now c.args.low c.requires.numbers c.requires.low
+      c.args.state.now.numbers c.args.low c.requires.numbers c.requires.low
       c.loop-e.e c.followed_by-longer.result c.args.best.now c.loop-e.best c.loop-e.better c.loop-e.abreast c.loop-e.invariant
       (λ o n. elim w.else-state-e.branch [
-        | place_each-else-state-e-via-then-state-e+else-numbers-e w' ↦ w'.if-numbers-e.false n
+        | place_each-else-state-e-via-then-state-e+else-state-e-2 w' ↦ w'.if-state-e-2.false n
         | place_each-else-state-e-via-else-state-e w' ↦ true≢false (sym o ∙ w'.if-state-e.false)
       ]))
 ]
@@ -169,14 +172,17 @@ place_one-place-requires t c =
           (
             c.placed-next.ensures.codes,
             (
+              c.placed-next.ensures.numbered,
               (
-                e,
-                subst (λ (s : List ℕ). IsPlacing c.args.rep.now c.args.k (slice_index c.placed-next.result.groups) s
-                    (layer_of c.args.rep.now c.args.layer.now c.placed-next.result.scalars c.placed-next.result.open)
-                    (rest_of c.args.rep.now c.args.k c.args.columns.now c.args.row.now.p c.args.row.now.minus c.placed-next.result.scalars
-                    c.args.row.now.rest) e) (sym c.requires.longer) p,
+                (
+                  e,
+                  subst (λ (s : List ℕ). IsPlacing c.args.rep.now c.args.k (slice_index c.placed-next.result.groups) s
+                      (layer_of c.args.rep.now c.args.layer.now c.placed-next.result.scalars c.placed-next.result.open)
+                      (rest_of c.args.rep.now c.args.k c.args.columns.now c.args.row.now.p c.args.row.now.minus c.placed-next.result.scalars
+                      c.args.row.now.rest) e) (sym c.requires.longer) p,
+                ),
+                (c.requires.sound, c.requires.stands),
               ),
-              (c.requires.sound, c.requires.stands),
             ),
           ),
         ),

@@ -4,6 +4,7 @@ use Rattle.matroid_theory.specs.Field.{times}
 use Rattle.matroid_theory.specs.Exchange.{exchange}
 use Rattle.form_states.specs.Codes.{AreColumnCodes, code, cleared_code, IsNormalisedFrom}
 use Rattle.form_states.proofs.GroupSteps.{set_at}
+use Rattle.form_states.proofs.Normalised.{normalised_same, cleared_by_one}
 use Rattle.form_states.proofs.lists.next_columns.Goals as goal
 
 pub loop-e-preserved : goal.loop-e-preserved
@@ -25,3 +26,18 @@ loop-e-preserved c = record {
       (sym y) c.marked_next.ensures.normalised m)
       (λ n. c.loop-e.invariant.rows j (elim (cases_lt j c.loop-e.e) [ inl b ↦ b | inr b ↦ absurd (n (omega arith)) ]) m);
 }
+
+pub returns-then-are_all_ones-clause-normalised : goal.returns-then-are_all_ones-clause-normalised
+returns-then-are_all_ones-clause-normalised c e l m =
+    normalised_same c.args.shape.now.fields c.args.shape.now.count c.args.shape.now.rank
+    (λ f i. cleared_code c.args.shape.now.fields c.args.p (code c.args.minus.now) (code (slice_index_or c.args.columns.now e [])) f
+    (exchange c.args.p c.args.k i))
+    (λ f i. times (slice_index c.args.shape.now.fields f) (code c.args.by.now f i)
+    (cleared_code c.args.shape.now.fields c.args.p (code c.args.minus.now) (code (slice_index_or c.args.columns.now e [])) f
+    (exchange c.args.p c.args.k i)))
+    (code (slice_index_or c.normalised_pivots.result e [])) c.requires.limits.one
+    (λ f i n b. cleared_by_one c.args.shape.now.fields c.args.shape.now.count c.args.shape.now.rank c.args.shape.now.size c.args.p
+    (slice_index_or c.args.columns.now e []) (code c.args.minus.now) (code c.args.by.now) f i (exchange c.args.p c.args.k i) c.requires.limits
+    (c.requires.columns e (omega (arith, c.requires.limits.sixteen))) c.requires.p n (c.laws.ensures f (omega (arith, c.requires.limits.few)))
+    (c.are_all_ones.ensures c.if-are_all_ones.true f i n b))
+    (c.normalised_pivots.ensures.normalised e l m)

@@ -17,5 +17,5 @@ as_entries M layer scalars marks numbers total (Some low) z h = record {
 }
 
 pub returns : goal.returns
-returns c = as_entries c.args.rep.now c.args.layer.now c.args.state.now.scalars c.args.state.now.open c.args.numbers.now c.args.shape.now.size
+returns c = as_entries c.args.rep.now c.args.layer.now c.args.state.now.scalars c.args.state.now.open c.args.state.now.numbers c.args.shape.now.size
     c.least_marked.result c.requires.shape.total_is c.least_marked.ensures

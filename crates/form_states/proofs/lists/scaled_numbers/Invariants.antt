@@ -2,7 +2,7 @@ use Rattle.std.proofs.Common.{◌≡◌, ◌<◌, ℕ, true, false, [], length, 
 use Rattle.matroid_theory.specs.Field.{times}
 use Rattle.form_states.specs.Codes.{code}
 use Rattle.form_states.specs.States.{IsScaledNumber}
-use Rattle.form_states.proofs.lists.marked_numbers.Given as goal
+use Rattle.form_states.proofs.lists.scaled_numbers.Given as goal
 
 abbrev pub invariant-loop-e : goal.invariant-loop-e
 invariant-loop-e l = record {
