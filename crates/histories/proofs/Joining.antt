@@ -1,17 +1,20 @@
 -- Histories that share no key, one after the other.
-use Rattle.std.proofs.Common.{◌≡◌, ℕ, suc, ◌+◌, Bool, true, false, cond, ◌==◌, ◌||◌, ⊎_elim, List, [], ◌∷◌, ◌++◌, Some, slice_get, refl, ap, sym, ◌∙◌, subst, arith, Contains, bytes_eq, eqb-true, append_assoc, append-nil}
-use Rattle.std.specs.List.{filter, flat_map}
+use Rattle.std.proofs.Common.{◌≡◌, ℕ, suc, ◌+◌, Bool, true, false, cond, ◌==◌, ◌&&◌, ◌||◌, ⊎_elim, List, [], ◌∷◌, ◌++◌, Some, slice_get, refl, ap, sym, ◌∙◌, subst, arith, Contains, bytes_eq, eqb-true, append_assoc, append-nil}
+use Rattle.std.specs.List.{count_by, filter, flat_map, sum_by}
 use Rattle.std.proofs.lemmas.Bool.{false≢true, or_cases, or_left, or_right}
 use Rattle.std.proofs.lemmas.List.Elements.{filter-append}
 use Rattle.std.proofs.lemmas.List.Folds.{list_any-append}
 use Rattle.std.proofs.lemmas.List.Sums.{sum_by-cons, sum_by-append}
 use Rattle.histories.specs.declared.entry.Entry.{Entry}
+use Rattle.histories.specs.declared.entry.Reply.{Reply}
 use Rattle.histories.specs.declared.entry.Reply.TheVariants.{New, Again}
 use Rattle.histories.specs.SetObject.{has_key, after_offer, keys_from, keys_after}
 use Rattle.histories.specs.History.{IsLegal, IsNumbered, RepliesFrom, calls_by}
-use Rattle.histories.specs.Counts.{entries_in, entries_with, is_new, keys_of, new_keys}
+use Rattle.histories.specs.Counts.{entries_in, entries_with, is_new, keys_of, new_keys, news_among, news_with}
 use Rattle.histories.specs.Joined.{ShareNoKey, joined, one_call_more, renumbered}
 use Rattle.histories.proofs.Keys.{contains_from_has, has_key-after, keys_of-append, same_bytes}
+use Rattle.histories.proofs.News.{one_new}
+use Rattle.histories.proofs.Once.{new_exact}
 
 abbrev together : List (List Entry) → List Entry
 together histories = flat_map (λ history. history) histories
@@ -109,22 +112,27 @@ joined_legal histories legal apart = record {
 }
 
 -- ---- entries and keys stay
-entries_still : (key : List ℕ) (made : ℕ → ℕ) (history : List Entry) → entries_with key (renumbered made history) ≡ entries_with key history
-entries_still key made [] = refl
-entries_still key made (e ∷ es) =
-    sum_by-cons (λ (e : Entry). cond (bytes_eq key e.key) 1 0) (record { caller = e.caller; call = made e.caller; key = e.key; reply = e.reply })
+still_counted : (p : Reply → List ℕ → Bool) (made : ℕ → ℕ) (history : List Entry)
+    → count_by (λ (e : Entry). p e.reply e.key) (renumbered made history) ≡ count_by (λ (e : Entry). p e.reply e.key) history
+still_counted p made [] = refl
+still_counted p made (e ∷ es) =
+    sum_by-cons (λ (e : Entry). cond (p e.reply e.key) 1 0) (record { caller = e.caller; call = made e.caller; key = e.key; reply = e.reply })
     (renumbered (one_call_more e.caller made) es)
-    ∙ (ap (λ n. cond (bytes_eq key e.key) 1 0 + n) (entries_still key (one_call_more e.caller made) es)
-    ∙ sym (sum_by-cons (λ (e : Entry). cond (bytes_eq key e.key) 1 0) e es))
+    ∙ (ap (λ n. cond (p e.reply e.key) 1 0 + n) (still_counted p (one_call_more e.caller made) es)
+    ∙ sym (sum_by-cons (λ (e : Entry). cond (p e.reply e.key) 1 0) e es))
 
-entries_together : (key : List ℕ) (histories : List (List Entry)) → entries_with key (together histories) ≡ entries_in histories key
-entries_together key [] = refl
-entries_together key (h ∷ hs) =
-    sum_by-append (λ (e : Entry). cond (bytes_eq key e.key) 1 0) h (together hs)
-    ∙ (ap (λ n. entries_with key h + n) (entries_together key hs) ∙ sym (sum_by-cons (entries_with key) h hs))
+counted_together : (p : Entry → Bool) (histories : List (List Entry)) → count_by p (together histories) ≡ sum_by (count_by p) histories
+counted_together p [] = refl
+counted_together p (h ∷ hs) =
+    sum_by-append (λ (e : Entry). cond (p e) 1 0) h (together hs)
+    ∙ (ap (λ n. count_by p h + n) (counted_together p hs) ∙ sym (sum_by-cons (count_by p) h hs))
 
 pub joined_entries : (histories : List (List Entry)) (key : List ℕ) → entries_with key (joined histories) ≡ entries_in histories key
-joined_entries histories key = entries_still key (λ _. 0) (together histories) ∙ entries_together key histories
+joined_entries histories key = still_counted (λ _. bytes_eq key) (λ _. 0) (together histories) ∙ counted_together (λ (e : Entry). bytes_eq key e.key) histories
+
+pub joined_news : (histories : List (List Entry)) (key : List ℕ) → news_with key (joined histories) ≡ news_among histories key
+joined_news histories key = still_counted (λ reply other. is_new reply && bytes_eq key other) (λ _. 0) (together histories)
+    ∙ counted_together (λ (e : Entry). is_new e.reply && bytes_eq key e.key) histories
 
 new_still_by : (made : ℕ → ℕ) (e : Entry) (xs ys : List Entry) (b : Bool) → keys_of xs ≡ keys_of ys
     → keys_of (cond b (record { caller = e.caller; call = made e.caller; key = e.key; reply = e.reply } ∷ xs) xs) ≡ keys_of (cond b (e ∷ ys) ys)
@@ -146,3 +154,10 @@ new_together (h ∷ hs) =
 
 pub joined_new : (histories : List (List Entry)) → new_keys (joined histories) ≡ flat_map new_keys histories
 joined_new histories = new_still (λ _. 0) (together histories) ∙ new_together histories
+
+-- a key that was told New in one of the histories was told New once in all
+pub once_among : (histories : List (List Entry)) (key : List ℕ) → IsLegal (joined histories) → Contains (flat_map new_keys histories) key
+    → news_among histories key ≡ 1
+once_among histories key legal new =
+    let there : Contains (new_keys (joined histories)) key = subst (λ (keys : List (List ℕ)). Contains keys key) (sym (joined_new histories)) new in
+    sym (joined_news histories key) ∙ one_new (joined histories) key legal ((new_exact (joined histories) key legal).0 there)

@@ -29,6 +29,10 @@ news_with key history = count_by (λ (e : Entry). is_new e.reply && bytes_eq key
 abbrev pub entries_in : List (List Entry) → List ℕ → ℕ
 entries_in histories key = sum_by (entries_with key) histories
 
+-- how many of these were told New
+abbrev pub news_among : List (List Entry) → List ℕ → ℕ
+news_among histories key = sum_by (news_with key) histories
+
 -- the keys of the history are these, each as often as it stands in the list
 abbrev pub AreItsKeys : List (List ℕ) → List Entry → Type 0
 AreItsKeys keys history = (key : List ℕ) → entries_with key history ≡ count_by (bytes_eq key) keys

@@ -5,7 +5,7 @@ ghost use Rattle.histories.specs.declared.entry.Entry.{Entry};
 ghost use Rattle.histories.specs.declared.entry.Reply.TheVariants.{New, Again};
 ghost use Rattle.histories.specs.SetObject.{keys_after, reply_to};
 ghost use Rattle.histories.specs.History.{IsLegal};
-ghost use Rattle.histories.specs.Counts.{AreItsKeys, entries_in, entries_with, keys_of, new_keys, news_with};
+ghost use Rattle.histories.specs.Counts.{AreItsKeys, entries_in, entries_with, keys_of, new_keys, news_among, news_with};
 ghost use Rattle.histories.specs.Joined.{ShareNoKey, joined};
 
 /// The set answers New exactly where no entry before has the key, and Again exactly where one has it.
@@ -39,10 +39,11 @@ pub fn the_order_is_free()
 {}
 
 /// Legal histories of stripes that share no key are one legal history, one after the other and with each caller's calls numbered
-/// anew. It has the same entries for each key, and the same keys were told New.
+/// anew. It has the same entries for each key, and the same keys were told New, each by one entry of all the histories.
 pub fn stripes_are_one_history()
     ensures legal { (histories : List (List Entry)) → ((s : ℕ) (history : List Entry) → slice_get histories s ≡ Some history → IsLegal history) →
         ShareNoKey histories → IsLegal (joined histories) }
     ensures entries { (histories : List (List Entry)) (key : List ℕ) → entries_with key (joined histories) ≡ entries_in histories key }
     ensures fresh { (histories : List (List Entry)) → new_keys (joined histories) ≡ flat_map new_keys histories }
+    ensures once { (histories : List (List Entry)) (key : List ℕ) → IsLegal (joined histories) → Contains (flat_map new_keys histories) key → news_among histories key ≡ 1 }
 {}

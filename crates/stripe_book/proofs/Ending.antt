@@ -12,7 +12,7 @@ use Rattle.stripe_book.specs.declared.view.View.{View}
 use Rattle.stripe_book.specs.declared.view.View.TheVariants.{Keeps, Calls, Spent}
 use Rattle.histories.specs.History.{calls_by, IsNumbered, IsLegal, RepliesFrom}
 use Rattle.stripe_book.specs.Rule.{unmade, seated, Account, Lags, LeftFit, IsKept, Holds, Fits, opened, ledger}
-use Rattle.stripe_book.specs.Seen.{OwnCalls, OfCallersBelow}
+use Rattle.stripe_book.specs.Seen.{OwnCalls, OfCallersBelow, SawBeginnings}
 use Rattle.stripe_book.specs.Steps.{next_book, next_caller, leaves}
 use Rattle.stripe_book.proofs.Kept.{not_gone, not_unmade}
 use Rattle.stripe_book.proofs.Notes.{calls_begin}
@@ -49,6 +49,13 @@ module _ (callers : ℕ) (words : List ℕ) (views : List View) (a : Account) (k
 
   pub ends_calls : OwnCalls b.history b.left
   ends_calls = let own = k.fits id (Keeps b) at in subst (λ l. OwnCalls l b.left) (sym own.history) (ends_left b.left own.left)
+
+  saw_left : (ts : List Trace) → LeftFit a ts → SawBeginnings a.history ts
+  saw_left [] f = tt
+  saw_left (t ∷ ts) f = (f.0.2, saw_left ts f.1)
+
+  pub ends_seen : SawBeginnings b.history b.left
+  ends_seen = let own = k.fits id (Keeps b) at in subst (λ l. SawBeginnings l b.left) (sym own.history) (saw_left b.left own.left)
 
   pub ends_below : OfCallersBelow callers b.history
   ends_below c le = let own = k.fits id (Keeps b) at in let r = k.unmade c (let m = k.room in omega arith) in

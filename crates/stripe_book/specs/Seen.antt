@@ -1,5 +1,7 @@
 -- What contracts see of a stripe's table and of its seats.
 use Rattle.std.specs.Prelude.{ℕ, zero, suc, ◌+◌, ◌<◌, ◌≤◌, ◌≡◌, ◌⊎◌, List, [], ◌∷◌, ◌++◌}
+use Rattle.std.specs.List.{AllByRecursion}
+use mathlib.Core.List.{IsPrefix}
 use Rattle.atomic_table.specs.Table.{Me}
 use Rattle.atomic_table.specs.Seated.{TableId}
 use Rattle.histories.specs.declared.entry.Entry.{Entry}
@@ -84,6 +86,10 @@ EachLeft callers left = (c : ℕ) → c < callers → HasLeft c left
 abbrev pub OwnCalls : List Entry → List Trace → Type 0
 OwnCalls history [] = Unit {0}
 OwnCalls history (t ∷ ts) = (calls_by t.number history ≡ t.mine) × OwnCalls history ts
+
+-- what each caller that has left had seen is a beginning of the history
+abbrev pub SawBeginnings : List Entry → List Trace → Type 0
+SawBeginnings history left = AllByRecursion (λ (t : Trace). IsPrefix t.seen history) left
 
 -- the history has calls of these callers alone
 abbrev pub OfCallersBelow : ℕ → List Entry → Type 0

@@ -2,7 +2,7 @@ ghost use Rattle.std.specs.Prelude.{◌≡◌, ◌+◌, ◌<◌, ◌≤◌, ◌�
 ghost use Rattle.stripe_book.specs.declared.view.Phase.TheVariants.{Idle};
 ghost use Rattle.histories.specs.History.{IsLegal};
 ghost use Rattle.stripe_book.specs.Rule.{trace};
-ghost use Rattle.stripe_book.specs.Seen.{CallerSide, EachLeft, OwnCalls, OfCallersBelow, fresh_callers};
+ghost use Rattle.stripe_book.specs.Seen.{CallerSide, EachLeft, OwnCalls, OfCallersBelow, SawBeginnings, fresh_callers};
 
 use crate::offer::Offer;
 use crate::plays::{Leaves, Makes};
@@ -81,13 +81,14 @@ impl StripeTable {
     }
 
     /// Ends the history, once each caller has left. It is legal, each caller's calls in it are those that the caller made, and it has no
-    /// others.
+    /// others. What a caller had seen is a beginning of it.
     pub fn end(self, book: Book) -> Ended
         requires table { book.table ≡ self.table }
         requires left { EachLeft self.callers book.left }
         ensures book { result ≡ book }
         ensures legal { IsLegal result.history }
         ensures calls { OwnCalls result.history result.left }
+        ensures seen { SawBeginnings result.history result.left }
         ensures callers { OfCallersBelow self.callers result.history }
     {
         let StripeTable { table } = self;
