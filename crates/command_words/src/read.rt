@@ -1,5 +1,5 @@
 //! The words of a command line, and what they ask for.
-ghost use Rattle.std.specs.Prelude.{◌≤◌, List, IfOk, IfSome, MatchOption, None, false, map, string_bytes};
+ghost use Rattle.std.specs.Prelude.{◌≡◌, ◌≤◌, List, IfOk, IfSome, MatchOption, None, false, map, string_bytes};
 ghost use Rattle.formats.specs.Words.{Piece, IsCommand, StandsAtMacek, StandsAtAlone};
 ghost use Rattle.command_words.specs.Asking.{IsAsked, StandsAtEither};
 
@@ -13,14 +13,14 @@ pub struct Asked {
     /// The number of workers, from 1 to 64, where it is named.
     pub workers: Option<u32>,
     /// The number of the sample, at most 15, where one is named.
-    pub sample: Option<u32>,
+    pub sample: Option<u8>,
 }
 
 /// What the words of `macek_alone` ask for.
 #[derive(Clone, Copy, Debug, PartialEq, Eq)]
 pub struct AskedAlone {
     /// The number of the sample, at most 15, where one is named.
-    pub sample: Option<u32>,
+    pub sample: Option<u8>,
     /// Whether the levels are to be grown in the orderly way.
     pub orderly: bool,
 }
@@ -29,7 +29,7 @@ pub struct AskedAlone {
 #[derive(Clone, Copy)]
 struct AskedOfEither {
     workers: Option<u32>,
-    sample: Option<u32>,
+    sample: Option<u8>,
     orderly: bool,
 }
 
@@ -97,7 +97,18 @@ fn read_either(alloc: Global, words: &[String]) -> Result<Option<AskedOfEither>,
     };
     Ok(Some(AskedOfEither {
         workers,
-        sample,
+        sample: sample_number(sample),
         orderly: matches.get_flag("orderly"),
     }))
+}
+
+// The number of a sample.
+fn sample_number(number: Option<u32>) -> Option<u8>
+    requires { IfSome number (λ k. k ≤ 15) }
+    ensures { result ≡ number }
+{
+    match number {
+        Some(k) => Some(k as u8),
+        None => None,
+    }
 }

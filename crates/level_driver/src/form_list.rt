@@ -1,5 +1,5 @@
 // Forms in a list.
-ghost use Rattle.std.specs.Prelude.{◌≡◌, ◌≤◌, [], ◌∷◌, ◌++◌, length, slice_get, OnOk, OnErr, IfErr};
+ghost use Rattle.std.specs.Prelude.{◌≡◌, ◌≤◌, [], ◌∷◌, ◌++◌, length, slice_get, OnOk, OnErr, IfErr, MatchResult};
 ghost use Rattle.std.specs.Option.{option_copied};
 ghost use Rattle.matroid_theory.specs.Rep.{Rep as Matrices};
 ghost use Rattle.form_key.specs.Packing.{IsPackedAs};
@@ -69,7 +69,7 @@ impl FormList {
     ///
     /// # Errors
     ///
-    /// `AllocError` where there was no memory.
+    /// `AllocError` where there was no memory. The list is then as it was.
     pub fn push_unpacked(
         &mut self,
         factors: &Factors,
@@ -82,7 +82,9 @@ impl FormList {
         requires room { rank ≤ size }
         requires most { size ≤ 16 }
         requires packing { (M : Matrices) × IsPackedAs (record { factors = factors.now; rank = rank; size = size }) key.now M }
-        ensures { OnOk result ((M : Matrices) × IsPackedAs (record { factors = factors.now; rank = rank; size = size }) key.now M × (self.new ≡ self.old ++ M ∷ [])) }
+        ensures { MatchResult result
+            (λ _. (M : Matrices) × IsPackedAs (record { factors = factors.now; rank = rank; size = size }) key.now M × (self.new ≡ self.old ++ M ∷ []))
+            (λ _. self.new ≡ self.old) }
     {
         let Some(form) = unpack(factors.copy(), rank, size, key) else {
             unreachable!()

@@ -1,5 +1,5 @@
 // The level after a level.
-ghost use Rattle.std.specs.Prelude.{ℕ, ◌≡◌, ◌+◌, ◌<◌, ◌≤◌, IsSome, IsNone, IfSome, IfOk, OnOk};
+ghost use Rattle.std.specs.Prelude.{ℕ, [], ◌≡◌, ◌+◌, ◌<◌, ◌≤◌, IsSome, IsNone, IfSome, IfOk, OnOk};
 ghost use Rattle.std.specs.List.{Contains};
 ghost use Rattle.matroid_theory.specs.Rep.{Rep as Matrices, size, IsProductColumn};
 ghost use Rattle.matroid_theory.specs.Matroid.{Agrees};
@@ -50,6 +50,7 @@ pub fn next_size(request: &Request, parents: &FormList) -> u8
     ensures room { request.now.rank ≤ result }
     ensures most { result ≤ 16 }
     ensures next { (P : Matrices) → Contains parents.now P → result ≡ size P + 1 }
+    ensures last { parents.now ≡ [] → result ≡ request.now.size }
 {
     request.laws();
     match parents.get(0) {

@@ -2,6 +2,5 @@ mod Meeting
 mod FormLines
 mod GrownLevels
 mod TextLevels
-mod WholeHeads
 mod Faulty
 mod KnownLevels

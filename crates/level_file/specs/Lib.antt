@@ -1,4 +1,3 @@
 pub mod Compared
-pub mod Heads
 pub mod Grown
 pub mod Started

@@ -2,7 +2,7 @@
 ghost use Rattle.std.specs.Prelude.{◌≡◌, ◌≤◌, ◌↔◌, ◌++◌, codes, length, List, ℕ, IsTrue, MatchOption};
 ghost use Rattle.formats.specs.Request.{Request as Asked};
 ghost use Rattle.resume_formats.specs.Cut.{ListsAllForms, BeginsWithHead};
-ghost use Rattle.level_file.specs.Heads.{IsHeadOf};
+ghost use Rattle.resume_formats.specs.Heads.{IsHeadOf};
 
 use formats::PrintMode;
 use lister::head_text;

@@ -7,5 +7,6 @@ mod head;
 mod levels;
 mod read;
 
+pub use level_driver::LevelList;
 pub use read::{Start, StartFault, read_level};
 pub use resume_formats::LevelFault;

@@ -40,6 +40,7 @@ fn write_levels<K: Sink>(
     ensures kept { OnOk result (K.faults sink.new ≡ K.faults sink.old) }
     ensures err { IfErr result (λ cut. Gains (K.held sink.old) (K.held sink.new) (IsLess cut.why request.now cut.whole)) }
     ensures rose { IfErr result (λ cut. cut.why ≡ Stop.Failed → Rose (K.faults sink.old) (K.faults sink.new)) }
+    ensures no_fault { IfErr result (λ cut. cut.why ≡ Stop.NoMemory → K.faults sink.new ≡ K.faults sink.old) }
 {
     request.laws();
     let rank = request.rank();
@@ -83,6 +84,7 @@ pub fn write_listing_from<K: Sink>(
         × Rose (K.faults sink.old) (K.faults sink.new) }
     ensures no_memory { result.status ≡ Status.NoMemory →
         Gains (K.held sink.old) (K.held sink.new) (IsListingUpTo request.now result.levels) }
+    ensures no_fault { result.status ≡ Status.NoMemory → K.faults sink.new ≡ K.faults sink.old }
     ensures only { (result.status ≡ Status.Done) ⊎ (result.status ≡ Status.WriteFault) ⊎ (result.status ≡ Status.NoMemory) }
 {
     request.laws();
@@ -117,6 +119,7 @@ pub fn write_listing<K: Sink>(
         × Rose (K.faults sink.old) (K.faults sink.new) }
     ensures no_memory { result.status ≡ Status.NoMemory →
         Gains (K.held sink.old) (K.held sink.new) (IsListingUpTo request.now result.levels) }
+    ensures no_fault { result.status ≡ Status.NoMemory → K.faults sink.new ≡ K.faults sink.old }
     ensures only { (result.status ≡ Status.Done) ⊎ (result.status ≡ Status.WriteFault) ⊎ (result.status ≡ Status.NoMemory) }
 {
     request.laws();

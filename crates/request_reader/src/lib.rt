@@ -9,6 +9,7 @@ mod sample;
 mod values;
 
 pub use filters::Filters;
+pub use formats::{PrintMode, Refusal, Word};
 pub use read::read_request;
 pub use request::Request;
 pub use request_lines::Version;

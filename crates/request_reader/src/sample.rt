@@ -17,7 +17,7 @@ use request_lines::Version;
 
 /// The request of a number from 0 to 15: the counts of rank 4 over GF(2) to size 15, where the bits of the number, from the
 /// lowest, forbid `F7`, `F7*`, `K4` and `K5`.
-pub fn sample_request(number: u32) -> Request
+pub fn sample_request(number: u8) -> Request
     requires { number ≤ 15 }
     ensures { StandsFor (sample_text number) result }
 {

@@ -33,6 +33,7 @@ pub(crate) fn write_listing<K: Sink>(
         × Rose (K.faults sink.old) (K.faults sink.new) }
     ensures no_memory { result.status ≡ ResumeStatus.NoMemory →
         Gains (K.held sink.old) (K.held sink.new) (IsListingUpTo request.now result.levels) }
+    ensures no_fault { result.status ≡ ResumeStatus.NoMemory → K.faults sink.new ≡ K.faults sink.old }
     ensures only { (result.status ≡ ResumeStatus.Done) ⊎ (result.status ≡ ResumeStatus.WriteFault) ⊎ (result.status ≡ ResumeStatus.NoMemory) }
 {
     let mut later = levels;

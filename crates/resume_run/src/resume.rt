@@ -64,10 +64,12 @@ pub fn resume_alone<S: Source, K: Sink>(
         Resumes (texts_of words.now) (S.left source.old) (K.held sink.old) (K.held sink.new) (λ q. IsListingCutOff q result.levels)
         × Rose (K.faults sink.old) (K.faults sink.new) × (S.faults source.new ≡ S.faults source.old) }
 
-    // Want of memory is free. What was written then ends where a level ends.
+    // Want of memory is free, but no failed read or write is told as such. What was written then ends where a level ends.
     ensures no_memory { result.status ≡ ResumeStatus.NoMemory →
         ((sink.new ≡ sink.old) × (result.levels ≡ 0))
         ⊎ Resumes (texts_of words.now) (S.left source.old) (K.held sink.old) (K.held sink.new) (λ q. IsListingUpTo q result.levels) }
+    ensures no_fault { result.status ≡ ResumeStatus.NoMemory →
+        (S.faults source.new ≡ S.faults source.old) × (K.faults sink.new ≡ K.faults sink.old) }
 
     ensures done { result.status ≡ ResumeStatus.Done →
         Resumes (texts_of words.now) (S.left source.old) (K.held sink.old) (K.held sink.new)
@@ -119,6 +121,9 @@ fn resume_to<S: Source, K: Sink>(
     ensures no_memory { result.status ≡ ResumeStatus.NoMemory →
         ((sink.new ≡ sink.old) × (result.levels ≡ 0))
         ⊎ ResumesTo size (S.left source.old) (K.held sink.old) (K.held sink.new) (λ q. IsListingUpTo q result.levels) }
+
+    ensures no_fault { result.status ≡ ResumeStatus.NoMemory →
+        (S.faults source.new ≡ S.faults source.old) × (K.faults sink.new ≡ K.faults sink.old) }
 
     ensures done { result.status ≡ ResumeStatus.Done →
         ResumesTo size (S.left source.old) (K.held sink.old) (K.held sink.new)

@@ -29,7 +29,7 @@ fn reads_alone(
 }
 
 // Words with the numbers of workers and of the sample.
-fn accepted() -> [(Words, Option<u32>, Option<u32>); 5] {
+fn accepted() -> [(Words, Option<u32>, Option<u8>); 5] {
     [
         (&[], None, None),
         (&["--workers", "64"], Some(64), None),
@@ -40,7 +40,7 @@ fn accepted() -> [(Words, Option<u32>, Option<u32>); 5] {
 }
 
 // Words with the number of the sample, and whether the way is orderly.
-fn accepted_alone() -> [(Words, Option<u32>, bool); 6] {
+fn accepted_alone() -> [(Words, Option<u8>, bool); 6] {
     [
         (&[], None, false),
         (&["--sample", "4"], Some(4), false),

@@ -1,6 +1,8 @@
-use Rattle.std.proofs.Common.{◌≡◌, ◌∙◌, List, map, string_bytes, true, false, Bool, sym}
+use Rattle.std.proofs.Common.{◌≡◌, ◌∙◌, ℕ, ◌≤◌, List, Option, map, string_bytes, true, false, Bool, sym, subst}
+use Rattle.std.specs.Prelude.{IfSome}
 use Rattle.clap.specs.Matches.{found_of}
 use Rattle.clap.specs.Walk.{Text}
+use Rattle.command_words.specs.Asking.{IsAsked, StandsAtEither}
 use Rattle.command_words.proofs.Pieces.{accepted, uses_of, no_dashes}
 use Rattle.command_words.proofs.Readings.{refused, wrong_workers, wrong_sample, asked, number_range, most_range}
 use Rattle.command_words.proofs.read.read_either.Goals as goal
@@ -30,13 +32,16 @@ returns-in_default-number_if-2-clause-reads c =
 pub returns-clause-reads : goal.returns-clause-reads
 returns-clause-reads c =
     let parsed = rw c.in-Some.is at c.in_ok-matches.ensures in
-    asked (map (λ s. string_bytes s) c.args.words.now) (found_of c.in-Some.matches) parsed.1
+    let words : List Text = map (λ s. string_bytes s) c.args.words.now in
+    let read = asked words (found_of c.in-Some.matches) parsed.1
     (sym c.has_dashes.ensures ∙ c.if-has_dashes.false) parsed.0 c.in-Some-number_if.workers c.in-Some-number_if-2.sample
     (rw c.get_str.ensures at c.in-Some-number_if.ensures) (rw c.get_str-2.ensures at c.in-Some-number_if-2.ensures)
-    c.get_flag.result (record { on = c.get_flag.ensures.value; off = c.get_flag.ensures.other })
+    c.get_flag.result (record { on = c.get_flag.ensures.value; off = c.get_flag.ensures.other }) in
+    subst (λ (sample : Option ℕ). IsAsked StandsAtEither words c.in-Some-number_if.workers sample c.get_flag.result) (sym c.sample_number.ensures) read
 
 pub returns-clause-ranges : goal.returns-clause-ranges
-returns-clause-ranges c = (
-  number_range _ 1 64 c.in-Some-number_if.workers c.in-Some-number_if.ensures,
-  most_range _ 15 c.in-Some-number_if-2.sample c.in-Some-number_if-2.ensures,
-)
+returns-clause-ranges c =
+    let most = most_range _ 15 c.in-Some-number_if-2.sample c.in-Some-number_if-2.ensures in (
+      number_range _ 1 64 c.in-Some-number_if.workers c.in-Some-number_if.ensures,
+      subst (λ (sample : Option ℕ). IfSome sample (λ k. k ≤ 15)) (sym c.sample_number.ensures) most,
+    )

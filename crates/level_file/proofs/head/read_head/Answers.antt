@@ -1,7 +1,7 @@
 use Rattle.std.proofs.Common.{◌<◌, length, sym, subst, arith, below_more}
 use Rattle.formats.specs.Listing.{head_text}
-use Rattle.level_file.specs.Heads.{IsHeadOf}
-use Rattle.level_file.proofs.WholeHeads.{head_short, ends_there, ends_within}
+use Rattle.resume_formats.specs.Heads.{IsHeadOf}
+use Rattle.resume_formats.proofs.WholeHeads.{head_short, ends_there, ends_within}
 use Rattle.level_file.proofs.head.read_head.Goals as goal
 
 pub loop-end-preserved : goal.loop-end-preserved

@@ -1,6 +1,6 @@
 use Rattle.std.proofs.Common.{ℕ, ◌<◌, take}
 use Rattle.formats.specs.Request.{Request}
-use Rattle.level_file.specs.Heads.{IsHeadOf}
+use Rattle.resume_formats.specs.Heads.{IsHeadOf}
 use Rattle.level_file.proofs.head.read_head.Given as goal
 
 -- no head ends before this place

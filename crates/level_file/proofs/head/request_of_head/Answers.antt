@@ -8,7 +8,7 @@ use Rattle.formats.specs.Listing.{text_of_statements, head_text}
 use Rattle.formats.proofs.Unique.{not_both}
 use Rattle.resume_formats.specs.Cut.{ListsAllForms}
 use Rattle.resume_formats.proofs.HeadLemmas.{begun, head_ends}
-use Rattle.level_file.proofs.WholeHeads.{lines_stand, request_is}
+use Rattle.resume_formats.proofs.WholeHeads.{lines_stand, request_is}
 use Rattle.level_file.proofs.head.request_of_head.Goals as goal
 use Rattle.level_file.proofs.head.request_of_head.Goals.{else-is_head-via-then-is_head+else-lists_all_forms, else-is_head-via-else-is_head}
 

@@ -22,6 +22,9 @@ returns-in-Err-clause-err g c =
     (c.as_slice.ensures.value ∙ c.head_text-head.ensures)
     c.in-Err.why (λ is. c.in-Err.ensures.failed (ap Err is)) (λ is. ap g.K.Sink.held (c.in-Err.ensures.no_memory (ap Err is)))
 
+pub returns-in-Err-clause-no_fault : goal.returns-in-Err-clause-no_fault
+returns-in-Err-clause-no_fault g c = λ is. ap g.K.Sink.faults (c.in-Err.ensures.no_memory (ap Err is))
+
 pub loop-size-init : goal.loop-size-init
 loop-size-init g c =
     let q = c.args.request.now in
@@ -50,6 +53,10 @@ returns-in-Err-write_level-clause-err g c =
     (g.K.Sink.held c.loop-size.sink) c.loop-size.invariant.begun (omega arith) (omega arith)
     (g.K.Sink.held c.write_level-in-loop-size.new.sink) c.in-Err-write_level.why
     (λ is. c.in-Err-write_level.ensures.failed (ap Err is)) (λ is. ap g.K.Sink.held (c.in-Err-write_level.ensures.no_memory (ap Err is))))
+
+pub returns-in-Err-write_level-clause-no_fault : goal.returns-in-Err-write_level-clause-no_fault
+returns-in-Err-write_level-clause-no_fault g c =
+    λ is. ap g.K.Sink.faults (c.in-Err-write_level.ensures.no_memory (ap Err is)) ∙ c.loop-size.invariant.kept
 
 pub loop-size-preserved : goal.loop-size-preserved
 loop-size-preserved g c =

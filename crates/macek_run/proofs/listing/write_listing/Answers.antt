@@ -1,4 +1,4 @@
-use Rattle.std.proofs.Common.{◌≡◌, arith}
+use Rattle.std.proofs.Common.{arith}
 use Rattle.macek_run.proofs.Begun.{none_begun}
 use Rattle.macek_run.proofs.listing.write_listing.Goals as goal
 
