@@ -14,7 +14,7 @@ use Rattle.histories.proofs.Tally.{by_callers}
 use Rattle.stripe_book.specs.declared.view.Trace.{Trace}
 use Rattle.stripe_book.specs.declared.view.Phase.TheVariants.{Idle}
 use Rattle.stripe_book.specs.Rule.{trace}
-use Rattle.stripe_book.specs.Seen.{BookSide, CallerSide, TableSide, EachLeft, OwnCalls, OfCallersBelow, fresh_callers}
+use Rattle.stripe_book.specs.Seen.{BookSide, CallerSide, TableSide, EachLeft, OwnCalls, OfCallersBelow, SawBeginnings, fresh_callers}
 use Rattle.stripe_turn.specs.declared.stripe.Stripe.{Stripe}
 use Rattle.stripe_turn.specs.Rule.{tables_in}
 use Rattle.stripe_turn.specs.Seen.{TurnSide, TurnsSide}
@@ -134,11 +134,11 @@ may_end level passes tables turns ts bs its o e h = may_end_by level.passes tabl
 
 -- ---- the histories
 own_done : (s n : ℕ) (history : List Entry) (ps : List PassSide) (more : List Trace) → s < n → AllByRecursion (IsWhole n) ps
-    → OwnCalls history (map (trace_at s) ps ++ more) → AllByRecursion (IsDoneBy s history) ps
-own_done s n history [] more lt all own = tt
-own_done s n history (p ∷ ps) more lt all own =
+    → OwnCalls history (map (trace_at s) ps ++ more) → SawBeginnings history (map (trace_at s) ps ++ more) → AllByRecursion (IsDoneBy s history) ps
+own_done s n history [] more lt all own saw = tt
+own_done s n history (p ∷ ps) more lt all own saw =
     let below : s < length p.tracks = subst (λ (m : ℕ). s < m) (sym all.0.wide) lt in
-    ((slice_index_or p.tracks s blank, slice_get-get_or p.tracks s blank below, own.0), own_done s n history ps more lt all.1 own.1)
+    ((slice_index_or p.tracks s blank, slice_get-get_or p.tracks s blank below, own.0, saw.0), own_done s n history ps more lt all.1 own.1 saw.1)
 
 names_tail : (stripes s c : ℕ) (e : Entry) (es : List Entry) (b : Bool) → Names stripes s (cond b (e ∷ calls_by c es) (calls_by c es))
     → Names stripes s (calls_by c es)
@@ -168,7 +168,8 @@ closed_by level passes bs stripes s c its h e all g =
     let n : ℕ = length level.level.tables in
     let count : length bs ≡ n = sym (length-map bs (λ (b : BookSide). b.table)) ∙ ap (λ (l : List TableId). length l) h.same in
     let lt : s < n = subst (λ (m : ℕ). s < m) count (slice_get_within bs s c.ended book) in
-    let calls = own_done s n c.ended.history passes left.0 lt h.whole (subst (OwnCalls c.ended.history) left.1 settled.own) in
+    let calls = own_done s n c.ended.history passes left.0 lt h.whole (subst (OwnCalls c.ended.history) left.1 settled.own)
+    (subst (SawBeginnings c.ended.history) left.1 settled.saw) in
     let mine : (k : ℕ) → Names n s (calls_by k c.ended.history) = λ k. ⊎_elim
     (λ (below : k < level.passes).
     let p = pass_of k passes (its.once k below) in

@@ -1,5 +1,5 @@
 -- The histories of a closed level are one legal history.
-use Rattle.std.proofs.Common.{◌≡◌, ℕ, List, [], ◌∷◌, Some, slice_get, sym, ◌∙◌, Contains}
+use Rattle.std.proofs.Common.{◌≡◌, ℕ, List, [], ◌∷◌, Some, slice_get, length, sym, ◌∙◌, subst, Contains}
 use Rattle.std.specs.List.{AllByRecursion}
 use Rattle.std.proofs.lemmas.List.Elements.{All-contains, All-from_recursion}
 use Rattle.histories.specs.declared.entry.Entry.{Entry}
@@ -8,7 +8,7 @@ use Rattle.histories.specs.Counts.{keys_of}
 use Rattle.histories.specs.Joined.{ShareNoKey, joined}
 use Rattle.histories.proofs.Joining.{joined_legal}
 use Rattle.link_set.specs.Hash.{stripe_of}
-use Rattle.class_store.specs.Seen.{IsClosedBy, LevelSide, Names, PassSide}
+use Rattle.class_store.specs.Seen.{AreStripeHistories, IsClosedBy, LevelSide, Names, PassSide}
 
 named_keys : (stripes s : ℕ) (history : List Entry) → Names stripes s history → AllByRecursion (λ (key : List ℕ). stripe_of stripes key ≡ s) (keys_of history)
 named_keys stripes s [] names = tt
@@ -31,3 +31,10 @@ pub closed_together : (level : LevelSide) (passes : List PassSide) (histories : 
     → ((s : ℕ) (h : List Entry) → slice_get histories s ≡ Some h → IsClosedBy level passes s h) → IsLegal (joined histories)
 closed_together level passes histories each =
     joined_legal histories (λ s h at. let one : IsClosedBy level passes s h = each s h at in one.legal) (closed_apart level passes histories each)
+
+-- the histories of a closed level are those of its stripes
+pub closed_stripes : (level : LevelSide) (passes : List PassSide) (histories : List (List Entry)) → length histories ≡ length level.level.tables
+    → ((s : ℕ) (h : List Entry) → slice_get histories s ≡ Some h → IsClosedBy level passes s h) → AreStripeHistories histories
+closed_stripes level passes histories width each s h at =
+    let one : IsClosedBy level passes s h = each s h at in
+    record { legal = one.legal; names = subst (λ (n : ℕ). Names n s h) (sym width) one.names }

@@ -4,7 +4,7 @@ use Rattle.std.specs.List.{AllByRecursion}
 use Rattle.histories.specs.declared.entry.Entry.{Entry}
 use Rattle.histories.specs.SetObject.{keys_after}
 use Rattle.histories.specs.History.{IsLegal}
-use Rattle.stripe_book.specs.Seen.{OfCallersBelow, OwnCalls}
+use Rattle.stripe_book.specs.Seen.{OfCallersBelow, OwnCalls, SawBeginnings}
 use Rattle.class_store.specs.declared.closed.ClosedStripe.{ClosedStripe}
 use Rattle.class_store.specs.Seen.{Names}
 
@@ -14,10 +14,11 @@ pub record IsReplayed (c : ClosedStripe) : Type 0 where
   pub count : c.entries ≡ min (length c.ended.history) (2 ^ 64 - 1)
   pub legal : IsLegal c.ended.history
 
--- and each call in it is of a caller below, and those of the callers that have left are their own
+-- and each call in it is of a caller below, those of the callers that have left are their own, and what these had seen is a beginning of it
 pub record IsSettled (callers : ℕ) (c : ClosedStripe) : Type 0 where
   pub replayed : IsReplayed c
   pub own : OwnCalls c.ended.history c.ended.left
+  pub saw : SawBeginnings c.ended.history c.ended.left
   pub below : OfCallersBelow callers c.ended.history
 
 pub record IsClosed (stripes : List ClosedStripe) : Type 0 where

@@ -112,9 +112,9 @@ IsNewIn histories key = (s : ℕ) × (history : List Entry) × (slice_get histor
 abbrev pub calls_with : List ℕ → PassSide → ℕ
 calls_with key p = sum_by (λ (t : Track). entries_with key t.mine) p.tracks
 
--- the pass did just these calls of the history
+-- the pass did just its calls of the history, and what it had seen is a beginning of it
 abbrev pub IsDoneBy : ℕ → List Entry → PassSide → Type 0
-IsDoneBy s history p = (t : Track) × (slice_get p.tracks s ≡ Some t) × (calls_by p.number history ≡ t.mine)
+IsDoneBy s history p = (t : Track) × (slice_get p.tracks s ≡ Some t) × (calls_by p.number history ≡ t.mine) × IsPrefix t.seen history
 
 -- the history of the stripe s of a level that these passes closed
 pub record IsClosedBy (level : LevelSide) (passes : List PassSide) (s : ℕ) (history : List Entry) : Type 0 where
@@ -122,3 +122,16 @@ pub record IsClosedBy (level : LevelSide) (passes : List PassSide) (s : ℕ) (hi
   pub calls : AllByRecursion (IsDoneBy s history) passes
   pub others : OfCallersBelow level.passes history
   pub names : Names (length level.level.tables) s history
+
+-- the history of the stripe s of so many: a legal history of a set, all whose keys name that stripe
+pub record IsStripeHistory (stripes s : ℕ) (history : List Entry) : Type 0 where
+  pub legal : IsLegal history
+  pub names : Names stripes s history
+
+-- these are the histories of the stripes of a level, in order
+abbrev pub AreStripeHistories : List (List Entry) → Type 0
+AreStripeHistories histories = (s : ℕ) (history : List Entry) → slice_get histories s ≡ Some history → IsStripeHistory (length histories) s history
+
+-- each call in these histories is of a caller with a number below
+abbrev pub AreOfCallersBelow : ℕ → List (List Entry) → Type 0
+AreOfCallersBelow callers histories = (s : ℕ) (history : List Entry) → slice_get histories s ≡ Some history → OfCallersBelow callers history

@@ -21,7 +21,7 @@ use stripe_turn::{Stripe, Turn, Turns};
 
 impl OpenLevel {
     /// Closes the level, once no pass is used any more. The history of each stripe is legal, has just the calls that the passes made,
-    /// and all its keys name that stripe. So the histories one after the other, with each pass's calls numbered anew, are one legal
+    /// begins with what each pass had seen of it, and all its keys name that stripe. So the histories one after the other, with each pass's calls numbered anew, are one legal
     /// history, and each key has as many entries as the passes made calls with it.
     pub fn close<R: Wait + Sync>(self, rt: &R, passes: Vec<Pass>) -> Closed
         requires { AreItsPasses self passes.items }

@@ -1,10 +1,10 @@
 -- What the store holds after all tries were offered.
-use Rattle.std.proofs.Common.{◌≡◌, ℕ, zero, suc, ◌+◌, ◌<◌, ◌≤◌, List, [], ◌∷◌, length, Some, slice_get, inl, inr, refl, sym, ◌∙◌, ap, subst, arith}
+use Rattle.std.proofs.Common.{◌≡◌, ◌↔◌, ℕ, zero, suc, ◌+◌, ◌<◌, ◌≤◌, List, [], ◌∷◌, length, Some, slice_get, inl, inr, refl, sym, ◌∙◌, ap, subst, arith}
 use Rattle.std.specs.List.{Contains, flat_map}
 use Rattle.std.proofs.lemmas.List.Elements.{Contains-append_left, Contains-append_right, Contains-append_cases}
 use Rattle.std.proofs.lemmas.Slice.Zip.{AllZip-long}
 use Rattle.matroid_theory.specs.Rep.{Rep}
-use Rattle.matroid_theory.specs.Level.{Family, IsTry, IsCount}
+use Rattle.matroid_theory.specs.Level.{Family, IsTry, IsCount, IsLevelForm}
 use Rattle.matroid_laws.proofs.Equivalence.{equivalent-symmetric, equivalent-transitive}
 use Rattle.matroid_laws.proofs.Forms.{one_form}
 use Rattle.formats.specs.Request.{Request}
@@ -13,8 +13,8 @@ use Rattle.histories.specs.declared.entry.Entry.{Entry}
 use Rattle.histories.specs.History.{IsLegal}
 use Rattle.histories.specs.Counts.{entries_in, new_keys}
 use Rattle.histories.specs.Joined.{joined}
-use Rattle.histories.proofs.Joining.{joined_entries, joined_new}
-use Rattle.class_store.specs.Seen.{IsNewIn}
+use Rattle.histories.proofs.Joining.{joined_entries, joined_new, once_among}
+use Rattle.class_store.specs.Seen.{AreStripeHistories, IsNewIn}
 use Rattle.form_key.specs.Packing.{packing}
 use Rattle.store_laws.specs.TryKeys.{AreTryKeys, IsTryKey}
 use Rattle.store_laws.proofs.Told.{told_exact}
@@ -53,10 +53,11 @@ module _ (family : Family) (n : ℕ) (keys : List (List ℕ)) (are : AreKeysOf (
       long : length are.list ≡ length keys
       long = sym (AllZip-long (IsTryKey family n) are.list keys are.packed)
 
-  pub holds_tries : (histories : List (List Entry)) → family.rank < n → IsLegal (joined histories)
+  pub holds_tries : (histories : List (List Entry)) → family.rank < n → AreStripeHistories histories → IsLegal (joined histories)
       → ((key : List ℕ) → entries_in histories key ≡ times key keys)
       → HoldsTries family n histories
-  holds_tries histories room legal counts = record {
+  holds_tries histories room stripes legal counts = record {
+    stripes = stripes;
     legal = legal;
     entries = λ key.
         subst (IsCount (λ try. IsTryKey family n try key)) (sym (counts key))
@@ -64,12 +65,16 @@ module _ (family : Family) (n : ℕ) (keys : List (List ℕ)) (are : AreKeysOf (
         (λ try. (λ h. h.1, λ (N, f, e). (f.is_try, (N, f, e))))
         (keys_times (IsTryKey family n) (IsTry family n) keys (λ try k l t. one_key family n try k l) are key));
     fresh = λ key.
-        let told = told_exact family n keys (joined histories) key room try_keys legal (λ k. joined_entries histories k ∙ counts k) in
-        let same : new_keys (joined histories) ≡ flat_map new_keys histories = joined_new histories in (
-          λ new. told.0 (subst (λ (l : List (List ℕ)). Contains l key) (sym same) (from_flat histories key new.0 new.1 new.2 new.3)),
-          λ form. in_flat histories key (subst (λ (l : List (List ℕ)). Contains l key) same (told.1 form)),
+        let told = told_flat key in (
+          λ new. told.0 (from_flat histories key new.0 new.1 new.2 new.3),
+          λ form. in_flat histories key (told.1 form),
         );
+    once = λ M form. once_among histories (packing M) legal ((told_flat (packing M)).1 (M, form, refl));
   }
+    where
+      told_flat : (key : List ℕ) → Contains (flat_map new_keys histories) key ↔ ((M : Rep) × IsLevelForm family n M × (packing M ≡ key))
+      told_flat key = subst (λ (l : List (List ℕ)). Contains l key ↔ ((M : Rep) × IsLevelForm family n M × (packing M ≡ key))) (joined_new histories)
+          (told_exact family n keys (joined histories) key room try_keys legal (λ k. joined_entries histories k ∙ counts k))
 
   pub count_tries : (tried : ℕ) → tried ≡ length keys → IsCount (IsTry family n) tried
   count_tries tried is = subst (IsCount (IsTry family n)) (sym is) (keys_count (IsTryKey family n) (IsTry family n) keys are)

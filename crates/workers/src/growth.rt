@@ -1,7 +1,8 @@
-// The level after a level, grown by threads.
+// The level after a level, grown by workers.
 ghost use Rattle.std.specs.Prelude.{◌≡◌, ◌+◌, ◌^◌, ◌<◌, ◌≤◌, ℕ, length, unwrap_or, IsSome, IfOk, OnOk, OnErr, IfSome};
 ghost use Rattle.std.specs.List.{All, sum_by};
 ghost use Rattle.level_driver.specs.Grown.{IsLevelOf, AreTriesOf, IsParentLevel};
+ghost use Rattle.class_store.specs.Seen.{AreOfCallersBelow};
 ghost use Rattle.workers.specs.Store.{HoldsTriesOf};
 
 use crate::forms::forms_of;
@@ -17,10 +18,11 @@ use std::sync::atomic::AtomicBool;
 use std::thread::Threads;
 use steal_pool::{fill, finish};
 
-/// The level after a level of a request, as [`level_driver::grow_alone`] gives it, found by 1 to 64 workers in threads of their own.
+/// The level after a level of a request, as [`level_driver::grow_alone`] gives it, found by 1 to 64 workers.
 ///
-/// Each worker does its part by one call of [`crate::work`]. The level that they shared is then the store's last closed level: for
-/// each key it has as many entries as there are tries with that key.
+/// Each worker does its part by one call of [`crate::work`]. The level that they shared is then the store's last closed level: the calls
+/// on each stripe are one legal history of a set, with each worker's calls in its own order, and for each key there are as many entries
+/// as there are tries with that key, one of them told New.
 ///
 /// # Errors
 ///
@@ -43,6 +45,7 @@ pub fn grow<R: Threads + Wait + Sync, G: Gate + Sync>(
         IsParentLevel request.now n parents.now → AreTriesOf request.now (n + 1) level.tried) }
     ensures holds { OnOk result ((n : ℕ) →
         IsParentLevel request.now n parents.now → HoldsTriesOf request.now (n + 1) store.new.last) }
+    ensures callers { OnOk result (AreOfCallersBelow workers store.new.last) }
     ensures stripes { store.new.stripes ≡ store.old.stripes }
     ensures width { OnOk result (length store.new.last ≡ store.new.stripes) }
     ensures unchanged { OnErr result (store.new ≡ store.old) }
@@ -71,6 +74,7 @@ fn closed_level<R: Threads + Wait + Sync, G: Gate + Sync>(
     requires few { workers ≤ 64 }
     ensures width { IfOk result (λ r. length r.0 ≡ store.now.stripes) }
     ensures holds { IfOk result (λ r. (n : ℕ) → IsParentLevel request.now n parents.now → HoldsTriesOf request.now (n + 1) r.0) }
+    ensures callers { IfOk result (λ r. AreOfCallersBelow workers r.0) }
     ensures tried { IfOk result (λ r. (n : ℕ) → IsParentLevel request.now n parents.now → AreTriesOf request.now (n + 1) r.1) }
 {
     let mut passes = Vec::with_capacity(alloc, workers)?;

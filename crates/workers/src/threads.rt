@@ -1,4 +1,4 @@
-// All workers, each in a thread of its own.
+// All workers, handed to threads.
 ghost use Rattle.std.specs.Prelude.{◌≡◌, ◌<◌, ℕ, length, vec_len};
 ghost use Rattle.std.specs.List.{All};
 ghost use Rattle.level_driver.specs.Grown.{IsParentLevel};
@@ -16,7 +16,7 @@ use std::sync::atomic::AtomicBool;
 use std::thread;
 use std::thread::Threads;
 
-/// Lets each worker do its part, in as many threads as there are workers.
+/// Lets each worker do its part. As many threads are asked for as there are workers.
 pub(crate) fn run<R: Threads + Wait + Sync, G: Gate + Sync>(
     rt: &R,
     alloc: Global,

@@ -19,5 +19,6 @@ returns-clause-settled c = record {
     legal = c.end-ended.ensures.legal;
   };
   own = c.end-ended.ensures.calls;
+  saw = c.end-ended.ensures.seen;
   below = c.end-ended.ensures.callers;
 }

@@ -2,7 +2,7 @@ use Rattle.std.proofs.Common.{◌≡◌, ℕ, ◌+◌, ◌<◌, ◌≤◌, ◌^�
 use Rattle.std.specs.List.{All, AllByRecursion, AllZip, concat, sum_by}
 use Rattle.matroid_theory.specs.Rep.{Rep}
 use Rattle.formats.specs.Request.{Request}
-use Rattle.class_store.specs.Seen.{AreItsPasses, PassSide, calls_with, fresh_passes}
+use Rattle.class_store.specs.Seen.{AreItsPasses, AreOfCallersBelow, IsClosedBy, PassSide, calls_with, fresh_passes}
 use Rattle.steal_pool.specs.declared.shift.Shift.{Shift}
 use Rattle.steal_pool.specs.Pool.{AllEnded, AreNew, IsPool, IsProper, IsWhole, lists_taken, pool_parents}
 use Rattle.steal_pool.specs.Taken.{taken_lists, taken_parents}
@@ -13,6 +13,7 @@ use Rattle.workers.proofs.Held.{count_tries, has_tries, holds_tries}
 use Rattle.workers.proofs.Whole.{HaveDone, all_done, all_taken, answered, whole_done}
 use Rattle.workers.proofs.growth.closed_level.Goals as goal
 use Rattle.class_store.proofs.Passes.{fresh_count}
+use Rattle.class_store.proofs.Together.{closed_stripes}
 
 pub seat-requires : goal.seat-requires
 seat-requires g c =
@@ -120,8 +121,15 @@ returns-clause-holds g c n h family grows =
     subst (λ (p : ℕ). IsWhole p (all_taken after)) counts (subst (IsWhole (taken_parents c.finish-taken.result)) lists (c.finish-taken.ensures.whole ended)) in
     let keys = whole_done q parents n family h grows after whole done in
     let room : family.rank < n + 1 = (let r : family.rank ≡ q.rank = grows.rank_is in let l : q.rank ≤ n = h.at_least in omega arith) in
-    holds_tries family (n + 1) done.keys keys c.close.result room c.close.ensures.together
+    let stripes = closed_stripes c.in_ok-level.level c.unseat-answers.new.passes.items c.close.result c.close.ensures.width c.close.ensures.histories in
+    holds_tries family (n + 1) done.keys keys c.close.result room stripes c.close.ensures.together
     (λ key. c.close.ensures.entries key ∙ (ap (sum_by (calls_with key)) now_passes ∙ (sum_map pass_of (calls_with key) after ∙ done.calls key)))
+
+pub returns-clause-callers : goal.returns-clause-callers
+returns-clause-callers g c =
+    let below : AreOfCallersBelow c.in_ok-level.level.passes c.close.result = λ s h at.
+    let closed : IsClosedBy c.in_ok-level.level c.unseat-answers.new.passes.items s h = c.close.ensures.histories s h at in closed.others in
+    subst (λ (n : ℕ). AreOfCallersBelow n c.close.result) c.in_ok-level.ensures.level.1 below
 
 pub returns-clause-tried : goal.returns-clause-tried
 returns-clause-tried g c n h family grows =

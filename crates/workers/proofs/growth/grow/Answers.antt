@@ -5,6 +5,7 @@ use Rattle.matroid_theory.specs.Level.{Family}
 use Rattle.matroid_theory.specs.Minor.{Matroid}
 use Rattle.formats.specs.Request.{Request}
 use Rattle.class_store.specs.Closed.{StoreSide}
+use Rattle.class_store.specs.Seen.{AreOfCallersBelow}
 use Rattle.form_key.specs.Packing.{IsPackedAs}
 use Rattle.level_driver.proofs.NextLevel.{grown_by, grows_it}
 use Rattle.level_driver.specs.Keys.{HavePacking}
@@ -40,3 +41,7 @@ returns-clause-forms g c n h family grows =
 pub returns-clause-holds : goal.returns-clause-holds
 returns-clause-holds g c n h =
     subst (λ (s : StoreSide). HoldsTriesOf c.args.request.now (n + 1) s.last) (sym c.keep.ensures) (c.in_ok-closed.ensures.holds n h)
+
+pub returns-clause-callers : goal.returns-clause-callers
+returns-clause-callers g c =
+    subst (λ (s : StoreSide). AreOfCallersBelow c.args.workers s.last) (sym c.keep.ensures) c.in_ok-closed.ensures.callers
