@@ -3,3 +3,4 @@ mod Longer
 mod Places
 mod Supported
 mod Symmetric
+mod Unique

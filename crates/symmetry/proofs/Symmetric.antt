@@ -9,7 +9,7 @@ use Rattle.matroid_theory.specs.Move.{Move, MoveTable, IsMove, TakesTo, AreEquiv
 use Rattle.matroid_theory.specs.Level.{followed_by}
 use Rattle.matrix_lemmas.proofs.Frobenius.{times_nonzero}
 use Rattle.matrix_lemmas.proofs.Sums.{times_zero}
-use Rattle.symmetry.specs.Images.{code_at, mapped, AreLeadScalars, HasLeadOnes}
+use Rattle.symmetry.specs.Images.{code_at, mapped, AreLeadScalars, HasLeadOnes, IsImageBy}
 use Rattle.symmetry.specs.Symmetric.{IsSymmetry}
 use Rattle.symmetry.proofs.Longer.{equivalent_images}
 
@@ -72,3 +72,13 @@ module _ (P : Rep) (t : MoveTable) (e : t.shape ≡ shape P) (shaped : IsShaped 
             | inr ne ↦ absurd (times_nonzero (order P f) (fields f l) (slice_index scalars f) (code_at P.factors w f k) s.code
                 (is_mapped.codes k f o l) s.nonzero ne (sym (codes f k l o) ∙ z k b))
           ]
+
+  pub image_by : ((f : ℕ) → f < count P → IsField (order P f)) → IsProductColumn P.factors P.rank w → IsImageBy t v u
+  image_by fields is_mapped = subst (λ (S : Shape). IsImageBy (record t { shape = S }) v u) (sym e) record {
+    column = is_image;
+    scaled = image_ones fields is_mapped;
+    scalar = slice_index scalars;
+    scalar_code = λ f l. let s = leads.each f l in s.code;
+    scalar_nonzero = λ f l. let s = leads.each f l in s.nonzero;
+    codes = λ f i l m. codes f i l m ∙ ap (times (order P f) (slice_index scalars f)) (maps_here f i l m);
+  }

@@ -2,6 +2,7 @@
 use Rattle.std.specs.Prelude.{ℕ, ◌+◌, ◌*◌, ◌<◌, ◌≡◌, ◌≢◌, List, length, slice_index}
 use Rattle.matroid_theory.specs.Field.{times, raised}
 use Rattle.matroid_theory.specs.Matrix.{combination}
+use Rattle.matroid_theory.specs.Rep.{IsProductColumn}
 use Rattle.matroid_theory.specs.Move.{MoveTable, move_of}
 
 -- the code at row i and of factor f of a column
@@ -30,3 +31,13 @@ pub record IsLeadScalar (factors : List ℕ) (rank : ℕ) (v : List ℕ) (f scal
 pub record AreLeadScalars (factors : List ℕ) (rank : ℕ) (v scalars : List ℕ) : Type 0 where
   pub number : length scalars ≡ length factors
   pub each : (f : ℕ) → f < length factors → IsLeadScalar factors rank v f (slice_index scalars f)
+
+-- u is the image of v under the move: in each factor the matrix times the raised column, scaled so that its first code that isn't 0 is 1
+pub record IsImageBy (t : MoveTable) (v u : List ℕ) : Type 0 where
+  pub column : IsProductColumn t.shape.factors t.shape.rank u
+  pub scaled : HasLeadOnes t.shape.factors t.shape.rank u
+  pub scalar : ℕ → ℕ
+  pub scalar_code : (f : ℕ) → f < length t.shape.factors → scalar f < slice_index t.shape.factors f
+  pub scalar_nonzero : (f : ℕ) → f < length t.shape.factors → scalar f ≢ 0
+  pub codes : (f i : ℕ) → f < length t.shape.factors → i < t.shape.rank →
+      code_at t.shape.factors u f i ≡ times (slice_index t.shape.factors f) (scalar f) (mapped t v f i)

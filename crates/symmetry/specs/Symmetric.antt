@@ -1,12 +1,15 @@
 -- Moves that take a representation to itself.
-use Rattle.std.specs.Prelude.{ℕ, ◌≡◌, List}
+use Rattle.std.specs.Prelude.{ℕ, ◌≡◌, List, Some, slice_get}
 use Rattle.std.specs.List.{All}
+use Rattle.std.specs.Cmp.Lexicographic.{slice_cmp}
+use Rattle.std.specs.Ordering.{nat_cmp}
+use Rattle.std.specs.declared.cmp.Ordering.TheVariants.{Less}
 use Rattle.matroid_theory.specs.declared.Mode.{Mode}
 use Rattle.matroid_theory.specs.Rep.{Rep, shape, IsProductColumn, IsStandard}
 use Rattle.matroid_theory.specs.Move.{MoveTable, IsMove, TakesTo, AreEquivalent, move_of}
 use Rattle.matroid_theory.specs.Level.{followed_by}
 use Rattle.extension.specs.Admissible.{IsAdmissible}
-use Rattle.symmetry.specs.Images.{HasLeadOnes}
+use Rattle.symmetry.specs.Images.{HasLeadOnes, IsImageBy}
 
 -- a move of the mode that takes P to itself
 pub record IsSymmetry (mode : Mode) (P : Rep) (t : MoveTable) : Type 0 where
@@ -30,3 +33,18 @@ pub record IsImage (s : MovesOf) (v u : List ℕ) : Type 0 where
   pub column : IsProductColumn s.parent.factors s.parent.rank u
   pub scaled : HasLeadOnes s.parent.factors s.parent.rank u
   pub admissible : IsStandard s.parent → IsAdmissible s.parent v → IsAdmissible s.parent u
+
+-- u is the image of v under move i
+abbrev pub IsImageUnder : MovesOf → ℕ → List ℕ → List ℕ → Type 0
+IsImageUnder s i v u = (t : MoveTable) × (slice_get s.moves i ≡ Some t) × IsImageBy t v u
+
+-- u is the image of v under one of the moves, and below v
+pub record IsLowerImage (s : MovesOf) (v u : List ℕ) : Type 0 where
+  pub index : ℕ
+  pub by : IsImageUnder s index v u
+  pub image : IsImage s v u
+  pub below : slice_cmp nat_cmp u v ≡ Less
+
+-- some move carries v lower
+abbrev pub HasLowerImage : MovesOf → List ℕ → Type 0
+HasLowerImage s v = (u : List ℕ) × IsLowerImage s v u

@@ -1,9 +1,13 @@
 // Automorphisms of one representation.
-ghost use Rattle.std.specs.Prelude.{◌≡◌, ◌<◌, [], length, IfSome};
+ghost use Rattle.std.specs.Prelude.{◌≡◌, ◌<◌, ◌↔◌, [], length, IsTrue};
+ghost use Rattle.std.specs.Option.{MatchOption};
+ghost use Rattle.std.specs.Cmp.Lexicographic.{slice_cmp};
+ghost use Rattle.std.specs.Ordering.{nat_cmp};
+ghost use Rattle.std.specs.declared.cmp.Ordering.TheVariants.{Less};
 ghost use Rattle.matroid_theory.specs.Rep.{IsProductColumn};
 ghost use Rattle.matroid_theory.specs.Move.{AreEquivalent};
 ghost use Rattle.matroid_theory.specs.Level.{followed_by};
-ghost use Rattle.symmetry.specs.Symmetric.{AreSymmetries, IsImage};
+ghost use Rattle.symmetry.specs.Symmetric.{AreSymmetries, IsImage, IsImageUnder, IsLowerImage, HasLowerImage};
 
 use crate::single::OpenMove;
 use matroid_theory::Mode;
@@ -78,7 +82,8 @@ impl Symmetries {
     pub fn image(&self, i: usize, column: &ProductColumn) -> ProductColumn
         requires index { i < length self.now.moves }
         requires column { IsProductColumn self.now.parent.factors self.now.parent.rank column.now.items }
-        ensures { IsImage self.now column.now.items result.items }
+        ensures under { IsImageUnder self.now i column.now.items result.items }
+        ensures image { IsImage self.now column.now.items result.items }
     {
         self.parent.laws();
         self.moves[i].image(&self.parent, column)
@@ -102,17 +107,37 @@ impl Symmetries {
         least
     }
 
+    /// Whether some move carries the column lower: whether the image of the column under one of the moves is below the column.
+    pub fn has_lower(&self, column: &ProductColumn) -> bool
+        requires { IsProductColumn self.now.parent.factors self.now.parent.rank column.now.items }
+        ensures { IsTrue result ↔ HasLowerImage self.now column.now.items }
+    {
+        self.lower(column).is_some()
+    }
+
     /// The first image of the column that is below it.
     fn lower(&self, column: &ProductColumn) -> Option<ProductColumn>
         requires { IsProductColumn self.now.parent.factors self.now.parent.rank column.now.items }
-        ensures { IfSome result (λ lower. IsImage self.now column.now.items lower.items) }
+        ensures { MatchOption result (¬ (HasLowerImage self.now column.now.items))
+            (λ lower. IsLowerImage self.now column.now.items lower.items) }
     {
-        for i in 0..self.moves.len() {
+        self.parent.laws();
+        for i in 0..self.len() {
             let image = self.image(i, column);
-            if image.as_slice().cmp(column.as_slice()) == Ordering::Less {
+            if is_below(&image, column) {
                 return Some(image);
             }
         }
         None
+    }
+}
+
+/// Whether the first column is below the second.
+fn is_below(first: &ProductColumn, second: &ProductColumn) -> bool
+    ensures { IsTrue result ↔ (slice_cmp nat_cmp first.now.items second.now.items ≡ Less) }
+{
+    match first.as_slice().cmp(second.as_slice()) {
+        Ordering::Less => true,
+        Ordering::Equal | Ordering::Greater => false,
     }
 }

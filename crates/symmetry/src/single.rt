@@ -1,12 +1,13 @@
 // A move whose powers and matrices can be read.
-ghost use Rattle.std.specs.Prelude.{◌≡◌, ◌<◌, ◌+◌, ◌*◌, ℕ, length, slice_index, IsTrue};
+ghost use Rattle.std.specs.Prelude.{◌≡◌, ◌<◌, ◌↔◌, ◌+◌, ◌*◌, ℕ, length, slice_index, slice_set, IsTrue};
 ghost use Rattle.matroid_theory.specs.declared.Mode.{Mode};
 ghost use Rattle.matroid_theory.specs.declared.Mode.TheVariants.{Semilinear as semilinear};
 ghost use Rattle.matroid_theory.specs.Field.{degree};
 ghost use Rattle.matroid_theory.specs.Rep.{shape, IsProductColumn};
-ghost use Rattle.matroid_theory.specs.Move.{AreEquivalent, IsMove, TakesTo, move_of, row_place};
+ghost use Rattle.matroid_theory.specs.Move.{AreEquivalent, IsMove, TakesTo, move_of, row_place, scalar_place};
 ghost use Rattle.matroid_theory.specs.Level.{followed_by};
-ghost use Rattle.symmetry.specs.Images.{code_at, mapped, HasLeadOnes};
+ghost use Rattle.product_rep.specs.Tables.{IsIdentityTable};
+ghost use Rattle.symmetry.specs.Images.{code_at, mapped, HasLeadOnes, IsImageBy};
 ghost use Rattle.symmetry.specs.Symmetric.{IsSymmetry};
 
 use crate::images::{lead_scalars, mapped_code, multiplied};
@@ -40,7 +41,8 @@ impl Model for OpenMove {
 impl OpenMove {
     /// The move that changes nothing.
     pub fn identity(rep: &Rep) -> OpenMove
-        ensures { result.shape ≡ shape rep.now }
+        ensures shape { result.shape ≡ shape rep.now }
+        ensures entries { IsIdentityTable (shape rep.now) result }
     {
         rep.laws();
         let factors = rep.factors();
@@ -59,7 +61,7 @@ impl OpenMove {
     pub fn set_power(&mut self, factor: usize, power: u8)
         requires factor { factor < length self.old.shape.factors }
         requires power { power < degree (slice_index self.old.shape.factors factor) }
-        ensures { self.new.shape ≡ self.old.shape }
+        ensures { self.new ≡ record self.old { powers = slice_set self.old.powers factor power } }
     {
         self.step.laws();
         self.step.set_power(factor, power);
@@ -73,7 +75,10 @@ impl OpenMove {
         requires column { column < self.old.shape.rank }
         requires code { code < slice_index self.old.shape.factors factor }
         requires inverse_code { inverse_code < slice_index self.old.shape.factors factor }
-        ensures { self.new.shape ≡ self.old.shape }
+        ensures { self.new ≡ record self.old {
+          rows = slice_set self.old.rows (row_place self.old.shape factor row column) code;
+          back = slice_set self.old.back (row_place self.old.shape factor row column) inverse_code;
+        } }
     {
         self.step.laws();
         self.step.set_rows(factor, row, column, code, inverse_code);
@@ -86,7 +91,9 @@ impl OpenMove {
         requires factor { factor < length self.old.shape.factors }
         requires column { j < self.old.shape.size }
         requires code { code < slice_index self.old.shape.factors factor }
-        ensures { self.new.shape ≡ self.old.shape }
+        ensures { self.new ≡ record self.old {
+          scalars = slice_set self.old.scalars (scalar_place self.old.shape factor j) code;
+        } }
     {
         self.step.set_scalar(factor, j, code);
     }
@@ -95,14 +102,14 @@ impl OpenMove {
     pub fn set_label(&mut self, j: usize, from: usize)
         requires column { j < self.old.shape.size }
         requires from { from < self.old.shape.size }
-        ensures { self.new.shape ≡ self.old.shape }
+        ensures { self.new ≡ record self.old { labels = slice_set self.old.labels j from } }
     {
         self.step.set_label(j, from);
     }
 
     /// Whether this is a move of the mode that takes the representation to itself.
     pub fn is_symmetry(&self, rep: &Rep, mode: Mode) -> bool
-        ensures { IsTrue result → IsSymmetry mode rep.now self.now }
+        ensures { IsTrue result ↔ IsSymmetry mode rep.now self.now }
     {
         self.step.valid(rep, mode) && stays(rep, &self.step)
     }
@@ -116,6 +123,7 @@ impl OpenMove {
         requires column { IsProductColumn rep.now.factors rep.now.rank column.now.items }
         ensures equivalent { (mode : Mode) → IsSymmetry mode rep.now self.now →
             AreEquivalent mode (followed_by rep.now column.now.items) (followed_by rep.now result.items) }
+        ensures by { IsImageBy self.now column.now.items result.items }
         ensures column { IsProductColumn rep.now.factors rep.now.rank result.items }
         ensures scaled { HasLeadOnes rep.now.factors rep.now.rank result.items }
     {
@@ -181,8 +189,9 @@ impl OpenMove {
 fn stays(rep: &Rep, step: &Move) -> bool
     requires shape { step.now.shape ≡ shape rep.now }
     requires valid { IsMove semilinear (shape rep.now) (move_of step.now) }
-    ensures { IsTrue result → TakesTo rep.now (move_of step.now) rep.now }
+    ensures { IsTrue result ↔ TakesTo rep.now (move_of step.now) rep.now }
 {
+    rep.laws();
     match compare(&act(rep, step), rep) {
         Ordering::Equal => true,
         Ordering::Less | Ordering::Greater => false,

@@ -22,7 +22,8 @@ loop-init c =
 pub loop-preserved : goal.loop-preserved
 loop-preserved c =
     let s : MovesOf = c.args.self.now in
-    let h : IsImage s c.loop.least.items c.in-Some.lower.items = c.in-Some.ensures in
+    let lower = c.in-Some.ensures in
+    let h : IsImage s c.loop.least.items c.in-Some.lower.items = lower.image in
     record {
       equivalent = equivalent-transitive s.mode (followed_by s.parent c.args.column.now.items)
           (followed_by s.parent c.loop.least.items) (followed_by s.parent c.in-Some.lower.items)

@@ -3,7 +3,7 @@ use Rattle.matroid_theory.specs.Field.{times}
 use Rattle.matroid_theory.specs.Rep.{Rep, order, count, IsProductColumn}
 use Rattle.matrix_lemmas.proofs.FieldLaws.{field_laws}
 use Rattle.symmetry.specs.Images.{code_at, AreLeadScalars}
-use Rattle.symmetry.proofs.Symmetric.{column_of_shape, image_equivalent, image_ones}
+use Rattle.symmetry.proofs.Symmetric.{column_of_shape, image_equivalent, image_ones, image_by}
 use Rattle.symmetry.proofs.single.OpenMove.image.Goals as goal
 
 -- what the calls ensure, in the words of the representation
@@ -41,6 +41,21 @@ returns-clause-scaled c =
     let fe = c.factors-factors.ensures in
     let re = c.rank-rank.ensures in
     image_ones P c.args.self.now c.requires.shape c.laws.ensures.shaped c.args.column.now.items c.mapped-image.result.items
+    c.multiplied.result.items c.lead_scalars-scalars.result.items c.requires.column
+    (column_here P c.factors-factors.result c.rank-rank.result c.multiplied.result.items fe re c.multiplied.ensures.column) c.mapped-image.ensures.codes
+    (leads_here P c.factors-factors.result c.rank-rank.result c.mapped-image.result.items c.lead_scalars-scalars.result.items fe re
+    c.lead_scalars-scalars.ensures)
+    (codes_here P c.factors-factors.result c.rank-rank.result c.mapped-image.result.items c.multiplied.result.items
+    c.as_slice.result.now c.lead_scalars-scalars.result.items fe re c.as_slice.ensures.value c.multiplied.ensures.codes)
+    (λ f l. field_laws (order P f) (c.laws.ensures.shaped.orders f l))
+    (column_of_shape P c.args.self.now c.mapped-image.result.items c.requires.shape c.mapped-image.ensures.column)
+
+pub returns-clause-by : goal.returns-clause-by
+returns-clause-by c =
+    let P : Rep = c.args.rep.now in
+    let fe = c.factors-factors.ensures in
+    let re = c.rank-rank.ensures in
+    image_by P c.args.self.now c.requires.shape c.laws.ensures.shaped c.args.column.now.items c.mapped-image.result.items
     c.multiplied.result.items c.lead_scalars-scalars.result.items c.requires.column
     (column_here P c.factors-factors.result c.rank-rank.result c.multiplied.result.items fe re c.multiplied.ensures.column) c.mapped-image.ensures.codes
     (leads_here P c.factors-factors.result c.rank-rank.result c.mapped-image.result.items c.lead_scalars-scalars.result.items fe re
