@@ -119,6 +119,19 @@ module _ (M : Rep) (rep : KeepsLimits M) (k : ℕ) (k_below : k < M.rank) where
       ];
     }
 
+    pub left_tried : (b : ℕ) (old now : Option (List ℕ)) (better level : Bool) → AreTried M k groups columns there settled b old now better level →
+        ((d : Trail) → IsFrame M (suc k) (slice_index groups) settled (entries_of M columns there) d → (m : Move) (N : Rep) → ReachesForm M m N →
+        Follows M d (suc k) (length settled) m → m.label k ≡ b → IsAtMost now (numbers_of M N)) →
+        AreTried M k groups columns there settled (b + 1) old now better level
+    left_tried b old now better level t w = record {
+      improves = t.improves;
+      stands = t.stands;
+      covers = λ d h m N r f l. elim (cases_lt (m.label k) b) [
+        | inl q ↦ t.covers d h m N r f q
+        | inr q ↦ w d h m N r f (omega arith)
+      ];
+    }
+
     pub all_tried : (b : ℕ) (old new : Option (List ℕ)) (better level : Bool) → AreTried M k groups columns there settled b old new better level → size M ≤ b
         → (d : Trail) → IsFrame M (suc k) (slice_index groups) settled (entries_of M columns there) d → Covers M d (suc k) (length settled) new
     all_tried b old new better level t l d h m N r f =

@@ -9,12 +9,13 @@ ghost use Rattle.form_search.specs.Search.{IsFrame, IsPlacing, IsThere, IsAtMost
 ghost use Rattle.form_states.specs.States.{IsShapeOf, AreColumns, AreGroups, entries_of, layer_of, rest_of, AreLeastNumbers, IsLeastNumber, IsLeastOf};
 ghost use Rattle.form_states.specs.Steps.{AreStateCodes, AreNumbered};
 
+use form_states::above::{gives_up, leaves, next_within};
 use form_states::lists::{Columns, next_columns, pivoted_columns};
 use form_states::numbers::Numbers;
 use form_states::states::{Frame, Row, Shape, State};
 use form_states::steps::{
-    chosen, gives_up, least_of, next_frame, numbers_are_least, placed, placed_column,
-    placed_scalars, row_of, standing,
+    chosen, least_of, next_frame, numbers_are_least, placed, placed_column, placed_scalars, row_of,
+    standing,
 };
 use product_rep::Rep;
 
@@ -46,16 +47,19 @@ pub fn rows(
     for b in 0..shape.size {
         if frame.there[b] {
             let row = row_of(rep, shape, k, columns, frame, b);
-            let layer = pivoted_columns(shape, columns, &row.class, &row.minus, row.p, k);
-            let state = chosen(rep, shape, k, columns, frame, b, &row, &layer);
-            let found = place(
-                rep, shape, k, columns, &row, &layer, &state, settled, best, abreast,
-            );
-            if stops(shape, found) {
-                return true;
+            let low = next_within(shape, k, best, settled, abreast);
+            if !leaves(shape, k, columns, &row.class, b, low) {
+                let layer = pivoted_columns(shape, columns, &row.class, &row.minus, row.p, k);
+                let state = chosen(rep, shape, k, columns, frame, b, &row, &layer);
+                let found = place(
+                    rep, shape, k, columns, &row, &layer, &state, settled, best, abreast,
+                );
+                if stops(shape, found) {
+                    return true;
+                }
+                abreast = either(abreast, found);
+                better = either(better, found);
             }
-            abreast = either(abreast, found);
-            better = either(better, found);
         }
     }
     better

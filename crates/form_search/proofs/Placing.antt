@@ -54,7 +54,7 @@ module _ (M : Rep) (shaped : IsShaped M) (some : 0 < count M) (k : ℕ) (groups 
 
   module _ (m : Move) (N : Rep) (reach : ReachesForm M m N) (follows : Follows M d k s m) where
     -- a place that isn't settled comes from one that isn't
-    unsettled_place : (x : ℕ) → x < size M → (q : ℕ) → q < size M → m.label q ≡ x → (q < k) ⊎ (M.rank + s ≤ q) → (d.place x < k) ⊎ (M.rank + s ≤ d.place x)
+    pub unsettled_place : (x : ℕ) → x < size M → (q : ℕ) → q < size M → m.label q ≡ x → (q < k) ⊎ (M.rank + s ≤ q) → (d.place x < k) ⊎ (M.rank + s ≤ d.place x)
     unsettled_place x b q bq e u = elim (cases_lt (d.place x) k) [
       | inl l ↦ inl l
       | inr g ↦ elim (cases_lt (d.place x) (M.rank + s)) [

@@ -1,3 +1,4 @@
+pub mod Left
 pub mod GroupSteps
 pub mod Marks
 pub mod Moves

@@ -1,9 +1,10 @@
 -- What the steps of the search make of the states.
-use Rattle.std.specs.Prelude.{ℕ, ◌+◌, ◌<◌, ◌≤◌, ◌≡◌, ◌≢◌, ◌↔◌, ◌∷◌, [], ◌++◌, Bool, List, length, slice_index, slice_index_or, suc, true, false}
+use Rattle.std.specs.Prelude.{ℕ, ◌+◌, ◌*◌, ◌/◌, ◌%◌, ◌<◌, ◌≤◌, ◌≡◌, ◌≢◌, ◌↔◌, ◌∷◌, [], ◌++◌, Bool, List, length, slice_index, slice_index_or, suc, true, false}
 use Rattle.matroid_theory.specs.Field.{plus, times}
 use Rattle.matroid_theory.specs.Rep.{Rep}
 use Rattle.matroid_theory.specs.Move.{Move}
 use Rattle.matroid_theory.specs.Exchange.{exchange}
+use Rattle.form_trails.specs.Numbers.{weighed}
 use Rattle.form_trails.specs.Trail.{Trail, Follows}
 use Rattle.form_search.specs.Search.{Entries, IsThere, IsFrame, IsPlacing}
 use Rattle.form_states.specs.Codes.{AreColumnCodes, code, cleared_code, IsNormalisedFrom}
@@ -66,6 +67,12 @@ pub record AreStateCodes (fields : List ℕ) (rank : ℕ) (columns : List (List 
   pub layer_are : AreColumns fields layer
   pub scalars_are : AreColumnCodes fields scalars
   pub groups_are : AreGroups groups
+
+-- each column that isn't 0 in row k, nor in any row after it where the first codes of two columns differ, has a greater number
+abbrev pub AreAbove : ℕ → ℕ → ℕ → List (List ℕ) → List (List ℕ) → ℕ → Type 0
+AreAbove factors rank k column base low = (c : ℕ → ℕ → ℕ) → ((f : ℕ) → f < factors → c f k ≢ 0) →
+    ((i : ℕ) → k < i → i < rank → code column 0 i ≢ code base 0 i → (f : ℕ) → f < factors → c f i ≢ 0) →
+    low < weighed (λ e. c (e % factors) (e / factors)) (rank * factors)
 
 -- the numbers of the open columns of the layer, with their rows multiplied by the scalars and their groups scaled
 abbrev pub AreNumbered : List ℕ → ℕ → ℕ → ℕ → List (List (List ℕ)) → List (List ℕ) → List Bool → List ℕ → List ℕ → Type 0

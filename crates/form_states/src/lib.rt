@@ -2,6 +2,7 @@
 //! state to the next, each with what it keeps of the forms of the class.
 #![tactic(auto)]
 
+pub mod above;
 pub mod codes;
 pub mod columns;
 pub mod groups;

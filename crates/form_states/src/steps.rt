@@ -236,33 +236,3 @@ pub fn standing(level: bool, best: &Option<Numbers>, settled: &Numbers, low: u12
         }
     }
 }
-
-/// Whether what was found has a next number, of a column that is zero in the rows before row `k`, where none is open.
-pub fn gives_up(
-    shape: &Shape,
-    k: usize,
-    best: &Option<Numbers>,
-    settled: &Numbers,
-    level: bool,
-) -> bool
-    requires limits { AreLimits shape.now.fields shape.now.count shape.now.rank shape.now.size }
-    requires row { k < shape.now.rank }
-    ensures was_level { result ≡ true → level ≡ true }
-    ensures within { result ≡ true → MatchOption best.now ⊥ (λ least.
-        (length settled.now < length least) × (slice_index least (length settled.now) < 16 ^ ((shape.now.rank - k) * shape.now.count))) }
-{
-    match best {
-        Some(least) if level && settled.len() < least.len() => {
-            is_within(least.get(settled.len()), (shape.rank - k) * shape.count)
-        }
-        _ => false,
-    }
-}
-
-/// Whether the number has no more digits in base 16 than these.
-fn is_within(number: u128, digits: usize) -> bool
-    requires { digits ≤ 18 }
-    ensures { result ≡ true → number < 16 ^ digits }
-{
-    number >> (4 * digits) == 0
-}

@@ -1,4 +1,4 @@
-use Rattle.std.proofs.Common.{◌≡◌, ℕ, suc, ◌+◌, ◌-◌, ◌*◌, ◌^◌, ◌<◌, [], List, Bool, length, slice_index, slice_index_or, zero, sym, ◌∙◌, subst, arith}
+use Rattle.std.proofs.Common.{◌≡◌, ℕ, suc, ◌+◌, ◌-◌, ◌*◌, ◌^◌, ◌<◌, [], List, Bool, true, false, Option, Some, None, length, slice_index, slice_index_or, zero, sym, ◌∙◌, subst, arith}
 use Rattle.std.specs.Option.{MatchOption}
 use Rattle.std.specs.Prelude.{◌||◌}
 use mathlib.Core.Bool.{true≢false}
@@ -7,9 +7,11 @@ use Rattle.matroid_theory.specs.Rep.{count, order}
 use Rattle.form_search.specs.Search.{Stands, IsPlacing, IsThere}
 use Rattle.form_states.specs.States.{layer_of, rest_of, IsLeastNumber}
 use Rattle.form_states.specs.Codes.{code}
-use Rattle.fast_form.proofs.Covering.{all_tried, all_branched, branched_improves, above_covers, beyond_covers, one_covers, standing_room, tried_same, branched_same, unstopped, more_tried, not_there, more_branched, other_branched}
+use Rattle.form_states.specs.Steps.{AreAbove}
+use Rattle.form_states.proofs.Left.{left_covers}
+use Rattle.fast_form.proofs.Covering.{all_tried, all_branched, branched_improves, above_covers, beyond_covers, one_covers, standing_room, tried_same, branched_same, unstopped, more_tried, left_tried, not_there, more_branched, other_branched}
 use Rattle.fast_form.proofs.search.+search.Goals as goal
-use Rattle.fast_form.proofs.search.+search.Goals.{rows-then-frame-b+else-stops, rows-else-frame-b, place_each-then-state-e+then-state-e-2+else-stops, place_each-else-state-e, place_each-else-state-e-via-then-state-e+else-state-e-2, place_each-else-state-e-via-else-state-e}
+use Rattle.fast_form.proofs.search.+search.Goals.{rows-then-frame-b+then-not-leaves+else-stops, rows-then-frame-b+else-not-leaves, rows-else-frame-b, place_each-then-state-e+then-state-e-2+else-stops, place_each-else-state-e, place_each-else-state-e-via-then-state-e+else-state-e-2, place_each-else-state-e-via-else-state-e}
 
 pub rows-returns-clause-improves : goal.rows-returns-clause-improves
 rows-returns-clause-improves t c = c.loop-b.invariant.improves
@@ -41,9 +43,21 @@ rows-row_of-row-requires-clause-led t c =
     let r = c.requires.shape.is_rep in
     (u.lead, (let l : u.lead < suc c.args.k = u.lead_before in omega arith), λ z. (let y : zero ≡ 1 = sym z ∙ u.ones 0 r.fields.some in omega arith))
 
+-- an element that is left is above what was found
+above_found : (low : Option ℕ) (level : Bool) (best : Option (List ℕ)) (n b : ℕ) (P : ℕ → Type 0) →
+    MatchOption low (true ≡ true) (λ v. (level ≡ true) × MatchOption best ⊥ (λ least. (n < length least) × (slice_index least n ≡ v) × (v < b))) →
+    MatchOption low ⊥ P → (level ≡ true) × MatchOption best ⊥ (λ least. (n < length least) × (slice_index least n < b) × P (slice_index least n))
+above_found None level best n b P a h = absurd h
+above_found (Some v) level best n b P a h = (a.0, by best a.1)
+  where
+    by : (o : Option (List ℕ)) → MatchOption o ⊥ (λ least. (n < length least) × (slice_index least n ≡ v) × (v < b)) →
+        MatchOption o ⊥ (λ least. (n < length least) × (slice_index least n < b) × P (slice_index least n))
+    by None w = w
+    by (Some least) w = (w.0, subst (λ x. x < b) (sym w.1) w.2, subst P (sym w.1) h)
+
 pub rows-loop-b-preserved : goal.rows-loop-b-preserved
 rows-loop-b-preserved t c = elim c.if-frame-b.branch [
-  | rows-then-frame-b+else-stops w ↦
+  | rows-then-frame-b+then-not-leaves+else-stops w ↦
       tried_same c.args.rep.now c.args.k c.args.frame.now.groups c.args.columns.now c.args.frame.now.there c.args.settled.now (c.loop-b.b + 1) c.args.best.now
       w.place-found.new.best c.if-frame-b.best (c.loop-b.better || w.place-found.result) (c.loop-b.abreast || w.place-found.result) c.if-frame-b.better
       c.if-frame-b.abreast
@@ -56,6 +70,32 @@ rows-loop-b-preserved t c = elim c.if-frame-b.branch [
       w.row_of-row.result.rest) w.chosen-state.result.groups
       c.loop-b.invariant w.chosen-state.ensures.chooses w.place-found.ensures.improves
       (w.place-found.ensures.covers (unstopped _ _ _ w.stops.ensures.1 w.if-stops.false)))
+  | rows-then-frame-b+else-not-leaves w ↦
+      tried_same c.args.rep.now c.args.k c.args.frame.now.groups c.args.columns.now c.args.frame.now.there c.args.settled.now (c.loop-b.b + 1) c.args.best.now
+      c.loop-b.best c.if-frame-b.best c.loop-b.better c.loop-b.abreast c.if-frame-b.better c.if-frame-b.abreast w.best-is w.better-is w.abreast-is
+      (left_tried c.args.rep.now c.requires.shape.is_rep c.args.k c.requires.row c.args.frame.now.groups c.args.columns.now c.args.frame.now.there
+      c.args.settled.now c.loop-b.b c.args.best.now c.loop-b.best c.loop-b.better c.loop-b.abreast c.loop-b.invariant
+      (let a = above_found w.next_within-low.result c.loop-b.abreast c.loop-b.best (length c.args.settled.now)
+      (16 ^ ((c.args.shape.now.rank - c.args.k) * c.args.shape.now.count))
+      (λ low. (e : ℕ) → e < c.args.shape.now.size → slice_index_or w.row_of-row.result.class e false ≡ true →
+      AreAbove c.args.shape.now.count c.args.shape.now.rank c.args.k (slice_index_or c.args.columns.now e []) (slice_index_or c.args.columns.now c.loop-b.b [])
+      low) w.next_within-low.ensures (w.leaves.ensures w.if-not-leaves.false) in
+      left_covers c.args.rep.now c.args.shape.now.fields c.args.shape.now.count c.args.shape.now.rank c.args.shape.now.size c.requires.shape c.args.k
+      c.requires.row c.args.columns.now c.args.frame.now.there c.args.frame.now.groups c.loop-b.b c.requires.columns
+      (record { below = omega (arith, c.requires.shape.total_is); passes = w.if-frame-b.true })
+      w.row_of-row.result.p w.row_of-row.result.minus w.row_of-row.result.class w.row_of-row.result.rest w.row_of-row.ensures c.args.settled.now
+      c.loop-b.best c.loop-b.invariant.improves.sound
+      (subst (λ (b : Bool). Stands b c.loop-b.best c.args.settled.now) a.0 c.loop-b.invariant.stands)
+      (subst (λ r. MatchOption c.loop-b.best ⊥ (λ least. (length c.args.settled.now < length least) ×
+      (slice_index least (length c.args.settled.now) < 16 ^ ((r - c.args.k) * count c.args.rep.now)) ×
+      ((e : ℕ) → e < c.args.shape.now.size → slice_index_or w.row_of-row.result.class e false ≡ true →
+      AreAbove c.args.shape.now.count c.args.shape.now.rank c.args.k (slice_index_or c.args.columns.now e []) (slice_index_or c.args.columns.now c.loop-b.b [])
+      (slice_index least (length c.args.settled.now))))) c.requires.shape.rank_is
+      (subst (λ f. MatchOption c.loop-b.best ⊥ (λ least. (length c.args.settled.now < length least) ×
+      (slice_index least (length c.args.settled.now) < 16 ^ ((c.args.shape.now.rank - c.args.k) * f)) ×
+      ((e : ℕ) → e < c.args.shape.now.size → slice_index_or w.row_of-row.result.class e false ≡ true →
+      AreAbove c.args.shape.now.count c.args.shape.now.rank c.args.k (slice_index_or c.args.columns.now e []) (slice_index_or c.args.columns.now c.loop-b.b [])
+      (slice_index least (length c.args.settled.now))))) c.requires.shape.factors_are a.1))))
   | rows-else-frame-b w ↦
       tried_same c.args.rep.now c.args.k c.args.frame.now.groups c.args.columns.now c.args.frame.now.there c.args.settled.now (c.loop-b.b + 1) c.args.best.now
       c.loop-b.best c.if-frame-b.best c.loop-b.better c.loop-b.abreast c.if-frame-b.better c.if-frame-b.abreast w.best-is w.better-is w.abreast-is
