@@ -97,32 +97,57 @@ fn is_key(alloc: Global, orders: &[u8], size: u8, bytes: &[u8]) -> Result<bool, 
     Ok(unpack(factors, 3, size, &Key::of(alloc, bytes)?).is_some())
 }
 
+// What is proved of a test doesn't read them.
+fn forms() -> [(u8, &'static [u8], &'static [u8]); 14] {
+    FORMS
+}
+
 #[test]
 fn three_levels(rt: HostRuntime) -> Result<(), Fail> {
-    for (size, codes, bytes) in FORMS {
+    for (size, codes, bytes) in forms() {
         assert!(rt; has_key(rt.alloc(), &[4], size, codes, bytes)?);
     }
     Ok(())
 }
 
+// Orders, sizes, codes behind the unit columns, and keys.
+fn other_forms() -> [(&'static [u8], u8, &'static [u8], &'static [u8]); 3] {
+    [
+        (&[2], 5, &[0, 1, 1, 1, 0, 1], &[0x01, 0x11, 0x01]),
+        (&[2, 3], 4, &[0, 0, 1, 1, 1, 1], &[0x00, 0x11, 0x11]),
+        (&[2], 3, &[], &[]),
+    ]
+}
+
 #[test]
 fn one_and_two_factors(rt: HostRuntime) -> Result<(), Fail> {
-    let alloc = rt.alloc();
-    assert!(rt; has_key(alloc, &[2], 5, &[0, 1, 1, 1, 0, 1], &[0x01, 0x11, 0x01])?);
-    assert!(rt; has_key(alloc, &[2, 3], 4, &[0, 0, 1, 1, 1, 1], &[0x00, 0x11, 0x11])?);
-    assert!(rt; has_key(alloc, &[2], 3, &[], &[])?);
+    for (orders, size, codes, bytes) in other_forms() {
+        assert!(rt; has_key(rt.alloc(), orders, size, codes, bytes)?);
+    }
     Ok(())
 }
 
-// Keys of another length, with a half that isn't 0 behind the last code, and with a code that isn't below its order.
+// Orders, sizes and bytes: a key, and keys of another length, with a half that isn't 0 behind the last code, and with a code that
+// isn't below its order.
+fn keys_or_none() -> [(&'static [u8], u8, &'static [u8], bool); 6] {
+    [
+        (&[2], 5, &[0x01, 0x11, 0x01], true),
+        (&[2], 5, &[0x01, 0x11], false),
+        (&[2], 5, &[0x01, 0x11, 0x01, 0x00], false),
+        (&[2], 4, &[0x01, 0x11], false),
+        (&[2], 4, &[0x02, 0x10], false),
+        (&[2, 3], 4, &[0x00, 0x11, 0x21], false),
+    ]
+}
+
 #[test]
 fn keys_of_no_form(rt: HostRuntime) -> Result<(), Fail> {
-    let alloc = rt.alloc();
-    assert!(rt; is_key(alloc, &[2], 5, &[0x01, 0x11, 0x01])?);
-    assert!(rt; !is_key(alloc, &[2], 5, &[0x01, 0x11])?);
-    assert!(rt; !is_key(alloc, &[2], 5, &[0x01, 0x11, 0x01, 0x00])?);
-    assert!(rt; !is_key(alloc, &[2], 4, &[0x01, 0x11])?);
-    assert!(rt; !is_key(alloc, &[2], 4, &[0x02, 0x10])?);
-    assert!(rt; !is_key(alloc, &[2, 3], 4, &[0x00, 0x11, 0x21])?);
+    for (orders, size, bytes, is_one) in keys_or_none() {
+        assert_eq!(rt;
+            is_key(rt.alloc(), orders, size, bytes)?,
+            is_one,
+            "at {bytes:?}"
+        );
+    }
     Ok(())
 }

@@ -7,8 +7,8 @@ use std::cmp::Ordering;
 use std::process::Abort;
 use std::test::Fail;
 
-// The key of these bytes. Proofs of what calls it see no bytes.
-fn key_of(alloc: Global, bytes: &[u8]) -> Result<Key, NoMemory>
+/// The key of these bytes. Proofs of what calls it see no bytes.
+pub fn key_of(alloc: Global, bytes: &[u8]) -> Result<Key, NoMemory>
     requires { length bytes.now ≤ 90 }
 {
     Key::of(alloc, bytes)
@@ -41,8 +41,8 @@ fn has_its_bytes(rt: &impl Abort, alloc: Global, bytes: &[u8]) -> Result<(), NoM
     Ok(())
 }
 
-// So many bytes, each of them this one.
-fn equal_bytes(alloc: Global, byte: u8, count: usize) -> Result<Vec<u8>, NoMemory>
+/// So many bytes, each of them this one.
+pub fn equal_bytes(alloc: Global, byte: u8, count: usize) -> Result<Vec<u8>, NoMemory>
     ensures { IfOk result (λ bytes. length bytes.items ≡ count) }
 {
     vec![in alloc; byte; count]

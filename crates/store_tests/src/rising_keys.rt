@@ -1,6 +1,7 @@
 // A set of 2,000 keys, which rise from 11 to 90 bytes.
 ghost use Rattle.std.specs.Prelude.{◌≡◌, ◌≤◌, ◌<◌, IfOk, length};
 
+use crate::key_sets::{equal_bytes, key_of};
 use link_set::{Key, LinkSet, NoMemory, Steps};
 use std::alloc::Global;
 use std::marker::Brand;
@@ -22,8 +23,7 @@ fn counted<L: Ledger>(set: &mut LinkSet, key: Key, blank: Blank) -> Option<bool>
 fn equal_key(alloc: Global, byte: u8, count: usize) -> Result<Key, NoMemory>
     requires { count ≤ 90 }
 {
-    let bytes = vec![in alloc; byte; count]?;
-    Key::of(alloc, &bytes)
+    key_of(alloc, &equal_bytes(alloc, byte, count)?)
 }
 
 // Key n of the 2,000.
@@ -61,20 +61,19 @@ fn found_rising(alloc: Global, set: &LinkSet, count: usize) -> Result<usize, NoM
     Ok(found)
 }
 
-// Whether this rising key stands at its own place.
-fn is_placed(alloc: Global, set: &LinkSet, n: usize) -> Result<bool, NoMemory> {
-    let key = rising_key(alloc, n)?;
-    Ok(match set.get(n) {
+// Whether this key stands at this place.
+fn stands_at(set: &LinkSet, n: usize, key: &Key) -> bool {
+    match set.get(n) {
         Some(there) => there.bytes() == key.bytes(),
         None => false,
-    })
+    }
 }
 
 // How many of so many rising keys stand at their own place.
 fn placed_rising(alloc: Global, set: &LinkSet, count: usize) -> Result<usize, NoMemory> {
     let mut placed = 0usize;
     for n in 0..count {
-        if is_placed(alloc, set, n)? {
+        if stands_at(set, n, &rising_key(alloc, n)?) {
             placed = placed.saturating_add(1);
         }
     }
@@ -108,16 +107,24 @@ fn counted_alone(set: &mut LinkSet, key: Key) -> Option<bool> {
     counted::<Brand>(set, key, Blank::new(1))
 }
 
+// Inserts one of the rising keys with a count of steps, and says whether it was missing.
+fn count_one(alloc: Global, set: &mut LinkSet, n: usize) -> Result<Option<bool>, NoMemory> {
+    Ok(counted_alone(set, rising_key(alloc, n)?))
+}
+
+// Inserts the first 17 of the rising keys, and makes room for one more.
+fn insert_seventeen(rt: &impl Abort, alloc: Global, set: &mut LinkSet) -> Result<(), NoMemory> {
+    grows(rt, alloc, set, 0, (16, 16))?;
+    grows(rt, alloc, set, 16, (17, 32))?;
+    assert_eq!(rt; set.len(), 17);
+    make_room(rt, set, 16)
+}
+
 #[test]
 fn seventeen_keys(rt: HostRuntime) -> Result<(), Fail> {
-    let alloc = rt.alloc();
-    let mut set = LinkSet::new(alloc)?;
-    grows(&rt, alloc, &mut set, 0, (16, 16))?;
-    grows(&rt, alloc, &mut set, 16, (17, 32))?;
-    assert_eq!(rt; set.len(), 17);
-    make_room(&rt, &mut set, 16)?;
-    let key = rising_key(alloc, 17)?;
-    assert_eq!(rt; counted_alone(&mut set, key), Some(true));
+    let mut set = LinkSet::new(rt.alloc())?;
+    insert_seventeen(&rt, rt.alloc(), &mut set)?;
+    assert_eq!(rt; count_one(rt.alloc(), &mut set, 17)?, Some(true));
     Ok(())
 }
 

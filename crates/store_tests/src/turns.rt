@@ -17,13 +17,19 @@ fn empty_stripe(alloc: Global) -> Result<Stripe, NoMemory> {
     })
 }
 
+// Two stripes without entries.
+fn two_stripes(alloc: Global) -> Result<Vec<Stripe>, NoMemory>
+    ensures { IfOk result (λ stripes. length stripes.items ≡ 2) }
+{
+    let first = empty_stripe(alloc)?;
+    let second = empty_stripe(alloc)?;
+    Ok(vec![in alloc; first, second]?)
+}
+
 #[test]
 fn two_stripes_are_held_and_given_back(rt: HostRuntime) -> Result<(), Fail> {
     let alloc = rt.alloc();
-    let mut stripes = Vec::with_capacity(alloc, 2)?;
-    stripes.push(empty_stripe(alloc)?)?;
-    stripes.push(empty_stripe(alloc)?)?;
-    let (turns, mut seats) = open_turns(alloc, stripes, 1)?;
+    let (turns, mut seats) = open_turns(alloc, two_stripes(alloc)?, 1)?;
     let Some(mut turn) = seats.pop() else {
         unreachable!()
     };
