@@ -5,7 +5,8 @@
 //     FAULT=thread AT=N   the Nth thread can't be made
 //     FAULT=read AT=N     the Nth read of standard input fails
 //     FAULT=write AT=N    the Nth write to standard output fails
-//     FAULT=short         each read of standard input and each write to standard output moves one byte
+//
+// SHORT=1 besides: each read of standard input and each write to standard output moves one byte at most.
 //
 // AT counts from 1. Where a call was made to fail, the file that HIT names is made.
 //
@@ -29,6 +30,7 @@ enum { WRITE_ONLY = 01, CREATE = 0100 };
 static char fault;
 static long at;
 static long calls;
+static int is_short;
 
 __attribute__((constructor)) static void begin(void) {
   const char *kind = getenv("FAULT");
@@ -36,6 +38,7 @@ __attribute__((constructor)) static void begin(void) {
   for (; digits && *digits; digits++)
     at = at * 10 + (*digits - '0');
   fault = kind ? *kind : 0;
+  is_short = getenv("SHORT") != 0;
 }
 
 // Whether this call, one of those that this fault is of, is to fail.
@@ -64,13 +67,13 @@ int pthread_create(void *thread, const void *attributes, void *(*start)(void *),
 ssize_t read(int file, void *bytes, size_t size) {
   if (file == 0 && fails('r', IO_ERROR))
     return -1;
-  return syscall(READ, file, bytes, fault == 's' && file == 0 && size > 1 ? 1 : size);
+  return syscall(READ, file, bytes, is_short && file == 0 && size > 1 ? 1 : size);
 }
 
 ssize_t write(int file, const void *bytes, size_t size) {
   if (file == 1 && fails('w', IO_ERROR))
     return -1;
-  return syscall(WRITE, file, bytes, fault == 's' && file == 1 && size > 1 ? 1 : size);
+  return syscall(WRITE, file, bytes, is_short && file == 1 && size > 1 ? 1 : size);
 }
 
 ssize_t __write(int file, const void *bytes, size_t size) { return write(file, bytes, size); }

@@ -1,15 +1,16 @@
 -- From the words that were read to what they ask for.
-use Rattle.std.proofs.Common.{◌≡◌, ◌≢◌, ◌∙◌, ℕ, false, List, [], ◌∷◌, Option, None, Some, refl, ap, subst}
-use Rattle.std.specs.Prelude.{filter_map, MatchOption}
+use Rattle.std.proofs.Common.{◌≡◌, ◌≢◌, ◌∙◌, ℕ, false, List, [], ◌∷◌, Option, None, Some, refl, ap, sym, subst}
+use Rattle.std.specs.Prelude.{filter_map, MatchOption, option_to_list, unwrap_or}
 use Rattle.formats.specs.declared.refusal.Refusal.{Refusal}
 use Rattle.formats.specs.Request.{Request, StandsFor}
 use Rattle.formats.specs.Words.{Piece, IsCommand, StandsAtMacek, AsksForKnownText, sample_in, sample_text}
 use Rattle.formats.specs.Run.{AsksForRefused, Gains}
 use Rattle.command_words.specs.declared.read.Asked.{Asked}
-use Rattle.command_words.specs.Asking.{IsAsked}
+use Rattle.command_words.specs.Asking.{IsAsked, workers_in}
 use Rattle.command_words.proofs.AskedTexts.{asks_text}
 use Rattle.command_words.proofs.Readings.{one_reading}
 use Rattle.macek_run.specs.Run.{AreAccepted, NameSample, Lists, LeavesRefused, ListsLeft}
+use Rattle.macek_workers.specs.Stored.{AskForWorkers}
 
 -- what was read of the words
 pub asked_from : (words : List (List ℕ)) (o : Option Asked) (asked : Asked) (sample : Option ℕ)
@@ -65,3 +66,16 @@ module _ (words : List (List ℕ)) (left : Option (List ℕ)) (workers : Option 
 
   pub known_accepted : (text : List ℕ) → AsksForKnownText StandsAtMacek words left text → AreAccepted StandsAtMacek words
   known_accepted text asked = (asked.pieces, asked.command)
+
+  one_number : (a b : Option ℕ) → option_to_list a ≡ option_to_list b → a ≡ b
+  one_number None None e = refl
+  one_number None (Some b) e = absurd (cc e)
+  one_number (Some a) None e = absurd (cc e)
+  one_number (Some a) (Some b) e = let same : a ≡ b = cc e in ap Some same
+
+  -- the words ask for one number of workers
+  pub workers_asked : (sample : Option ℕ) (n : ℕ) → IsAsked StandsAtMacek words workers sample false → AskForWorkers words n → unwrap_or workers 4 ≡ n
+  workers_asked sample n asked ask =
+      let named : option_to_list workers ≡ option_to_list ask.named = sym asked.workers_are
+      ∙ (ap (filter_map workers_in) (one_reading words asked.pieces ask.pieces asked.command ask.command) ∙ ask.workers_are) in
+      ap (λ o. unwrap_or o 4) (one_number workers ask.named named) ∙ sym ask.count

@@ -1,7 +1,10 @@
 -- What the store of a run holds when the run has ended.
-use Rattle.std.specs.Prelude.{◌≡◌, ◌⊎◌, ℕ, ◌+◌, ◌-◌, ◌<◌, ◌≤◌, min}
+use Rattle.std.specs.Prelude.{◌≡◌, ◌⊎◌, ℕ, ◌+◌, ◌-◌, ◌<◌, ◌≤◌, List, Option, filter_map, min, option_to_list, unwrap_or}
 use Rattle.formats.specs.Request.{Request}
+use Rattle.formats.specs.Words.{Piece, IsCommand, StandsAtMacek}
+use Rattle.command_words.specs.Asking.{workers_in}
 use Rattle.class_store.specs.Closed.{StoreSide}
+use Rattle.class_store.specs.Seen.{AreOfCallersBelow}
 use Rattle.workers.specs.Store.{HoldsTriesOf}
 use Rattle.macek_run.specs.declared.write.Stop.{Stop}
 use Rattle.macek_run.specs.declared.write.Stop.TheVariants.{Failed, NoMemory}
@@ -23,3 +26,15 @@ HasClosedSome q whole old new = HasClosed q (q.rank + whole) old new ⊎ HasClos
 abbrev pub LeavesStore : Stop → Request → ℕ → StoreSide → StoreSide → Type 0
 LeavesStore Failed q whole old new = HasClosedAtCut q whole old new
 LeavesStore NoMemory q whole old new = HasClosedSome q whole old new
+
+-- The level that was closed last is the old one, or each call in its histories is of a worker with a number below.
+abbrev pub HasCallsBelow : ℕ → StoreSide → StoreSide → Type 0
+HasCallsBelow workers old new = (new.last ≡ old.last) ⊎ AreOfCallersBelow workers new.last
+
+-- The words are accepted, and they ask for so many workers: the number that they name, or else 4.
+pub record AskForWorkers (words : List (List ℕ)) (workers : ℕ) : Type 0 where
+  pub pieces : List Piece
+  pub command : IsCommand StandsAtMacek words pieces
+  pub named : Option ℕ
+  pub workers_are : filter_map workers_in pieces ≡ option_to_list named
+  pub count : workers ≡ unwrap_or named 4

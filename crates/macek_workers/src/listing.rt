@@ -5,7 +5,7 @@ ghost use Rattle.formats.specs.Listing.{level_count, end_text as the_end};
 ghost use Rattle.formats.specs.Levels.{IsListing, IsListingUpTo, IsListingCutOff};
 ghost use Rattle.formats.specs.Run.{Gains};
 ghost use Rattle.macek_run.specs.Steps.{IsLess};
-ghost use Rattle.macek_workers.specs.Stored.{HasClosed, HasClosedAtCut, HasClosedSome, LeavesStore};
+ghost use Rattle.macek_workers.specs.Stored.{HasCallsBelow, HasClosed, HasClosedAtCut, HasClosedSome, LeavesStore};
 
 use class_store::ClassStore;
 use formats::Status;
@@ -36,6 +36,8 @@ fn write_levels<R: Threads + Wait + Sync, K: Sink, G: Gate + Sync>(
     ensures kept { OnOk result (K.faults sink.new ≡ K.faults sink.old) }
     ensures err { IfErr result (λ cut. Gains (K.held sink.old) (K.held sink.new) (IsLess cut.why request.now cut.whole)) }
     ensures rose { IfErr result (λ cut. cut.why ≡ Stop.Failed → Rose (K.faults sink.old) (K.faults sink.new)) }
+    ensures no_fault { IfErr result (λ cut. cut.why ≡ Stop.NoMemory → K.faults sink.new ≡ K.faults sink.old) }
+    ensures callers { HasCallsBelow workers store.old store.new }
     ensures stripes { store.new.stripes ≡ store.old.stripes }
     ensures width { length store.old.last ≡ store.old.stripes → length store.new.last ≡ store.new.stripes }
     ensures closed { OnOk result (HasClosed request.now request.now.size store.old store.new) }
@@ -93,6 +95,8 @@ pub fn write_listing<R: Threads + Wait + Sync, K: Sink, G: Gate + Sync>(
     ensures no_memory { result.status ≡ Status.NoMemory →
         Gains (K.held sink.old) (K.held sink.new) (IsListingUpTo request.now result.levels)
         × HasClosedSome request.now result.levels store.old store.new }
+    ensures no_fault { result.status ≡ Status.NoMemory → K.faults sink.new ≡ K.faults sink.old }
+    ensures callers { HasCallsBelow workers store.old store.new }
     ensures stripes { store.new.stripes ≡ store.old.stripes }
     ensures width { length store.old.last ≡ store.old.stripes → length store.new.last ≡ store.new.stripes }
     ensures only { (result.status ≡ Status.Done) ⊎ (result.status ≡ Status.WriteFault) ⊎ (result.status ≡ Status.NoMemory) }

@@ -11,7 +11,7 @@ ghost use Rattle.formats.specs.Words.{StandsAtMacek, AsksForKnownText};
 ghost use Rattle.formats.specs.Run.{AsksForRefused};
 ghost use Rattle.formats.specs.Levels.{IsListing, IsListingUpTo, IsListingCutOff};
 ghost use Rattle.macek_run.specs.Run.{texts_of, AreAccepted, NameSample, Lists, LeavesRefused, ListsLeft};
-ghost use Rattle.macek_workers.specs.Stored.{HasClosed, HasClosedAtCut, HasClosedSome};
+ghost use Rattle.macek_workers.specs.Stored.{AskForWorkers, HasCallsBelow, HasClosed, HasClosedAtCut, HasClosedSome};
 
 use crate::listing::write_listing;
 use class_store::ClassStore;
@@ -42,7 +42,8 @@ fn workers_of(named: Option<u32>) -> usize
 /// `--sample K`, or with `=` in place of the space. The levels above the first are grown by so many workers through the store,
 /// by 4 where no number is named. Each worker calls the gate before each parent that it extends.
 ///
-/// The store's last closed level is then that of the last size that was grown, if any was.
+/// The store's last closed level is then that of the last size that was grown, if any was: the calls on each of its stripes are one
+/// legal history of a set, with each worker's calls in its own order, and each form's key was told New just once.
 pub fn macek<R: Threads + Wait + Sync, S: Source, K: Sink, G: Gate + Sync>(
     rt: &R,
     alloc: Global,
@@ -74,11 +75,13 @@ pub fn macek<R: Threads + Wait + Sync, S: Source, K: Sink, G: Gate + Sync>(
         (λ q written. IsListingCutOff q result.levels written × HasClosedAtCut q result.levels store.old store.new)
         × Rose (K.faults sink.old) (K.faults sink.new) × (S.faults source.new ≡ S.faults source.old) }
 
-    // Want of memory is free. What was written then ends where a level ends.
+    // Want of memory is free, but no failed read or write is told as such. What was written then ends where a level ends.
     ensures no_memory { result.status ≡ Status.NoMemory →
         ((sink.new ≡ sink.old) × (store.new ≡ store.old) × (result.levels ≡ 0))
         ⊎ Lists StandsAtMacek (texts_of words.now) (S.left source.old) (K.held sink.old) (K.held sink.new)
         (λ q written. IsListingUpTo q result.levels written × HasClosedSome q result.levels store.old store.new) }
+    ensures no_fault { result.status ≡ Status.NoMemory →
+        (S.faults source.new ≡ S.faults source.old) × (K.faults sink.new ≡ K.faults sink.old) }
 
     ensures done { result.status ≡ Status.Done →
         Lists StandsAtMacek (texts_of words.now) (S.left source.old) (K.held sink.old) (K.held sink.new)
@@ -86,8 +89,10 @@ pub fn macek<R: Threads + Wait + Sync, S: Source, K: Sink, G: Gate + Sync>(
         × (NameSample StandsAtMacek (texts_of words.now) ⊎ IsAtEnd (S.left source.new))
         × (S.faults source.new ≡ S.faults source.old) × (K.faults sink.new ≡ K.faults sink.old) }
 
-    // However a run ends, the store keeps its number of stripes, and the level that was closed last has as many. No more of the
-    // source is taken than one byte past the longest text.
+    // However a run ends, the level that was closed last is the old one or was written by so many workers as the words ask for,
+    // the store keeps its number of stripes, and that level has as many. No more of the source is taken than one byte past the
+    // longest text.
+    ensures callers { (workers : ℕ) → AskForWorkers (texts_of words.now) workers → HasCallsBelow workers store.old store.new }
     ensures stripes { store.new.stripes ≡ store.old.stripes }
     ensures width { length store.old.last ≡ store.old.stripes → length store.new.last ≡ store.new.stripes }
     ensures takes { TakesAtMost 65537 (S.left source.old) (S.left source.new) }
@@ -147,12 +152,16 @@ fn list_source<R: Threads + Wait + Sync, S: Source, K: Sink, G: Gate + Sync>(
         ⊎ ListsLeft (S.left source.old) (K.held sink.old) (K.held sink.new)
         (λ q written. IsListingUpTo q result.levels written × HasClosedSome q result.levels store.old store.new) }
 
+    ensures no_fault { result.status ≡ Status.NoMemory →
+        (S.faults source.new ≡ S.faults source.old) × (K.faults sink.new ≡ K.faults sink.old) }
+
     ensures done { result.status ≡ Status.Done →
         ListsLeft (S.left source.old) (K.held sink.old) (K.held sink.new)
         (λ q written. IsListing q written × (result.levels ≡ level_count q) × HasClosed q q.size store.old store.new)
         × IsAtEnd (S.left source.new)
         × (S.faults source.new ≡ S.faults source.old) × (K.faults sink.new ≡ K.faults sink.old) }
 
+    ensures callers { HasCallsBelow workers store.old store.new }
     ensures stripes { store.new.stripes ≡ store.old.stripes }
     ensures width { length store.old.last ≡ store.old.stripes → length store.new.last ≡ store.new.stripes }
     ensures takes { TakesAtMost 65537 (S.left source.old) (S.left source.new) }

@@ -1,4 +1,4 @@
-use Rattle.std.proofs.Common.{Err, ◌≡◌, ◌∙◌, ◌+◌, ◌-◌, refl, ap, sym, subst, arith}
+use Rattle.std.proofs.Common.{Err, ◌≡◌, ◌∙◌, ◌+◌, ◌-◌, inl, inr, refl, ap, sym, subst, arith}
 use Rattle.formats.specs.Run.{Gains}
 use Rattle.level_driver.specs.Grown.{IsLevelOf, IsParentLevel}
 use Rattle.macek_run.specs.Steps.{IsLess}
@@ -16,6 +16,9 @@ returns-in-Err-clause-err g c =
     c.rank-rank.result c.rank-rank.ensures c.as_slice.result.now (c.as_slice.ensures.value ∙ c.head_text-head.ensures)
     c.in-Err.why (λ is. c.in-Err.ensures.failed (ap Err is)) (λ is. ap g.K.Sink.held (c.in-Err.ensures.no_memory (ap Err is)))
 
+pub returns-in-Err-clause-no_fault : goal.returns-in-Err-clause-no_fault
+returns-in-Err-clause-no_fault g c = λ is. ap g.K.Sink.faults (c.in-Err.ensures.no_memory (ap Err is))
+
 pub loop-size-init : goal.loop-size-init
 loop-size-init g c = record {
   begun = first_begun c.args.request.now (g.K.Sink.held c.args.sink.now) (g.K.Sink.held c.write_level.new.sink) (omega (arith, c.laws.ensures.limits.size))
@@ -23,6 +26,7 @@ loop-size-init g c = record {
   level = subst (λ n. IsLevelOf c.args.request.now n c.in-Ok.level.forms) (sym c.rank-rank.ensures) c.in-Ok.ensures.forms;
   kept = c.in_default-write_level.ensures.kept;
   closed = none_closed c.args.request.now c.rank-rank.result c.args.store.now (let e = c.rank-rank.ensures in omega arith);
+  callers = inl refl;
   stripes = refl;
   width = λ wide. wide;
 }
@@ -40,6 +44,10 @@ returns-in-Err-write_level-clause-err g c =
     (next_stopped c.args.request.now c.loop-size.size (g.K.Sink.held c.args.sink.now) (g.K.Sink.held c.loop-size.sink) c.loop-size.invariant.begun (omega arith)
     (omega arith) (g.K.Sink.held c.write_level-in-loop-size.new.sink) c.in-Err-write_level.why (λ is. c.in-Err-write_level.ensures.failed (ap Err is))
     (λ is. ap g.K.Sink.held (c.in-Err-write_level.ensures.no_memory (ap Err is))))
+
+pub returns-in-Err-write_level-clause-no_fault : goal.returns-in-Err-write_level-clause-no_fault
+returns-in-Err-write_level-clause-no_fault g c =
+    λ is. ap g.K.Sink.faults (c.in-Err-write_level.ensures.no_memory (ap Err is)) ∙ c.loop-size.invariant.kept
 
 pub returns-in-Err-write_level-clause-leaves : goal.returns-in-Err-write_level-clause-leaves
 returns-in-Err-write_level-clause-leaves g c =
@@ -59,6 +67,7 @@ loop-size-preserved g c =
       level = c.in-Ok-grow.ensures.forms c.loop-size.size h;
       kept = c.in_default-write_level-2.ensures.kept ∙ c.loop-size.invariant.kept;
       closed = more_closed c.args.request.now c.loop-size.size c.args.store.now c.grow.new.store (omega arith) (c.in-Ok-grow.ensures.holds c.loop-size.size h);
+      callers = inr c.in-Ok-grow.ensures.callers;
       stripes = c.grow.ensures.stripes ∙ c.loop-size.invariant.stripes;
       width = λ wide. c.in-Ok-grow.ensures.width;
     }
