@@ -1,7 +1,6 @@
 -- What was kept of all parents is the next level.
 use Rattle.std.proofs.Common.{◌≡◌, ◌↔◌, ℕ, suc, ◌+◌, ◌<◌, ◌≤◌, List, [], map, length, take, sym, ◌∙◌, subst, arith, get_or}
 use Rattle.std.specs.List.{Contains}
-use Rattle.std.proofs.lemmas.List.{take_more, take_all}
 use Rattle.matroid_theory.specs.declared.Mode.{Mode}
 use Rattle.matroid_theory.specs.Rep.{Rep, size}
 use Rattle.matroid_theory.specs.Order.{IsForm}
@@ -20,6 +19,7 @@ use Rattle.level_driver.proofs.Tries.{IsExtension}
 use Rattle.level_driver.proofs.UnitLevel.{forbidden_are}
 use Rattle.orderly.specs.Kept.{IsLevelFormOf}
 use Rattle.orderly.proofs.KeptParents.{IsKept, HasKeptAll}
+use Rattle.orderly.proofs.Rising.{last_split}
 
 -- a form of a level and a column by which it can be extended without a forbidden minor make a member of the next size
 pub extended_member : (family : Family) (n : ℕ) (P : Rep) (v : List ℕ) → IsLevelForm family n P → IsCandidate family.forbidden P v →
@@ -58,10 +58,7 @@ module _ (q : Request) (family : Family) (grows : Grows q family) (n : ℕ) (par
   }
     where
       split : N ≡ followed_by (record N { columns = take n N.columns }) (get_or N.columns n [])
-      split =
-          let m = f.member in
-          let s : length N.columns ≡ n + 1 = m.sizes in
-          λ i. record N { columns = (sym (take_all (n + 1) N.columns (omega arith)) ∙ take_more N.columns n [] (omega arith)) i }
+      split = let m = f.member in last_split N n m.sizes
 
   kept_level : q.rank ≤ n → IsLevel family (n + 1) forms
   kept_level room = record {

@@ -1,4 +1,5 @@
 mod KeptColumns
 mod KeptLevel
 mod KeptParents
+mod Refused
 mod Rising

@@ -1,11 +1,12 @@
 -- Lists of representations that rise.
-use Rattle.std.proofs.Common.{◌≡◌, ◌∙◌, ℕ, ◌<◌, List, [], ◌∷◌, ◌++◌, length, get_or, suc, ap, subst, arith, inl, inr}
+use Rattle.std.proofs.Common.{◌≡◌, ◌∙◌, ℕ, ◌+◌, ◌<◌, List, [], ◌∷◌, ◌++◌, length, take, get_or, suc, sym, ap, subst, arith, inl, inr}
 use Rattle.std.specs.List.{Contains, AllPairs, All}
 use Rattle.std.specs.Cmp.Lexicographic.{slice_cmp}
 use Rattle.std.specs.Ordering.{nat_cmp, ordering_then}
 use Rattle.std.specs.declared.cmp.Ordering.{Ordering}
 use Rattle.std.specs.declared.cmp.Ordering.TheVariants.{Less, Equal}
 use Rattle.std.proofs.lemmas.Cmp.{tied_itself}
+use Rattle.std.proofs.lemmas.List.{take_more, take_all}
 use Rattle.std.proofs.lemmas.List.Elements.{Contains-get_or, Contains-append_cases}
 use Rattle.std.proofs.lemmas.List.Kept.{AllPairs-cons}
 use Rattle.matroid_theory.specs.Rep.{Rep, size}
@@ -49,3 +50,7 @@ followed_before P v w less =
     slice_cmp-append (slice_cmp nat_cmp) P.columns (v ∷ []) P.columns (w ∷ []) (λ i. length P.columns)
     ∙ ap (λ (o : Ordering). ordering_then o (slice_cmp (slice_cmp nat_cmp) (v ∷ []) (w ∷ []))) (tied_itself columns_total P.columns)
     ∙ ap (λ (o : Ordering). ordering_then o Equal) less
+
+-- a representation is its columns but the last, followed by the last
+pub last_split : (N : Rep) (n : ℕ) → size N ≡ n + 1 → N ≡ followed_by (record N { columns = take n N.columns }) (get_or N.columns n [])
+last_split N n s = λ i. record N { columns = (sym (take_all (n + 1) N.columns (omega arith)) ∙ take_more N.columns n [] (omega arith)) i }

@@ -2,6 +2,8 @@
 ghost use Rattle.std.specs.Prelude.{◌≡◌, ◌+◌, ◌<◌, ◌↔◌, IsTrue};
 ghost use Rattle.std.specs.Option.{MatchOption};
 ghost use Rattle.matroid_theory.specs.Rep.{size};
+ghost use Rattle.matroid_theory.specs.Matroid.{Agrees};
+ghost use Rattle.matroid_theory.specs.Order.{IsForm};
 ghost use Rattle.matroid_theory.specs.Level.{followed_by};
 ghost use Rattle.extension.specs.Admissible.{IsAdmissible};
 ghost use Rattle.level_driver.specs.Forbidden.{Avoids};
@@ -9,6 +11,7 @@ ghost use Rattle.orderly.specs.Kept.{IsLevelFormOf};
 
 use fast_form::is_form_fast;
 use level_driver::{Forbidden, avoids};
+use matroid_theory::Mode;
 use product_rep::{ProductColumn, Rep};
 use request_reader::Request;
 
@@ -26,7 +29,16 @@ pub fn keeps(request: &Request, parent: &Rep, column: &ProductColumn) -> bool
     if !avoids(&child, request.forbid()) {
         return false;
     }
-    is_form_fast(&child, request.mode())
+    is_kept(&child, request.mode())
+}
+
+/// The test of a candidate, a parent followed by a column without forbidden minors: whether it is its own form. Both `keeps` and
+/// `next_level` decide by it.
+pub(crate) fn is_kept(candidate: &Rep, mode: Mode) -> bool
+    requires { Agrees candidate.now }
+    ensures { IsTrue result ↔ IsForm mode candidate.now }
+{
+    is_form_fast(candidate, mode)
 }
 
 /// The parent followed by the column, where that has none of these minors.

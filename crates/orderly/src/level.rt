@@ -1,17 +1,18 @@
 // The level after a level.
-ghost use Rattle.std.specs.Prelude.{ℕ, ◌+◌, IfOk, OnOk};
-ghost use Rattle.matroid_theory.specs.Matroid.{Agrees};
-ghost use Rattle.matroid_theory.specs.Level.{IsCount};
+ghost use Rattle.std.specs.Prelude.{ℕ, ◌+◌, ◌≡◌, ◌↔◌, IsTrue, IfOk, OnOk};
+ghost use Rattle.matroid_theory.specs.Order.{IsForm};
+ghost use Rattle.matroid_theory.specs.Level.{IsCount, followed_by};
+ghost use Rattle.extension.specs.Admissible.{IsAdmissible};
 ghost use Rattle.level_driver.specs.Children.{IsParent, IsCandidate};
 ghost use Rattle.level_driver.specs.Grown.{IsLevelOf, AreTriesOf, IsParentLevel};
 ghost use Rattle.orderly.specs.Kept.{AddsKept, KeepsOwnForm};
 
-use crate::keep::candidate;
+use crate::keep::{candidate, is_kept};
+use crate::refusal::Refusal;
 use extension::Columns;
-use fast_form::is_form_fast;
 use level_driver::{Forbidden, FormList, Level};
 use matroid_theory::Mode;
-use product_rep::Rep;
+use product_rep::{ProductColumn, Rep};
 use request_reader::Request;
 use std::alloc::{AllocError, Global};
 
@@ -37,7 +38,7 @@ pub fn next_level(alloc: Global, request: &Request, parents: &FormList) -> Resul
         let Some(parent) = parents.get(i) else {
             unreachable!()
         };
-        tried += u128::from(keep_children(parent, mode, &forbidden, &mut forms)?);
+        tried += u128::from(keep_children(alloc, parent, mode, &forbidden, &mut forms)?);
     }
     Ok(Level { forms, tried })
 }
@@ -45,6 +46,7 @@ pub fn next_level(alloc: Global, request: &Request, parents: &FormList) -> Resul
 /// Adds at the end each representation that the parent and one more column make, has none of these minors and is its own form.
 /// The result is the number of those without these minors.
 fn keep_children(
+    alloc: Global,
     parent: &Rep,
     mode: Mode,
     forbidden: &Forbidden,
@@ -55,26 +57,55 @@ fn keep_children(
     ensures forms { OnOk result (AddsKept mode forbidden.now parent.now forms.old forms.new) }
 {
     parent.laws();
+    let mut refusal = Refusal::of(parent, mode);
     let mut tried = 0;
     for column in Columns::of(parent) {
         if let Some(child) = candidate(parent, forbidden, &column) {
-            keep(child, mode, forms)?;
+            keep(alloc, child, &column, &mut refusal, forms)?;
             tried += 1;
         }
     }
     Ok(tried)
 }
 
-/// Adds the representation at the end, where it is its own form.
-fn keep(child: Rep, mode: Mode, forms: &mut FormList) -> Result<(), AllocError>
-    requires { Agrees child }
-    ensures { OnOk result (KeepsOwnForm mode child forms.old forms.new) }
+/// Adds the child that the parent and the column make at the end, where it is its own form.
+fn keep(
+    alloc: Global,
+    child: Rep,
+    column: &ProductColumn,
+    refusal: &mut Refusal,
+    forms: &mut FormList,
+) -> Result<(), AllocError>
+    requires parent { IsParent refusal.old.parent }
+    requires column { IsAdmissible refusal.old.parent column.now.items }
+    requires child { child ≡ followed_by refusal.old.parent column.now.items }
+    ensures refusal { refusal.new ≡ refusal.old }
+    ensures forms { OnOk result (KeepsOwnForm refusal.old.mode child forms.old forms.new) }
 {
-    if !is_form_fast(&child, mode) {
+    if !is_own_form(alloc, &child, column, refusal)? {
         return Ok(());
     }
     match forms.push(child) {
         Ok(()) => Ok(()),
         Err((error, _)) => Err(error),
     }
+}
+
+/// Whether the child that the parent and the column make is its own form: where that isn't refused at once, the test decides.
+fn is_own_form(
+    alloc: Global,
+    child: &Rep,
+    column: &ProductColumn,
+    refusal: &mut Refusal,
+) -> Result<bool, AllocError>
+    requires parent { IsParent refusal.old.parent }
+    requires column { IsAdmissible refusal.old.parent column.now.items }
+    requires child { child.now ≡ followed_by refusal.old.parent column.now.items }
+    ensures refusal { refusal.new ≡ refusal.old }
+    ensures own { IfOk result (λ own. IsTrue own ↔ IsForm refusal.old.mode child.now) }
+{
+    if refusal.refuses(alloc, column)? {
+        return Ok(false);
+    }
+    Ok(is_kept(child, refusal.mode()))
 }

@@ -7,6 +7,7 @@
 
 mod keep;
 mod level;
+mod refusal;
 
 pub use keep::keeps;
 pub use level::next_level;

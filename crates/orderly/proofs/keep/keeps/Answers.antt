@@ -30,4 +30,4 @@ returns c =
     let both = kept_by c.args.request.now Ns c.forbid.ensures.given (size c.args.parent.now) c.args.parent.now c.requires.parent
     c.args.column.now.items c.extended-child.result c.mode.result is c.mode.ensures
     (record { admissible = c.requires.column; avoids = subst (Avoids Ns) is (c.avoids.ensures.0 c.if-not-avoids.false) }) in
-    (λ e. both.0 (c.is_form_fast.ensures.0 e), λ h. c.is_form_fast.ensures.1 (both.1 h))
+    (λ e. both.0 (c.is_kept.ensures.0 e), λ h. c.is_kept.ensures.1 (both.1 h))

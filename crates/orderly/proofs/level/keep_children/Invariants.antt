@@ -6,5 +6,6 @@ use Rattle.orderly.proofs.level.keep_children.Given as goal
 abbrev pub invariant-loop-column : goal.invariant-loop-column
 invariant-loop-column l = record {
   same : l.column-iterator.parent ≡ l.parent;
-  so_far : HasKept l.mode l.forbidden l.fn.forms l.column-iterator l.tried l.forms;
+  refusal : l.refusal ≡ record { parent = l.parent; mode = l.fn.mode };
+  so_far : HasKept l.fn.mode l.forbidden l.fn.forms l.column-iterator l.tried l.forms;
 }
