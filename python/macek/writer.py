@@ -3,8 +3,8 @@
 import signal
 import sys
 
-from fields import field
-from listing import BadListing, read_listing
+from macek.fields import field
+from macek.listings import BadListing, read_listing
 
 SAME_MATROID = "The matrices of one form have the same bases: they represent one matroid, each over its field."
 

@@ -8,7 +8,7 @@ and all of them, is what the program is proved to do.
 import re
 from dataclasses import dataclass
 
-from fields import LETTERS
+from macek.fields import LETTERS
 
 NUMBER = "(0|[1-9][0-9]*)"
 ORDERS = {"1": "2 3 4 5 7 8 9".split(), "2": "2 3 4 5 7 8 9 11 13".split()}

@@ -1,0 +1,1 @@
+"""Listings of small simple matroids that are represented over finite fields, made by the programs of Macek."""
