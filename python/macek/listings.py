@@ -313,7 +313,7 @@ class Lines:
         """Takes the next line; CutOff where there is none."""
         line = self.peek()
         if line is None:
-            raise CutOff(f"after line {self.taken}: no line 'end', so the listing is cut off")
+            raise CutOff(f"after line {self.taken}: nothing more, so the text is cut off")
         self._ahead = None
         self.taken += 1
         return line
@@ -334,7 +334,7 @@ class Lines:
         """The text of the line after those that were taken."""
         place = f"line {self.taken + 1}"
         if not line.endswith(b"\n"):
-            raise CutOff(f"{place}: it has no line end, so the listing is cut off")
+            raise CutOff(f"{place}: it has no line end, so the text is cut off")
         try:
             return line[: -2 if line.endswith(b"\r\n") else -1].decode("ascii")
         except UnicodeDecodeError:
