@@ -22,10 +22,10 @@ elementsOf = (order, characteristic, modulus) -> (
     apply(order, code -> sum(#modulus-1, power -> (code//characteristic^power%characteristic)*root^power)))
 -- the matrices of a form, one for each field
 listedMatrices = (name, size, number) -> (
-    apply(listed#name#"elements", separate(" \\\\| ", listed#name#"forms"#(size, number)), (elements, text) -> (
+    apply(listed#name#"elements", separate(" \\\\| ", listed#name#"forms"#(size, number)), (byCode, text) -> (
         code := letter -> first first regex(letter, "0123456789abc");
-        columns := apply(separate(" ", text), word -> apply(characters word, letter -> elements#(code letter)));
-        matrix(ring elements#0, transpose columns))))
+        columns := apply(separate(" ", text), word -> apply(characters word, letter -> byCode#(code letter)));
+        matrix(ring byCode#0, transpose columns))))
 -- the matroids of these matrices
 listedMatroids = (name, size, number) -> apply(listedMatrices(name, size, number), each -> matroid each)
 -- the size and the number of each form

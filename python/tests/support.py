@@ -1,7 +1,10 @@
 """What the tests share: the package, the repository with its examples, and the built programs."""
 
 import importlib.util
+import shutil
 import sys
+import unittest
+from collections.abc import Callable
 from pathlib import Path
 
 TOP = Path(__file__).resolve().parent.parent.parent
@@ -20,11 +23,20 @@ def examples_with_forms() -> dict[str, Listing]:
     return {name: read_listing(text) for name, text in texts.items() if b"\nprint forms\n" in text}
 
 
-def missing(*programs: str) -> str:
-    """Why tests of these built programs are skipped, or nothing where all of them are there."""
+def skip_without(*programs: str) -> Callable[[type], type]:
+    """Skips a class of tests where one of these built programs isn't there, and says so on standard error."""
     try:
         for program in programs:
             find(program)
     except ProgramNotFound as fault:
-        return str(fault)
-    return ""
+        print(f"tests are skipped: {fault}", file=sys.stderr)
+        return unittest.skip(str(fault))
+    return lambda tests: tests
+
+
+def skip_without_command(command: str) -> Callable[[type], type]:
+    """Skips a class of tests where a command of other software isn't on the path, and says so on standard error."""
+    if shutil.which(command):
+        return lambda tests: tests
+    print(f"tests are skipped: there is no command {command} here", file=sys.stderr)
+    return unittest.skip(f"there is no command {command} here")

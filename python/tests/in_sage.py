@@ -1,0 +1,51 @@
+"""Run by test_sage.py in SageMath's Python: in_sage.py TEXT.py ..
+
+Loads each text of to_sage as a user does, and writes one JSON object: for each listing and form its line as it comes back from the
+matroids of the text, from the matrices, from the package's own matroids, and from matrices over other fields that SageMath makes
+by itself; and the bases of each matroid.
+"""
+
+import json
+import sys
+
+from sage.all import GF, Matrix, PolynomialRing
+from sage.repl.load import load
+
+import support
+from macek.fields import field
+from macek.sage import elements, macek_line
+
+
+def moved(matrix):
+    """A matrix over the field that SageMath makes if it isn't told a modulus, moved there by the last root of ours."""
+    order = int(matrix.base_ring().cardinality())
+    other = GF(order, "z")
+    if field(order).degree == 1:
+        return matrix.change_ring(other)
+    root = PolynomialRing(other, "x")(list(field(order).modulus)).roots(multiplicities=False)[-1]
+    images = {
+        element: sum((value * root**power for power, value in enumerate(field(order).coefficients(code))), other.zero())
+        for code, element in enumerate(elements(order))
+    }
+    return Matrix(other, [[images[entry] for entry in row] for row in matrix.rows()])
+
+
+def told(form, listed):
+    """What one form gives."""
+    matroids, matrices = listed[form.size, form.number], listed.matrices(form.size, form.number)
+    return {
+        "matroids": macek_line(*matroids),
+        "matrices": macek_line(*matrices),
+        "own": macek_line(*form.matroids),
+        "moved": macek_line(*map(moved, matrices)),
+        "bases": [sorted(sorted(map(int, basis)) for basis in matroid.bases()) for matroid in matroids],
+        "is kept": listed[form.size, form.number] is matroids,
+    }
+
+
+names = {}
+for file in sys.argv[1:]:
+    load(file, names)
+listings = support.examples_with_forms()
+found = {name: {form.text(): told(form, listed) for form in listings[name].forms} for name, listed in names["listed"].items()}
+json.dump({"moduli": {order: str(GF(order, "z").modulus()) for order in (4, 8, 9)}, "listings": found}, sys.stdout)
