@@ -1,7 +1,7 @@
 """Runs the programs of Macek and reads what they write, as they write it.
 
-A program is looked for in the folder that MACEK_BIN names, then in crates/NAME/out of the repository that the package stands
-in, then on the path.
+A program is looked for in the folder that MACEK_BIN names, then in crates/NAME/out of the repository, where the package stands
+in one, then on the path.
 """
 
 from __future__ import annotations
@@ -16,8 +16,8 @@ from contextlib import contextmanager
 from pathlib import Path
 from typing import IO
 
-from macek.listings import BadListing, Level, Levels, Representation
 from macek.fields import column_of
+from macek.listings import BadListing, Level, Levels, Representation
 from macek.requests import Columns, columns_words, field_words, orders_of
 
 FOLDER_VARIABLE = "MACEK_BIN"
@@ -51,19 +51,25 @@ class ProgramNotFound(FileNotFoundError):
     """A program is nowhere where it is looked for; the message says where that is."""
 
 
+def folders(name: str) -> list[Path]:
+    """The folders in which a program is looked for before the path."""
+    named = os.environ.get(FOLDER_VARIABLE)
+    found = [Path(named)] if named else []
+    return found + ([REPOSITORY / "crates" / name / "out"] if (REPOSITORY / "crates").is_dir() else [])
+
+
 def find(name: str) -> Path:
     """The file of a program, or ProgramNotFound."""
-    named = os.environ.get(FOLDER_VARIABLE)
-    files = [Path(named) / name] if named else []
-    files.append(REPOSITORY / "crates" / name / "out" / name)
-    for file in files:
-        if os.access(file, os.X_OK) and file.is_file():
+    for folder in folders(name):
+        file = folder / name
+        if file.is_file() and os.access(file, os.X_OK):
             return file.resolve()
     on_path = shutil.which(name)
     if on_path:
         return Path(on_path)
-    hint = "" if named else f"; {FOLDER_VARIABLE} may name a folder that has it"
-    raise ProgramNotFound(f"the program {name} is neither at {' nor at '.join(map(str, files))}, nor on the path{hint}")
+    places = "".join(f"not in {folder}, " for folder in folders(name))
+    hint = "" if os.environ.get(FOLDER_VARIABLE) else f"; {FOLDER_VARIABLE} may name a folder that has it"
+    raise ProgramNotFound(f"the program {name} isn't found: {places}not on the path{hint}")
 
 
 def run(

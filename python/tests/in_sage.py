@@ -1,14 +1,15 @@
 """Run by test_sage.py in SageMath's Python: in_sage.py TEXT.py ..
 
 Loads each text of to_sage as a user does, and writes one JSON object: for each listing and form its line as it comes back from the
-matroids of the text, from the matrices, from the package's own matroids, and from matrices over other fields that SageMath makes
-by itself; and the bases of each matroid.
+matroids of the text, from the matrices, from the package's own matroids, by the function that tools/from_sage.py loads, and from
+matrices over other fields that SageMath makes by itself; and the bases of each matroid. A matrix is saved beside the first text.
 """
 
 import json
 import sys
+from pathlib import Path
 
-from sage.all import GF, Matrix, PolynomialRing
+from sage.all import GF, Matrix, PolynomialRing, save
 from sage.repl.load import load
 
 import support
@@ -37,12 +38,17 @@ def told(form, listed):
         "matroids": macek_line(*matroids),
         "matrices": macek_line(*matrices),
         "own": macek_line(*form.matroids),
+        "loaded": LOADED["macek_line"](*matrices),
         "moved": macek_line(*map(moved, matrices)),
         "bases": [sorted(sorted(map(int, basis)) for basis in matroid.bases()) for matroid in matroids],
         "is kept": listed[form.size, form.number] is matroids,
     }
 
 
+LOADED: dict = {}
+load(str(support.TOP / "tools" / "from_sage.py"), LOADED)
+root = GF(9, "a").gen()
+save(Matrix([[1, 0, root**0], [0, 1, root]]), str(Path(sys.argv[1]).with_name("matrix.sobj")))
 names = {}
 for file in sys.argv[1:]:
     load(file, names)

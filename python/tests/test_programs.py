@@ -1,5 +1,6 @@
 """Runs of the programs: by the built ones where they are there, and by small scripts in their place."""
 
+import doctest
 import io
 import os
 import tempfile
@@ -48,8 +49,20 @@ class Finding(unittest.TestCase):
         Stand(self, "macek", "exit 0\n")
         with self.assertRaises(macek.ProgramNotFound) as caught:
             programs.levels_of("macek_nowhere", [], "")
-        for place in (os.environ["MACEK_BIN"], str(Path("crates") / "macek_nowhere" / "out"), "path"):
+        for place in (os.environ["MACEK_BIN"], "path", *(str(folder) for folder in programs.folders("macek_nowhere"))):
             self.assertIn(place, str(caught.exception))
+
+    def test_the_repository_comes_after_the_named_folder(self):
+        stand = Stand(self, "macek_alone", "exit 0\n")
+        (stand.folder / "crates" / "macek_other" / "out").mkdir(parents=True)
+        file = stand.folder / "crates" / "macek_other" / "out" / "macek_other"
+        file.write_text("#!/bin/sh\n")
+        with mock.patch.object(programs, "REPOSITORY", stand.folder):
+            with self.assertRaises(macek.ProgramNotFound):
+                programs.find("macek_other")
+            file.chmod(0o755)
+            self.assertEqual(programs.find("macek_other"), file.resolve())
+            self.assertEqual(programs.find("macek_alone"), (stand.folder / "macek_alone").resolve())
 
 
 class Endings(unittest.TestCase):
@@ -170,6 +183,18 @@ class Questions(unittest.TestCase):
         for ask in (lambda: macek.ask_dual(2, ["12"]), lambda: macek.ask_dual("2 x 3", ["10", "01", "11"])):
             with self.assertRaises(ValueError):
                 ask()
+
+
+@skip_without("macek_alone", "macek_ask")
+class Guide(unittest.TestCase):
+    def test_the_example_is_as_the_guide_says(self):
+        """The example without what needs SageMath."""
+        part = (TOP / "docs" / "GUIDE.md").read_text().split("\n## From Python\n")[1].split("\nIn SageMath's Python ")[0]
+        example = doctest.DocTestParser().get_doctest(part, {}, "From Python", "docs/GUIDE.md", 0)
+        self.assertGreater(len(example.examples), 10)
+        told: list = []
+        doctest.DocTestRunner(verbose=False).run(example, out=told.append)
+        self.assertEqual("".join(told), "")
 
 
 if __name__ == "__main__":

@@ -10,7 +10,7 @@ import tempfile
 import unittest
 from pathlib import Path
 
-from support import EXAMPLES, TOP, examples_with_forms, skip_without_command
+from support import TOP, examples_with_forms, skip_without, skip_without_command
 
 import macek
 from macek.fields import MODULI, field
@@ -95,6 +95,9 @@ class InSage(unittest.TestCase):
             if done.returncode:
                 raise AssertionError(done.stderr)
             cls.told = json.loads(done.stdout)
+            saved = str(Path(folder) / "matrix.sobj")
+            command = ["sage", "-python", str(TOP / "tools" / "from_sage.py")]
+            cls.scripts = [subprocess.run([*command, *files], capture_output=True, text=True) for files in ([saved] * 2, [saved] * 4)]
 
     def each(self):
         """Each example and each of its forms, with what SageMath told of it."""
@@ -106,8 +109,14 @@ class InSage(unittest.TestCase):
 
     def test_forms_come_back_as_they_were(self):
         for form, told in self.each():
-            self.assertEqual([told[way] for way in ("matroids", "matrices", "own")], [form.text()] * 3)
+            self.assertEqual([told[way] for way in ("matroids", "matrices", "own", "loaded")], [form.text()] * 4)
             self.assertTrue(told["is kept"])
+
+    def test_the_script_spells_what_was_saved(self):
+        done, refused = self.scripts
+        self.assertEqual((done.returncode, done.stdout, done.stderr), (0, "10 01 15 | 10 01 15\n", ""))
+        self.assertEqual((refused.returncode, refused.stdout), (1, ""))
+        self.assertEqual(refused.stderr, "from_sage.py: these are not one to three matrices of one shape, with rows and columns\n")
 
     def test_matroids_have_the_bases(self):
         for form, told in self.each():
@@ -121,6 +130,18 @@ class InSage(unittest.TestCase):
             self.assertIn(told["moved"], images(form.text(), form.orders))
             moved += told["moved"] != form.text()
         self.assertGreater(moved, 0)
+
+
+@skip_without_command("sage")
+@skip_without("macek_alone", "macek_ask")
+class Guide(unittest.TestCase):
+    def test_the_example_is_as_the_guide_says(self):
+        """All of the example in SageMath's Python, as it stands in the guide."""
+        guide = TOP / "docs" / "GUIDE.md"
+        self.assertIn("\n    >>> from macek.sage import macek_line\n", guide.read_text())
+        command = ["sage", "-python", "-m", "doctest", str(guide)]
+        done = subprocess.run(command, capture_output=True, text=True, env={**os.environ, "PYTHONPATH": PACKAGE})
+        self.assertEqual((done.returncode, done.stdout), (0, ""))
 
 
 class Scripts(unittest.TestCase):
