@@ -17,8 +17,10 @@ from macek.sage import macek_line  # noqa: E402
 
 def main() -> None:
     """The line of the matrices in the files that are named, one over each factor."""
-    words = argparse.ArgumentParser(prog="from_sage.py", description="Spells matrices that SageMath saved as a line of a listing.")
-    words.add_argument("files", nargs="+", metavar="FILE.sobj", help="a matrix or a matroid of SageMath; several are factors of a product")
+    about = "Spells matrices that SageMath saved as a line of a listing spells a form."
+    words = argparse.ArgumentParser(prog="from_sage.py", description=about)
+    kinds = "a matrix or a matroid of SageMath; several are the factors of a product"
+    words.add_argument("files", nargs="+", metavar="FILE.sobj", help=kinds)
     files = words.parse_args().files
     try:
         from sage.all import load

@@ -11,6 +11,7 @@ from collections.abc import Callable, Iterable, Sequence
 from dataclasses import dataclass
 from functools import cache, cached_property
 from itertools import combinations
+from typing import SupportsIndex
 
 # A letter for each code of the largest field.
 LETTERS = "0123456789abc"
@@ -107,7 +108,7 @@ def field(order: int) -> Field:
     raise ValueError(f"{order} is none of the orders {', '.join(map(str, ORDERS))}")
 
 
-def word(column: Iterable[int]) -> str:
+def word(column: Iterable[SupportsIndex]) -> str:
     """A column as it is spelled: a letter for each code, from the top row down."""
     return "".join(LETTERS[code] for code in column)
 

@@ -46,6 +46,7 @@ def lines_of(name: str, head: Head, forms: Iterable[Form]) -> Iterator[str]:
     yield f"-- listedMatroids({key}, size, number) is a list of matroids, one for each field, and"
     yield f"-- listedMatrices({key}, size, number) a list of their matrices; forms are numbered from 1 in each size."
     yield from FUNCTIONS.strip().splitlines()
-    yield f'listed#{key} = new HashTable from {{"elements" => {{{", ".join(map(field_words, head.orders))}}}, "forms" => new HashTable from {{'
+    elements = ", ".join(map(field_words, head.orders))
+    yield f'listed#{key} = new HashTable from {{"elements" => {{{elements}}}, "forms" => new HashTable from {{'
     yield ",\n".join(f'({form.size}, {form.number}) => "{form.text()}"' for form in forms)
     yield "}}"

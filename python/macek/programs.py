@@ -14,11 +14,12 @@ import tempfile
 from collections.abc import Iterable, Iterator
 from contextlib import contextmanager
 from pathlib import Path
-from typing import IO
+from operator import index
+from typing import IO, SupportsIndex
 
 from macek.fields import column_of
 from macek.listings import BadListing, Level, Levels, Representation
-from macek.requests import Columns, columns_words, field_words, orders_of
+from macek.requests import Columns, Fields, columns_words, field_words, orders_of
 
 FOLDER_VARIABLE = "MACEK_BIN"
 REPOSITORY = Path(__file__).resolve().parent.parent.parent
@@ -73,7 +74,7 @@ def find(name: str) -> Path:
 
 
 def run(
-    request: str | bytes, *, workers: int | None = None, orderly: bool = False, copy: IO[bytes] | None = None
+    request: str | bytes, *, workers: SupportsIndex | None = None, orderly: bool = False, copy: IO[bytes] | None = None
 ) -> Iterator[Level]:
     """The levels of the listing of a request, each as soon as it is written.
 
@@ -85,18 +86,18 @@ def run(
         raise ValueError("the orderly way has one thread and no workers")
     if workers is None:
         return levels_of("macek_alone", ["--orderly"] if orderly else [], request, copy)
-    return levels_of("macek", ["--workers", str(workers)], request, copy)
+    return levels_of("macek", ["--workers", str(index(workers))], request, copy)
 
 
-def resume(listing: str | bytes, size: int, *, copy: IO[bytes] | None = None) -> Iterator[Level]:
+def resume(listing: str | bytes, size: SupportsIndex, *, copy: IO[bytes] | None = None) -> Iterator[Level]:
     """The levels of a listing, whole or cut off, without filters and with forms, grown on to a size: all from the rank on.
 
     The rest is as with `run`.
     """
-    return levels_of("macek_resume", [str(size)], listing, copy)
+    return levels_of("macek_resume", [str(index(size))], listing, copy)
 
 
-def ask_dual(field: int | str | Iterable[int], *factors: Columns) -> Representation:
+def ask_dual(field: Fields, *factors: Columns) -> Representation:
     """The dual form of a standard representation: its fields, and the columns over each of them as words or codes.
 
     The dual has a rank from 1 to 6. ProgramFault where the program takes it for no such representation.
@@ -106,7 +107,7 @@ def ask_dual(field: int | str | Iterable[int], *factors: Columns) -> Representat
     return representation_of(answer, orders)
 
 
-def ask_over(order: int, matroid: str | Representation) -> Representation | None:
+def ask_over(order: SupportsIndex, matroid: str | Representation) -> Representation | None:
     """The least standard matrix over GF(order) that has exactly the bases of a matroid, or None where there is none.
 
     The matroid is a name such as "F7-", or that of a standard representation. ProgramFault where the program doesn't take it.
@@ -115,8 +116,9 @@ def ask_over(order: int, matroid: str | Representation) -> Representation | None
         words = ["name", matroid]
     else:
         words = ["form", *field_words(matroid.orders).split(), *factors_words(matroid.orders, matroid.factors)]
-    answer = ask(["over", str(order), *words])
-    return None if answer == "none" else representation_of(answer, (order,))
+    orders = orders_of(order)
+    answer = ask(["over", field_words(orders), *words])
+    return None if answer == "none" else representation_of(answer, orders)
 
 
 def ask(words: list[str]) -> str:

@@ -3,23 +3,26 @@
 from __future__ import annotations
 
 from collections.abc import Iterable, Sequence
-from typing import Union
+from operator import index
+from typing import SupportsIndex, Union
 
 from macek.fields import ORDERS, column_of, word
 from macek.listings import FILTERS, ORDERS_OF_VERSION, Representation, names_minor
 
 # The columns of a matrix over the field of an order: words as in a listing, or codes.
-Columns = Sequence[Union[str, Sequence[int]]]
+Columns = Sequence[Union[str, Sequence[SupportsIndex]]]
+# One to three fields: an order, orders, or words such as "4 x 5". Integers of SageMath will do.
+Fields = Union[SupportsIndex, str, Iterable[SupportsIndex]]
 # What may be forbidden: a name or the words `matrix Q C1 .. Cn`, an order with columns, or a representation, of which the first
 # matrix counts.
-Minor = Union[str, tuple[int, Columns], Representation]
+Minor = Union[str, tuple[SupportsIndex, Columns], Representation]
 
 
 def request(
     *,
-    rank: int,
-    field: int | str | Iterable[int],
-    size: int,
+    rank: SupportsIndex,
+    field: Fields,
+    size: SupportsIndex,
     forbid: Iterable[Minor] = (),
     filters: Iterable[str] = (),
     has: Minor | None = None,
@@ -43,7 +46,7 @@ def request(
         raise ValueError(f"version {version} has no place for this request")
     if equivalence not in ("linear", "semilinear"):
         raise ValueError(f"the equivalence is linear or semilinear, not {equivalence}")
-    lines = [f"version {version}", f"field {field_words(orders)}", f"rank {int(rank)}", f"size {int(size)}"]
+    lines = [f"version {version}", f"field {field_words(orders)}", f"rank {index(rank)}", f"size {index(size)}"]
     lines += ["equivalence semilinear"] if equivalence == "semilinear" else []
     lines += [f"forbid {each}" for each in minors]
     lines += filter_lines(filters)
@@ -52,14 +55,14 @@ def request(
     return "".join(line + "\n" for line in lines)
 
 
-def orders_of(field: int | str | Iterable[int]) -> tuple[int, ...]:
-    """The orders of one to three fields, given as an order, as orders or as words such as "4 x 5"; ValueError for others."""
-    if isinstance(field, int):
-        orders: tuple[int, ...] = (field,)
-    elif isinstance(field, str):
+def orders_of(field: Fields) -> tuple[int, ...]:
+    """The orders of one to three fields; ValueError for others."""
+    if isinstance(field, str):
         orders = tuple(int(each) if each.isdecimal() else 0 for each in field.split(" x "))
+    elif isinstance(field, SupportsIndex):
+        orders = (index(field),)
     else:
-        orders = tuple(int(each) for each in field)
+        orders = tuple(index(each) for each in field)
     if not 1 <= len(orders) <= 3 or not set(orders) <= set(ORDERS):
         raise ValueError(f"{field} is not one to three orders of fields with ' x ' between two")
     return orders
@@ -84,7 +87,7 @@ def minor_words(minor: Minor) -> str:
         minor = (minor.orders[0], minor.factors[0])
     if not isinstance(minor, str):
         order, columns = minor
-        minor = f"matrix {order} {' '.join(columns_words(order, columns))}"
+        minor = f"matrix {index(order)} {' '.join(columns_words(index(order), columns))}"
     if not names_minor(minor, "", ORDERS_OF_VERSION[2]):
         raise ValueError(f"'{minor}' is no name and no matrix of a matroid of up to 10 elements")
     return minor

@@ -1,4 +1,7 @@
-"""Forms in SageMath, and matrices of SageMath in the words of Macek. What is called here needs SageMath's Python, but `lines_of`."""
+"""Forms in SageMath, and matrices of SageMath in the words of Macek.
+
+All but `lines_of` needs SageMath's Python when it is called, and raises ImportError in another.
+"""
 
 from __future__ import annotations
 

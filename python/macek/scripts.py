@@ -15,7 +15,8 @@ from macek.listings import COUNTS_ALONE, BadListing, CutOff, Form, Head, Listing
 def write_code(script: str, about: str, lines_of: Callable[[str, Head, list[Form]], Iterable[str]]) -> None:
     """The whole run of a script that writes a listing as code: lines_of gives it, from a name, the head and the forms."""
     words = argparse.ArgumentParser(prog=script, description=about)
-    words.add_argument("listing", nargs="?", metavar="LISTING", help="a listing, level text, sifted text or excluded listing; else standard input")
+    kinds = "a listing, level text, sifted text or excluded listing; else standard input"
+    words.add_argument("listing", nargs="?", metavar="LISTING", help=kinds)
     words.add_argument("--name", help="the name that the forms get, else that of the file without its ending, or listing")
     given = words.parse_args()
     name = given.name or (Path(given.listing).stem if given.listing else "listing")
@@ -28,7 +29,11 @@ def write_code(script: str, about: str, lines_of: Callable[[str, Head, list[Form
 
 
 def forms_of(script: str, file: str | None) -> tuple[Head, list[Form]]:
-    """The head and the forms of a file, or of standard input; of a text that is cut off those of the whole levels, with a note."""
+    """The head and the forms of a file, or of standard input.
+
+    Of a text that is cut off these are the forms of the whole levels, and a note on standard error says so. BadListing for any
+    other text that is wrong, and for one of counts alone.
+    """
     forms: list[Form] = []
     with ExitStack() as stack:
         levels = read_levels(stack.enter_context(open(file, "rb")) if file else sys.stdin.buffer)

@@ -1,8 +1,9 @@
 """Run by test_sage.py in SageMath's Python: in_sage.py TEXT.py ..
 
-Loads each text of to_sage as a user does, and writes one JSON object: for each listing and form its line as it comes back from the
-matroids of the text, from the matrices, from the package's own matroids, by the function that tools/from_sage.py loads, and from
-matrices over other fields that SageMath makes by itself; and the bases of each matroid. A matrix is saved beside the first text.
+Loads each text of to_sage as a user does, and writes one JSON object: for each listing and form its line as it comes back from
+the matroids of the text, from the matrices, from the package's own matroids, by the function that tools/from_sage.py loads, and
+from matrices over other fields that SageMath makes by itself; and the bases of each matroid. A matrix is saved beside the first
+text.
 """
 
 import json

@@ -13,7 +13,8 @@ SHORT += b"level 2 classes 1 listed 1 tried 0\n10 01\nlevel 3 classes 1 listed 1
 HEAD = "macek level 1/version 1/field 2/rank 3/size 7/print forms/level 4/"
 FIRST, SECOND = "100 010 001 011/", "100 010 001 111/"
 SIFTED = "macek sifted 1/version 1/field 3/rank 2/size 4/print forms/"
-EXCLUDED = SIFTED + "sift excluded 2/level 2 over 1 excluded 0/level 3 over 1 excluded 0/level 4 over 0 excluded 1/10 01 11 12/end/"
+EXCLUDED = SIFTED + "sift excluded 2/level 2 over 1 excluded 0/level 3 over 1 excluded 0/level 4 over 0 excluded 1/"
+EXCLUDED += "10 01 11 12/end/"
 
 
 def levels_of(text: str) -> Levels:
@@ -95,7 +96,8 @@ class Streams(unittest.TestCase):
 
 class OtherTexts(unittest.TestCase):
     def test_blocks_of_a_level_text_are_numbered_on(self):
-        text = HEAD + FIRST + "grown 4 classes 1 tried 2/" + HEAD + HEAD + SECOND + "grown 5 classes 1 tried 2/grown 9 classes 0 tried 0/"
+        counts = "grown 5 classes 1 tried 2/grown 9 classes 0 tried 0/"
+        text = HEAD + FIRST + "grown 4 classes 1 tried 2/" + HEAD + HEAD + SECOND + counts
         levels = levels_of(text)
         self.assertEqual((levels.head.kind, levels.head.level), ("level", 4))
         found = list(levels)
@@ -109,14 +111,15 @@ class OtherTexts(unittest.TestCase):
 
     def test_bad_level_texts(self):
         other = HEAD.replace("size 7", "size 8")
-        for text in (HEAD + FIRST + other, HEAD + "grown 4 classes 1 tried 1/" + FIRST, HEAD + "grown 04 classes 1 tried 1/", HEAD + "end/"):
-            self.assertEqual(whole_levels(levels_of(text))[1], "BadListing")
-        for text in (HEAD.replace("level 4", "level 8"), HEAD.replace("print forms", "print counts"), HEAD.replace("print", "filter 3conn/print")):
+        for rest in (FIRST + other, "grown 4 classes 1 tried 1/" + FIRST, "grown 04 classes 1 tried 1/", "end/"):
+            self.assertEqual(whole_levels(levels_of(HEAD + rest))[1], "BadListing")
+        for old, new in (("level 4", "level 8"), ("level 4", "level 2"), ("forms", "counts"), ("print", "filter 3conn/print")):
             with self.assertRaises(BadListing):
-                levels_of(text)
+                levels_of(HEAD.replace(old, new))
 
     def test_sifted_texts(self):
-        text = SIFTED + "sift over 3 x 5/sift no U1,2/level 2 classes 1 listed 1 tried 0/10 01/level 3 classes 1 listed 1 tried 2/end/"
+        text = SIFTED + "sift over 3 x 5/sift no U1,2/"
+        text += "level 2 classes 1 listed 1 tried 0/10 01/level 3 classes 1 listed 1 tried 2/end/"
         levels = levels_of(text)
         self.assertEqual(levels.head.sifts, ("over 3 x 5", "no U1,2"))
         self.assertEqual([(level.listed, len(level.forms)) for level in levels], [(1, 1), (1, 0)])
@@ -139,10 +142,13 @@ class OtherTexts(unittest.TestCase):
         self.assertEqual([level.excluded for level in levels_of(counts)], [0, 0, 1])
 
     def test_bad_sifted_texts(self):
-        for sift in ("", "sift over 6/", "sift over 2 x/", "sift has U2,11/", "sift F7/", "sift 3conn x/", "sift has matrix 2 12/"):
+        with self.assertRaises(BadListing):
+            levels_of(SIFTED + "level 3/")
+        for test in ("over 6", "over 2 x", "has U2,11", "F7", "3conn x", "has matrix 2 12"):
             with self.assertRaises(BadListing):
-                levels_of(SIFTED + sift + "level 3/")
-        for rest in ("10 01/", "level 1/", "level 17/", "level 3 classes 1/", "level 3/10 01 11 12/", "level 3/01 10 11/", "end/end/"):
+                levels_of(SIFTED + f"sift {test}/level 3/")
+        wrong = ["10 01/", "level 1/", "level 17/", "level 3 classes 1/", "level 3/10 01 11 12/", "level 3/01 10 11/", "end/end/"]
+        for rest in wrong:
             self.assertEqual(whole_levels(levels_of(SIFTED + "sift 3conn/" + rest))[1], "BadListing", rest)
 
 

@@ -25,10 +25,11 @@ class Text(unittest.TestCase):
     def test_the_table_has_the_forms_and_the_fields(self):
         for name, listing in examples_with_forms().items():
             text = text_of(name)
-            found = {(int(size), int(number)): form for size, number, form in re.findall(r'\((\d+), (\d+)\) => "(.*)"', text)}
-            self.assertEqual(found, {(form.size, form.number): form.text() for form in listing.forms})
-            fields = re.findall(r"elementsOf\((\d+), (\d+), \{([\d, ]+)\}\)", text)
-            wanted = [(str(over.order), str(over.characteristic), ", ".join(map(str, over.modulus))) for over in map(field, listing.orders)]
+            table = re.findall(r'\((\d+), (\d+)\) => "(.*)"', text)
+            self.assertEqual(table, [(str(form.size), str(form.number), form.text()) for form in listing.forms])
+            calls = re.findall(r"elementsOf\((\d+), (\d+), \{([\d, ]+)\}\)", text)
+            fields = [(int(order), int(prime), tuple(map(int, modulus.split(", ")))) for order, prime, modulus in calls]
+            wanted = [(over.order, over.characteristic, over.modulus) for over in map(field, listing.orders)]
             self.assertEqual(fields, wanted)
 
     def test_names_are_quoted(self):
@@ -52,7 +53,8 @@ class InMacaulay2(unittest.TestCase):
         return done.stdout.splitlines()
 
     def test_matroids_have_as_many_bases(self):
-        code = "scan({%s}, name -> scan(listedForms name, place -> print toString(name, place," % ", ".join(f'"{name}"' for name in self.NAMES)
+        names = ", ".join(f'"{name}"' for name in self.NAMES)
+        code = f"scan({{{names}}}, name -> scan(listedForms name, place -> print toString(name, place,"
         code += " apply(listedMatroids(name, place#0, place#1), each -> #bases each))))\n"
         listings = examples_with_forms()
         wanted = []
@@ -67,21 +69,15 @@ class InMacaulay2(unittest.TestCase):
         code = "nine = first listed#\"nonary\"#\"elements\"\nplace = each -> position(nine, other -> other == each)\n"
         code += "scan(nine, one -> print toString apply(nine, other -> (place(one+other), place(one*other))))\n"
         over = field(9)
-        wanted = ["{" + ", ".join(f"({over.add(one, other)},{over.multiply(one, other)})" for other in range(9)) + "}" for one in range(9)]
-        self.assertEqual(self.answers(code), wanted)
+        pairs = [[f"({over.add(one, other)},{over.multiply(one, other)})" for other in range(9)] for one in range(9)]
+        self.assertEqual(self.answers(code), ["{" + ", ".join(row) + "}" for row in pairs])
 
     def test_a_matrix_by_rows(self):
-        self.assertEqual(
-            self.answers('print toString entries first listedMatrices("quaternary", 6, 1)\n'),
-            ["{" + ", ".join("{" + ", ".join(self.element(code) for code in row) + "}" for row in zip(*self.first())) + "}"],
-        )
-
-    def first(self):
-        """The columns of the first form of size 6 of the quaternary example."""
-        return next(form for form in examples_with_forms()["quaternary"].forms if form.size == 6).factors[0]
-
-    def element(self, code: int) -> str:
-        return ["0", "1", "x", "x+1"][code]
+        form = next(form for form in examples_with_forms()["quaternary"].forms if form.size == 6)
+        elements = ["0", "1", "x", "x+1"]
+        rows = [", ".join(elements[code] for code in row) for row in zip(*form.factors[0])]
+        code = 'print toString entries first listedMatrices("quaternary", 6, 1)\n'
+        self.assertEqual(self.answers(code), ["{{" + "}, {".join(rows) + "}}"])
 
     def test_minors_of_one_size_are_no_minors_there(self):
         """What the guide says of hasMinor: false between isomorphic matroids of one size."""

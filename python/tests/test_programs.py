@@ -133,7 +133,8 @@ class Runs(unittest.TestCase):
             self.assertEqual(copy.getvalue().decode(), example("golden_mean"))
 
     def test_a_request_is_refused(self):
-        for words, number in (({"rank": 7}, 5), ({"size": 17}, 6), ({"rank": 6, "field": "9 x 9"}, 7), ({"forbid": ["F7"] * 9}, 8)):
+        wide, many = {"rank": 6, "field": "9 x 9"}, {"forbid": ["F7"] * 9}
+        for words, number in (({"rank": 7}, 5), ({"size": 17}, 6), (wide, 7), (many, 8)):
             text = macek.request(**{"rank": 3, "field": 3, "size": 6, **words})
             with self.assertRaises(macek.Refused) as caught:
                 list(macek.run(text))

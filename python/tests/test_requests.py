@@ -14,6 +14,16 @@ def said(head: Head, start: str) -> list[str]:
     return [line[len(start) :] for line in head.lines if line.startswith(start)]
 
 
+class Number:
+    """An integer that isn't Python's."""
+
+    def __init__(self, value: int) -> None:
+        self.value = value
+
+    def __index__(self) -> int:
+        return self.value
+
+
 class Requests(unittest.TestCase):
     def test_heads_of_the_examples_are_built(self):
         for path in EXAMPLES:
@@ -46,9 +56,19 @@ class Requests(unittest.TestCase):
             self.assertEqual(re.findall("matrix.*", text), ["matrix 3 10 01 12"] * 2)
 
     def test_version_2_stands_where_it_has_to(self):
-        for version, words in ((1, {}), (2, {"field": 11}), (2, {"field": "2 x 13"}), (2, {"forbid": [(13, ["1c"])]}), (2, {"version": 2})):
+        second = [{"field": 11}, {"field": "2 x 13"}, {"forbid": [(13, ["1c"])]}, {"has": (11, ["1"])}, {"version": 2}]
+        for version, words in ((1, {}), (1, {"version": 1}), *((2, words) for words in second)):
             text = request(**{"rank": 2, "field": 3, "size": 4, **words})
             self.assertEqual(text.splitlines()[0], f"version {version}", words)
+
+    def test_numbers_need_not_be_those_of_python(self):
+        """As SageMath's integers are none."""
+        text = request(rank=Number(3), field=Number(4), size=Number(7), forbid=[(Number(3), ["10", "01"])])
+        self.assertEqual(text, request(rank=3, field=4, size=7, forbid=[(3, ["10", "01"])]))
+        self.assertEqual(request(rank=3, field=[Number(4), 5], size=7), request(rank=3, field="4 x 5", size=7))
+        for words in ({"rank": 3.5}, {"size": "7"}, {"field": 4.0}):
+            with self.assertRaises(TypeError):
+                request(**{"rank": 3, "field": 4, "size": 7, **words})
 
     def test_what_has_no_place_is_refused(self):
         for words in (

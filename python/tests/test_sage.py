@@ -97,7 +97,8 @@ class InSage(unittest.TestCase):
             cls.told = json.loads(done.stdout)
             saved = str(Path(folder) / "matrix.sobj")
             command = ["sage", "-python", str(TOP / "tools" / "from_sage.py")]
-            cls.scripts = [subprocess.run([*command, *files], capture_output=True, text=True) for files in ([saved] * 2, [saved] * 4)]
+            runs = ([*command, *[saved] * number] for number in (2, 4))
+            cls.scripts = [subprocess.run(run, capture_output=True, text=True) for run in runs]
 
     def each(self):
         """Each example and each of its forms, with what SageMath told of it."""
@@ -116,7 +117,8 @@ class InSage(unittest.TestCase):
         done, refused = self.scripts
         self.assertEqual((done.returncode, done.stdout, done.stderr), (0, "10 01 15 | 10 01 15\n", ""))
         self.assertEqual((refused.returncode, refused.stdout), (1, ""))
-        self.assertEqual(refused.stderr, "from_sage.py: these are not one to three matrices of one shape, with rows and columns\n")
+        told = "from_sage.py: these are not one to three matrices of one shape, with rows and columns\n"
+        self.assertEqual(refused.stderr, told)
 
     def test_matroids_have_the_bases(self):
         for form, told in self.each():
