@@ -10,7 +10,7 @@ import json
 import sys
 from pathlib import Path
 
-from sage.all import GF, Matrix, PolynomialRing, save
+from sage.all import GF, QQ, ZZ, Matrix, Matroid, PolynomialRing, Zmod, matroids, save
 from sage.repl.load import load
 
 import support
@@ -55,4 +55,18 @@ for file in sys.argv[1:]:
     load(file, names)
 listings = support.examples_with_forms()
 found = {name: {form.text(): told(form, listed) for form in listings[name].forms} for name, listed in names["listed"].items()}
-json.dump({"moduli": {order: str(GF(order, "z").modulus()) for order in (4, 8, 9)}, "listings": found}, sys.stdout)
+
+
+def refusal(*matrices):
+    """Why matrices have no line."""
+    try:
+        return macek_line(*matrices)
+    except ValueError as fault:
+        return f"refused: {fault}"
+
+
+one, two = Matrix(GF(2), [[1, 0]]), Matrix(GF(2), [[1], [0]])
+wrong = [[], [one] * 4, [one, two], [Matrix(GF(2), 0, 3)], [5], [matroids.Uniform(2, 4)], [Matroid("abc", ["ab"])]]
+wrong += [[Matrix(ring, [[1, 0]])] for ring in (ZZ, QQ, Zmod(4), GF(16, "z"), GF(17))]
+refused = [refusal(*each) for each in wrong]
+json.dump({"refused": refused, "moduli": {order: str(GF(order, "z").modulus()) for order in (4, 8, 9)}, "listings": found}, sys.stdout)
