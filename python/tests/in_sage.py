@@ -54,7 +54,9 @@ names = {}
 for file in sys.argv[1:]:
     load(file, names)
 listings = support.examples_with_forms()
-found = {name: {form.text(): told(form, listed) for form in listings[name].forms} for name, listed in names["listed"].items()}
+found = {}
+for name, listed in names["listed"].items():
+    found[name] = {form.text(): told(form, listed) for form in listings[name].forms}
 
 
 def refusal(*matrices):
