@@ -18,6 +18,10 @@ from macek.fields import field
 from macek.sage import elements, macek_line
 
 
+LOADED = {}
+load(str(support.TOP / "tools" / "from_sage.py"), LOADED)
+
+
 def moved(matrix):
     """A matrix over the field that SageMath makes if it isn't told a modulus, moved there by the last root of ours."""
     order = int(matrix.base_ring().cardinality())
@@ -46,19 +50,6 @@ def told(form, listed):
     }
 
 
-LOADED: dict = {}
-load(str(support.TOP / "tools" / "from_sage.py"), LOADED)
-root = GF(9, "a").gen()
-save(Matrix([[1, 0, root**0], [0, 1, root]]), str(Path(sys.argv[1]).with_name("matrix.sobj")))
-names = {}
-for file in sys.argv[1:]:
-    load(file, names)
-listings = support.examples_with_forms()
-found = {}
-for name, listed in names["listed"].items():
-    found[name] = {form.text(): told(form, listed) for form in listings[name].forms}
-
-
 def refusal(*matrices):
     """Why matrices have no line."""
     try:
@@ -67,8 +58,26 @@ def refusal(*matrices):
         return f"refused: {fault}"
 
 
-one, two = Matrix(GF(2), [[1, 0]]), Matrix(GF(2), [[1], [0]])
-wrong = [[], [one] * 4, [one, two], [Matrix(GF(2), 0, 3)], [5], [matroids.Uniform(2, 4)], [Matroid("abc", ["ab"])]]
-wrong += [[Matrix(ring, [[1, 0]])] for ring in (ZZ, QQ, Zmod(4), GF(16, "z"), GF(17))]
-refused = [refusal(*each) for each in wrong]
-json.dump({"refused": refused, "moduli": {order: str(GF(order, "z").modulus()) for order in (4, 8, 9)}, "listings": found}, sys.stdout)
+def refusals():
+    """Why seven lists of matrices have no line for their shapes, and five for what their entries are from."""
+    one, two = Matrix(GF(2), [[1, 0]]), Matrix(GF(2), [[1], [0]])
+    wrong = [[], [one] * 4, [one, two], [Matrix(GF(2), 0, 3)], [5], [matroids.Uniform(2, 4)], [Matroid("abc", ["ab"])]]
+    wrong += [[Matrix(ring, [[1, 0]])] for ring in (ZZ, QQ, Zmod(4), GF(16, "z"), GF(17))]
+    return [refusal(*each) for each in wrong]
+
+
+def main():
+    names = {}
+    for file in sys.argv[1:]:
+        load(file, names)
+    root = GF(9, "a").gen()
+    save(Matrix([[1, 0, root**0], [0, 1, root]]), str(Path(sys.argv[1]).with_name("matrix.sobj")))
+    listings = support.examples_with_forms()
+    found = {}
+    for name, listed in names["listed"].items():
+        found[name] = {form.text(): told(form, listed) for form in listings[name].forms}
+    moduli = {order: str(GF(order, "z").modulus()) for order in (4, 8, 9)}
+    json.dump({"listings": found, "moduli": moduli, "refused": refusals()}, sys.stdout)
+
+
+main()
