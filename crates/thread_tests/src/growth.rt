@@ -103,12 +103,32 @@ fn none_meets_on_one_thread(rt: HostRuntime) -> Result<(), Fail> {
     Ok(())
 }
 
-// Counts its calls, by the number of the parent.
+/// Counts its calls, by the number of the parent.
 #[derive(Drop)]
-struct CountingGate {
+pub struct CountingGate {
     first: AtomicU64,
     second: AtomicU64,
     others: AtomicU64,
+}
+
+impl CountingGate {
+    /// A gate that was not called yet.
+    pub fn new() -> CountingGate {
+        CountingGate {
+            first: AtomicU64::new(0),
+            second: AtomicU64::new(0),
+            others: AtomicU64::new(0),
+        }
+    }
+
+    /// How often it was called before parent 0, parent 1 and any other parent.
+    pub fn calls(&self) -> [u64; 3] {
+        [
+            self.first.load(Ordering::SeqCst),
+            self.second.load(Ordering::SeqCst),
+            self.others.load(Ordering::SeqCst),
+        ]
+    }
 }
 
 impl Gate for CountingGate {
@@ -130,17 +150,9 @@ fn asked_by<R: Threads + Wait + Sync>(
 ) -> Result<[u64; 3], Fail>
     requires { (0 < workers) × (workers ≤ 64) }
 {
-    let gate = CountingGate {
-        first: AtomicU64::new(0),
-        second: AtomicU64::new(0),
-        others: AtomicU64::new(0),
-    };
+    let gate = CountingGate::new();
     counts(rt, alloc, fano_text(), workers, &gate)?;
-    Ok([
-        gate.first.load(Ordering::SeqCst),
-        gate.second.load(Ordering::SeqCst),
-        gate.others.load(Ordering::SeqCst),
-    ])
+    Ok(gate.calls())
 }
 
 // The levels of sizes 3 to 6 have 1, 2, 1 and 1 forms.

@@ -3,7 +3,11 @@
 #![tactic(auto)]
 
 #[cfg(test)]
+mod batches;
+#[cfg(test)]
 mod callers;
+#[cfg(test)]
+mod gates;
 #[cfg(test)]
 mod growth;
 #[cfg(test)]

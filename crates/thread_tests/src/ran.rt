@@ -4,7 +4,7 @@ ghost use Rattle.std.specs.Prelude.{◌≡◌, IfOk, length};
 use class_store::{ClassStore, Closed, NoMemory};
 use macek_run::{Report, macek_alone};
 use macek_workers::macek;
-use outside::{MemorySink, OpenGate};
+use outside::{Gate, MemorySink, OpenGate};
 use std::alloc::Global;
 use std::sync::Wait;
 use std::thread::Threads;
@@ -67,9 +67,25 @@ pub fn run<R: Threads + Wait + Sync>(
     ensures stripes { store.new.stripes ≡ STRIPES }
     ensures width { length store.new.last ≡ STRIPES }
 {
+    run_at(rt, alloc, store, given, &OpenGate)
+}
+
+/// The same, where each worker calls this gate before each parent.
+pub fn run_at<R: Threads + Wait + Sync, G: Gate + Sync>(
+    rt: &R,
+    alloc: Global,
+    store: &mut ClassStore,
+    given: Given,
+    gate: &G,
+) -> Result<Ran, NoMemory>
+    requires stripes { store.old.stripes ≡ STRIPES }
+    requires width { length store.old.last ≡ STRIPES }
+    ensures stripes { store.new.stripes ≡ STRIPES }
+    ensures width { length store.new.last ≡ STRIPES }
+{
     let words = owned(alloc, given.words)?;
     let (mut source, mut sink) = ends(alloc, given.text, flow(given.read), flow(given.write))?;
-    let report = macek(rt, alloc, &words, &mut source, &mut sink, store, &OpenGate);
+    let report = macek(rt, alloc, &words, &mut source, &mut sink, store, gate);
     ending(alloc, report, &sink)
 }
 

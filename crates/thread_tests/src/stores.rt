@@ -8,11 +8,13 @@ use std::sync::Wait;
 use std::test::*;
 use std::thread::Threads;
 
-fn fano_request() -> &'static [u8] {
+/// The request for the binary matroids of rank 3.
+pub fn fano_request() -> &'static [u8] {
     b"rank 3\nfield 2\nsize 7\n"
 }
 
-fn fano_listing() -> &'static [u8] {
+/// Their listing.
+pub fn fano_listing() -> &'static [u8] {
     b"macek listing 1\n\
 version 1\n\
 field 2\n\
