@@ -72,8 +72,10 @@ class Matroid:
         """
         if self.rank != 3:
             raise ValueError(f"lines are counted in rank 3, not in rank {self.rank}")
-        found = {sum(1 << other for other in range(self.size) if self._are_collinear(*pair, other))
-                 for pair in combinations(range(self.size), 2)}
+        found = {
+            sum(1 << other for other in range(self.size) if self._are_collinear(*pair, other))
+            for pair in combinations(range(self.size), 2)
+        }
         lengths = sorted(bin(line).count("1") for line in found)
         return {length: lengths.count(length) for length in lengths if length > 2}
 
@@ -127,9 +129,9 @@ class Matroid:
 
 
 def of_matrix(order: int, columns: Matrix) -> Matroid:
-    """The matroid of a matrix over GF(order), by its columns; ValueError where the rows are dependent or there is no column."""
-    if not columns:
-        raise ValueError("a matrix without columns has no rows to go by")
+    """The matroid of a matrix over GF(order), by its columns; ValueError where its rows are dependent or it has no entry."""
+    if not columns or not columns[0]:
+        raise ValueError("a matrix has columns, and they have entries")
     over = field(order)
     found = frozenset(_bases_from(over, [(1 << number, column) for number, column in enumerate(columns)], 0))
     if not found:
@@ -189,13 +191,33 @@ def _bases_from(over: Field, columns: list[tuple[int, tuple[int, ...]]], chosen:
     The columns, each with the bit of its element, are reduced by those of the chosen elements: the rows of their pivots are
     left out. So one walk over the independent sets finds all bases.
     """
-    if columns and len(columns[0][1]) == 1:
-        yield from (chosen | bit for bit, column in columns if column[0])
+    rows = len(columns[0][1]) if columns else 0
+    if rows <= 2:
+        yield from _bases_of_few_rows(over, columns, chosen)
         return
-    for place, (bit, pivot) in enumerate(columns):
+    for place, (bit, pivot) in enumerate(columns[: 1 - rows]):
         row = next((row for row, entry in enumerate(pivot) if entry), None)
         if row is not None:
             yield from _bases_from(over, _reduced(over, pivot, row, columns[place + 1 :]), chosen | bit)
+
+
+def _bases_of_few_rows(over: Field, columns: list[tuple[int, tuple[int, ...]]], chosen: int) -> Iterator[int]:
+    """The same for columns of one or two entries: two of them are a basis where they stand for different points."""
+    if columns and len(columns[0][1]) == 1:
+        yield from (chosen | bit for bit, column in columns if column[0])
+        return
+    slopes = _slopes(over)
+    points = [(chosen | bit, slopes[column[0]][column[1]]) for bit, column in columns if any(column)]
+    for (mask, slope), (other_mask, other_slope) in combinations(points, 2):
+        if slope != other_slope:
+            yield mask | other_mask
+
+
+@cache
+def _slopes(over: Field) -> tuple[tuple[int, ...], ...]:
+    """A number at [one][other] that columns (one, other) but (0, 0) share where they are multiples of each other."""
+    rows = [[over.multiply(over.inverse(one), other) for other in range(over.order)] for one in range(1, over.order)]
+    return ((over.order,) * over.order, *map(tuple, rows))
 
 
 def _reduced(
