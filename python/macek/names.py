@@ -44,6 +44,7 @@ LINES = {
     "P6": (6, "abc"),
     "Q6": (6, "abc cde"),
     "R6": (6, "abc def"),
+    "Pappus": (9, "abc def bfg ceg afh cdh aei bdi ghi"),
     "Betsy Ross": (11, "acfg bdgh cehi befj adij dfk egk ahk bik cjk"),
 }
 
