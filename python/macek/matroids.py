@@ -216,8 +216,8 @@ def _bases_of_few_rows(over: Field, columns: list[tuple[int, tuple[int, ...]]], 
 @cache
 def _slopes(over: Field) -> tuple[tuple[int, ...], ...]:
     """A number at [one][other] that columns (one, other) but (0, 0) share where they are multiples of each other."""
-    rows = [[over.multiply(over.inverse(one), other) for other in range(over.order)] for one in range(1, over.order)]
-    return ((over.order,) * over.order, *map(tuple, rows))
+    quotients = [over.products[over.inverse(one)] for one in range(1, over.order)]
+    return ((over.order,) * over.order, *quotients)
 
 
 def _reduced(

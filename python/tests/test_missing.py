@@ -5,13 +5,15 @@ import tempfile
 import unittest
 from pathlib import Path
 
-from support import TOP, examples_with_forms
+from support import TOP, examples_with_forms, skip_without
 
+import macek
 from macek.fields import column_of
 from macek.isomorphism import are_isomorphic
 from macek.listings import Form
 from macek.matroids import of_matrix
 from macek.missing import first_missing, matroid_of, missing, request_lines
+from macek.names import name_of
 
 SCRIPT = TOP / "tools" / "first_missing"
 EXAMPLES = TOP / "examples"
@@ -75,6 +77,17 @@ class RequestLines(unittest.TestCase):
         given = form(13, "10 01 " + " ".join(f"1{letter}" for letter in "123456789"))
         self.assertEqual(given.size, 11)
         self.assertTrue(all(line.startswith("# ") for line in request_lines(given)))
+
+
+@skip_without("macek_alone")
+class ThreeConnected(unittest.TestCase):
+    def test_the_filter_3conn_in_both_requests_leaves_the_excluded_minor(self):
+        known = ["F7-", "matrix 3 1000 0100 0010 0001 0111 1011 1101"]
+        wide = list(macek.run(macek.request(rank=4, field="3", size=8, forbid=known, filters=["3conn"])))
+        narrow = list(macek.run(macek.request(rank=4, field="3 x 4", size=8, filters=["3conn", "distinct"])))
+        self.assertEqual((wide[-1].classes, wide[-1].listed), (34, 11))
+        found = first_missing(*({level.size: level.forms for level in levels} for levels in (wide, narrow)))
+        self.assertEqual([name_of(each) for each in found], ["P8"])
 
 
 class Script(unittest.TestCase):

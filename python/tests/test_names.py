@@ -5,6 +5,7 @@ name is compared with its own catalog.
 """
 
 import json
+import re
 import subprocess
 import tempfile
 import unittest
@@ -18,7 +19,6 @@ from support import TOP, examples_with_forms, skip_without, skip_without_command
 import macek
 from macek.isomorphism import Table, are_isomorphic
 from macek.matroids import Matroid, of_graph, uniform
-from macek.missing import matroid_of
 from macek.names import name_of, name_of_matroid, named
 
 # The number of points, and that of the lines of three points and more by their length: from the pictures.
@@ -250,6 +250,16 @@ class ByTheProgram(unittest.TestCase):
         self.assertEqual([name_of(form) for form in levels[-2].forms], ["Betsy Ross"])
         self.assertEqual(levels[-1].forms, ())
 
+    def test_the_dyadic_matroid_with_the_most_points_is_the_dowling_geometry(self):
+        levels = list(macek.run(macek.request(rank=3, field="3 x 5", size=10, filters=["distinct"])))
+        self.assertEqual([name_of(form) for form in levels[-2].forms], ["Q3(GF(3)*)"])
+        self.assertEqual(levels[-1].forms, ())
+
+    def test_the_ternary_and_complex_ones_of_nine_points(self):
+        levels = list(macek.run(macek.request(rank=3, field="3 x 7", size=10, filters=["distinct"])))
+        self.assertEqual({name_of(form) for form in levels[-2].forms}, {"AG(2,3)", "Q3(GF(3)*)"})
+        self.assertEqual(levels[-1].forms, ())
+
     def test_r10_and_the_cycle_matroid_of_k5_are_regular(self):
         levels = list(macek.run(macek.request(rank=5, field="2 x 3", size=10)))
         self.assertIn("R10", [name_of(form) for form in levels[-1].forms])
@@ -268,6 +278,36 @@ class InSage(unittest.TestCase):
             done = subprocess.run(command, input=json.dumps(given), capture_output=True, text=True, check=True)
         found = dict(json.loads(line) for line in done.stdout.splitlines())
         self.assertEqual(found, dict.fromkeys(IN_SAGE, True))
+
+
+class Guide(unittest.TestCase):
+    def setUp(self):
+        self.guide = (TOP / "docs" / "GUIDE.md").read_text()
+
+    def test_the_named_forms_of_the_guide(self):
+        found = re.findall(r"    tools/named (\S+)\n\nwrites .*\n\n((?:    .*\n)+)", self.guide)
+        self.assertEqual(len(found), self.guide.count("    tools/named "))
+        for file, lines in found:
+            done = subprocess.run([TOP / "tools" / "named", TOP / file], capture_output=True, text=True, check=True)
+            self.assertIn(re.sub("^    ", "", lines, flags=re.MULTILINE), done.stdout)
+
+    def test_the_rows_end_where_the_table_of_greatest_sizes_says(self):
+        _, table = self.guide.split("| Class | At most | In rank 3 | Source |\n")
+        rows = re.findall(r"^\| (\S+) \| .* \| (\d+) \| .* \|$", table.split("\n\n")[0], flags=re.MULTILINE)
+        self.assertEqual(len(rows), 5)
+        for name, greatest in rows:
+            text = (TOP / "examples" / f"class_{name.replace('-', '_')}.listing").read_text()
+            sizes = re.findall(r"^level (\d+) classes [1-9]", text, flags=re.MULTILINE)
+            self.assertEqual(sizes[-1], greatest, name)
+            self.assertIn("classes 0 listed 0", text.splitlines()[-2], name)
+
+    def test_the_greatest_sixth_root_of_unity_matroid_is_the_affine_plane(self):
+        forms = examples_with_forms()["sixth_root"].forms
+        self.assertEqual([name_of(form) for form in forms if form.size == 9], ["AG(2,3)"])
+        self.assertEqual(forms[-1].size, 9)
+
+    def test_the_greatest_regular_matroid_is_that_of_the_complete_graph(self):
+        self.assertEqual(name_of(examples_with_forms()["regular"].forms[-1]), "M(K4)")
 
 
 class Script(unittest.TestCase):
