@@ -44,6 +44,7 @@ class Refused(ProgramFault):
 
     @property
     def number(self) -> int:
+        """The number of the refusal, or 0."""
         found = re.search(r"refused:? (\d+)", self.text)
         return int(found.group(1)) if found else 0
 

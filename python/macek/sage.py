@@ -100,8 +100,10 @@ def codes_of(over: Any) -> dict[Any, int]:
     """The code of each element of a finite field of SageMath, whatever its modulus.
 
     The codes follow a root of Macek's modulus: the generator where it is one, so that a field made here gives its codes back,
-    else the first in SageMath's order. ValueError where the field has an order that no listing has.
+    else the first in SageMath's order. ValueError where it is no field, or one of an order that no listing has.
     """
+    if not (over.is_field() and over.is_finite()):
+        raise ValueError(f"{over} is no finite field")
     ours = field(int(over.cardinality()))
     if ours.degree == 1:
         return {over(code): code for code in range(ours.order)}
@@ -121,10 +123,11 @@ def representation_of(*matrices: Any) -> Representation:
     says what else is wrong.
     """
     found = [each.representation() if hasattr(each, "representation") else each for each in matrices]
-    if not 1 <= len(found) <= 3 or len({each.dimensions() for each in found}) != 1 or 0 in found[0].dimensions():
+    shapes = {each.dimensions() if hasattr(each, "dimensions") else () for each in found}
+    if not 1 <= len(found) <= 3 or len(shapes) != 1 or not all(min(shape, default=0) > 0 for shape in shapes):
         raise ValueError("these are not one to three matrices of one shape, with rows and columns")
-    orders = tuple(int(each.base_ring().cardinality()) for each in found)
-    return Representation(orders, tuple(columns_of(each) for each in found))
+    factors = tuple(columns_of(each) for each in found)
+    return Representation(tuple(int(each.base_ring().cardinality()) for each in found), factors)
 
 
 def columns_of(matrix: Any) -> tuple[Column, ...]:

@@ -10,12 +10,16 @@ import json
 import sys
 from pathlib import Path
 
-from sage.all import GF, Matrix, PolynomialRing, save
+from sage.all import GF, QQ, ZZ, Matrix, Matroid, PolynomialRing, Zmod, matroids, save
 from sage.repl.load import load
 
 import support
 from macek.fields import field
 from macek.sage import elements, macek_line
+
+
+LOADED = {}
+load(str(support.TOP / "tools" / "from_sage.py"), LOADED)
 
 
 def moved(matrix):
@@ -46,13 +50,34 @@ def told(form, listed):
     }
 
 
-LOADED: dict = {}
-load(str(support.TOP / "tools" / "from_sage.py"), LOADED)
-root = GF(9, "a").gen()
-save(Matrix([[1, 0, root**0], [0, 1, root]]), str(Path(sys.argv[1]).with_name("matrix.sobj")))
-names = {}
-for file in sys.argv[1:]:
-    load(file, names)
-listings = support.examples_with_forms()
-found = {name: {form.text(): told(form, listed) for form in listings[name].forms} for name, listed in names["listed"].items()}
-json.dump({"moduli": {order: str(GF(order, "z").modulus()) for order in (4, 8, 9)}, "listings": found}, sys.stdout)
+def refusal(*matrices):
+    """Why matrices have no line."""
+    try:
+        return macek_line(*matrices)
+    except ValueError as fault:
+        return f"refused: {fault}"
+
+
+def refusals():
+    """Why seven lists of matrices have no line for their shapes, and five for what their entries are from."""
+    one, two = Matrix(GF(2), [[1, 0]]), Matrix(GF(2), [[1], [0]])
+    wrong = [[], [one] * 4, [one, two], [Matrix(GF(2), 0, 3)], [5], [matroids.Uniform(2, 4)], [Matroid("abc", ["ab"])]]
+    wrong += [[Matrix(ring, [[1, 0]])] for ring in (ZZ, QQ, Zmod(4), GF(16, "z"), GF(17))]
+    return [refusal(*each) for each in wrong]
+
+
+def main():
+    names = {}
+    for file in sys.argv[1:]:
+        load(file, names)
+    root = GF(9, "a").gen()
+    save(Matrix([[1, 0, root**0], [0, 1, root]]), str(Path(sys.argv[1]).with_name("matrix.sobj")))
+    listings = support.examples_with_forms()
+    found = {}
+    for name, listed in names["listed"].items():
+        found[name] = {form.text(): told(form, listed) for form in listings[name].forms}
+    moduli = {order: str(GF(order, "z").modulus()) for order in (4, 8, 9)}
+    json.dump({"listings": found, "moduli": moduli, "refused": refusals()}, sys.stdout)
+
+
+main()

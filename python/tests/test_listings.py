@@ -135,6 +135,7 @@ class OtherTexts(unittest.TestCase):
         found = list(levels_of(EXCLUDED))
         self.assertEqual([(level.over, level.excluded, len(level.forms)) for level in found], [(1, 0, 0), (1, 0, 0), (0, 1, 1)])
         self.assertEqual(whole_levels(levels_of(EXCLUDED.replace("10 01 11 12/end/", ""))), (found[:2], "CutOff"))
+        self.assertEqual(whole_levels(levels_of(EXCLUDED.replace("end/", ""))), (found, "CutOff"))
         self.assertEqual(whole_levels(levels_of(EXCLUDED.replace("10 01 11 12/", "")))[1], "BadListing")
         sifted = EXCLUDED.replace("10 01 11 12/", "").replace("level 2 over", "sift 3conn/level 2 over")
         self.assertEqual([level.forms for level in levels_of(sifted.replace("excluded 2/", "excluded 2/", 1))], [()] * 3)
@@ -193,6 +194,12 @@ class Refused(unittest.TestCase):
             self.refuse(start + options + b"print forms\n" + end, "in its place")
         for minor in (b"F8", b"U2,11", b"U3,2", b"matrix 2", b"matrix 2 12", b"matrix 2 10 1", b"matrix 11 10", b"K4 K5"):
             self.refuse(start + b"forbid " + minor + b"\nprint forms\n" + end, "in its place")
+
+    def test_no_more_forms_than_the_level_line_says(self):
+        twice = SHORT.replace(b"listed 1 tried 1\n10 01 11\n", b"listed 2 tried 1\n10 01 11\n10 01 11\n")
+        self.refuse(twice, "line 9: .* no more listed than classes")
+        text = SIFTED + "sift 3conn/level 3 classes 2 listed 1 tried 2/10 01 11/10 01 12/end/"
+        self.assertEqual(whole_levels(levels_of(text)), ([], "BadListing"))
 
     def test_one_matrix_for_each_field(self):
         self.refuse(SHORT.replace(b"field 2", b"field 2 x 3"), "not 2 matrices")

@@ -14,6 +14,9 @@ def said(head: Head, start: str) -> list[str]:
     return [line[len(start) :] for line in head.lines if line.startswith(start)]
 
 
+ANY_ORDER = ["distinct", "3conn", "cosimple", "connected", "3conn"]
+
+
 class Number:
     """An integer that isn't Python's."""
 
@@ -43,10 +46,10 @@ class Requests(unittest.TestCase):
 
     def test_lines_stand_in_the_order_of_a_head(self):
         text = request(
-            rank=3, field=[4, 4], size=7, forbid=["F7", "U2,5"], filters={"distinct", "3conn"}, has="K4", equivalence="semilinear"
+            rank=3, field=[4, 4], size=7, forbid=["F7", "U2,5"], filters=ANY_ORDER, has="K4", equivalence="semilinear"
         )
         lines = "version 1/field 4 x 4/rank 3/size 7/equivalence semilinear/forbid F7/forbid U2,5/"
-        lines += "filter 3conn/filter distinct/filter has K4/print forms/"
+        lines += "filter connected/filter 3conn/filter cosimple/filter distinct/filter has K4/print forms/"
         self.assertEqual(text, lines.replace("/", "\n"))
 
     def test_minors_are_names_matrices_and_forms(self):

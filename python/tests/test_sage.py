@@ -120,6 +120,14 @@ class InSage(unittest.TestCase):
         told = "from_sage.py: these are not one to three matrices of one shape, with rows and columns\n"
         self.assertEqual(refused.stderr, told)
 
+    def test_what_has_no_line_is_refused(self):
+        shapes, fields = self.told["refused"][:7], self.told["refused"][7:]
+        told = "refused: these are not one to three matrices of one shape, with rows and columns"
+        self.assertEqual(shapes, [told] * 7)
+        self.assertEqual(len(fields), 5)
+        for ring, told in zip(("Integer Ring", "Rational Field", "Ring of integers modulo 4", "16", "17"), fields):
+            self.assertRegex(told, f"^refused: .*{ring}")
+
     def test_matroids_have_the_bases(self):
         for form, told in self.each():
             wanted = sorted(list(basis) for basis in form.bases())
