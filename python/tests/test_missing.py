@@ -90,6 +90,24 @@ class ThreeConnected(unittest.TestCase):
         self.assertEqual([name_of(each) for each in found], ["P8"])
 
 
+@skip_without("macek_alone")
+class PublishedCounts(unittest.TestCase):
+    def test_two_fields_have_all_simple_matroids_of_rank_three_up_to_seven_elements(self):
+        """The counts of the guide's table, and that each list lacks just what the other has besides."""
+        _, table = (TOP / "docs" / "GUIDE.md").read_text().split("\n| Elements |")
+        rows = [[cell.strip() for cell in row.strip("|").split("|")] for row in table.split("\n\n")[0].splitlines()[2:]]
+        forms = {}
+        for name, *counts in rows[1:]:
+            order = name.strip("`").split()[1]
+            levels = list(macek.run(macek.request(rank=3, field=order, size=7, filters=["distinct"])))
+            self.assertEqual([str(level.listed) for level in levels], counts, name)
+            forms[order] = {level.size: level.forms for level in levels}
+        self.assertEqual([name_of(each) for each in first_missing(forms["8"], forms["11"])], ["F7"])
+        self.assertEqual([name_of(each) for each in first_missing(forms["11"], forms["8"])], ["F7-"])
+        for size, published in zip(range(3, 8), rows[0][1:]):
+            self.assertEqual(len(missing((*forms["8"][size], *forms["11"][size]), ())), int(published))
+
+
 class Script(unittest.TestCase):
     def run_script(self, *words):
         return subprocess.run([SCRIPT, *words], capture_output=True, text=True)
