@@ -32,7 +32,10 @@ def missing(wide: Iterable[Form], narrow: Iterable[Form]) -> list[Form]:
 
 
 def first_missing(wide: Mapping[int, Sequence[Form]], narrow: Mapping[int, Sequence[Form]]) -> list[Form]:
-    """The missing forms of the first size that has any, of two texts by their forms of each size; sizes in one alone are left out."""
+    """The missing forms of the first size that has any, or none.
+
+    Each text is given by its forms of each size of which it has all. A size that one of them lacks is left out.
+    """
     for size in sorted(wide.keys() & narrow.keys()):
         found = missing(wide[size], narrow[size])
         if found:

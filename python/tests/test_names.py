@@ -190,7 +190,8 @@ class Known(unittest.TestCase):
                     self.assertEqual(are_isomorphic(matroid, matroid.dual()), name in SELF_DUAL)
 
     def test_the_name_of_a_dual_is_that_of_the_dual(self):
-        pairs = {"Pappus": "Pappus*", "F7": "F7*", "F7-": "(F7-)*", "P7": "P7*", "O7": "O7*", "M(K5)": "M*(K5)", "M(K3,3)": "M*(K3,3)"}
+        pairs = {"F7": "F7*", "F7-": "(F7-)*", "P7": "P7*", "O7": "O7*", "M(K5)": "M*(K5)", "M(K3,3)": "M*(K3,3)"}
+        pairs["Pappus"] = "Pappus*"
         pairs.update({"AG(2,3)\\e": "(AG(2,3)\\e)*", "AG(2,3)": "(AG(2,3))*", "R9": "R9*", "Q3(GF(3)*)": "(Q3(GF(3)*))*"})
         for name, dual in pairs.items():
             self.assertEqual(name_of_matroid(named()[name].dual()), dual)
@@ -260,7 +261,12 @@ class ByTheProgram(unittest.TestCase):
         self.assertEqual({name_of(form) for form in levels[-2].forms}, {"AG(2,3)", "Q3(GF(3)*)"})
         self.assertEqual(levels[-1].forms, ())
 
-    def test_r10_and_the_cycle_matroid_of_k5_are_regular(self):
+    def test_the_regular_matroids_of_rank_four_end_with_the_complete_graph(self):
+        levels = list(macek.run(macek.request(rank=4, field="2 x 3", size=11)))
+        self.assertEqual([name_of(form) for form in levels[-2].forms], ["M(K5)"])
+        self.assertEqual(levels[-1].forms, ())
+
+    def test_r10_is_regular(self):
         levels = list(macek.run(macek.request(rank=5, field="2 x 3", size=10)))
         self.assertIn("R10", [name_of(form) for form in levels[-1].forms])
 
@@ -305,6 +311,10 @@ class Guide(unittest.TestCase):
         forms = examples_with_forms()["sixth_root"].forms
         self.assertEqual([name_of(form) for form in forms if form.size == 9], ["AG(2,3)"])
         self.assertEqual(forms[-1].size, 9)
+
+    def test_the_sixth_root_of_unity_matroids_of_rank_four_end_at_thirteen(self):
+        text = (TOP / "examples" / "rank_four_class.listing").read_text()
+        self.assertRegex(text, r"\nlevel 13 classes 1 listed 1 tried \d+\nlevel 14 classes 0 ")
 
     def test_the_greatest_regular_matroid_is_that_of_the_complete_graph(self):
         self.assertEqual(name_of(examples_with_forms()["regular"].forms[-1]), "M(K4)")
