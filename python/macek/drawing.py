@@ -15,8 +15,8 @@ import math
 import shutil
 import subprocess
 import tempfile
-from collections.abc import Iterable, Iterator, Sequence
-from dataclasses import dataclass
+from collections.abc import Callable, Iterable, Iterator, Mapping, Sequence
+from dataclasses import dataclass, replace
 from html import escape
 from importlib import import_module
 from itertools import combinations, permutations
@@ -124,13 +124,15 @@ def faults_of(picture: Picture) -> list[str]:
 
     Points are apart; each curve goes through its points once, in turn, misses all others, and stays within the picture.
     """
-    faults = []
-    for one, other in combinations(range(picture.geometry.size), 2):
-        if abs(picture.places[one] - picture.places[other]) < 2 * CLEARANCE:
-            faults.append(f"points {one} and {other} are too near to each other")
-    for line, curve in zip(picture.geometry.lines, picture.curves):
-        faults += [f"line {line}: {fault}" for fault in _curve_faults(picture.places, line, curve)]
-    return faults
+    return list(_faults(picture.places, dict(zip(picture.geometry.lines, picture.curves))))
+
+
+def _faults(places: Sequence[complex], curves: Mapping[tuple[int, ...], Curve]) -> Iterator[str]:
+    for one, other in combinations(range(len(places)), 2):
+        if abs(places[one] - places[other]) < 2 * CLEARANCE:
+            yield f"points {one} and {other} are too near to each other"
+    for line, curve in curves.items():
+        yield from (f"line {line}: {fault}" for fault in _curve_faults(places, line, curve))
 
 
 def _curve_faults(places: Sequence[complex], line: Sequence[int], curve: Curve) -> Iterator[str]:
@@ -166,10 +168,10 @@ class Plan:
     bent: frozenset[tuple[int, ...]]
 
 
-def random_plan(geometry: Geometry, random: Random) -> Plan:
-    """A plan in which, by chance, few lines are bent."""
+def random_plan(geometry: Geometry, given_up: int, random: Random) -> Plan:
+    """A plan in which, by chance, few lines are bent besides some that are given up beforehand."""
     places: dict[int, complex] = {}
-    bent: set[tuple[int, ...]] = set()
+    bent = set(random.sample(geometry.lines, min(given_up, len(geometry.lines))))
     steps = []
     while len(places) < geometry.size:
         open_lines = [line for line in geometry.lines if line not in bent and sum(each in places for each in line) > 1]
@@ -233,17 +235,36 @@ def places_of(plan: Plan, choices: Sequence[complex]) -> Optional[list[complex]]
     return [(places[element] - middle) / scale for element in range(len(places))]
 
 
-def crowding(places: Sequence[complex], straight: Sequence[tuple[int, ...]]) -> float:
-    """How near points are to one another, and to straight lines that they are not on: the less the clearer."""
+def crowding(places: Sequence[complex], straight: Iterable[tuple[int, ...]], bent: Iterable[tuple[int, ...]]) -> float:
+    """How near points are to one another, and to lines that they are not on, and how bent lines are: the less the clearer."""
     total = 0.0
     for one, other in combinations(places, 2):
         total += 1 / (abs(one - other) ** 2 + 1e-6)
     for line in straight:
-        start, end = ends_of(places, line)
-        for element, place in enumerate(places):
-            if element not in line:
-                total += 0.6 / (_segment_distance(place, start, end) ** 2 + 1e-6)
+        total += _nearness(places, line, ends_of(places, line))
+    for line in bent:
+        chain = in_order(places, line)
+        total += 0.5 * _nearness(places, line, chain)
+        total += 8 * sum(cmath.phase((c - b) / (b - a)) ** 2 for a, b, c in zip(chain, chain[1:], chain[2:]) if a != b)
     return total
+
+
+def _nearness(places: Sequence[complex], line: Sequence[int], chain: Sequence[complex]) -> float:
+    """How near the points that are not on a line are to the chain of segments in its place."""
+    pairs = list(zip(chain, chain[1:]))
+    total = 0.0
+    for element, place in enumerate(places):
+        if element not in line:
+            least = min([_segment_distance(place, start, end) for start, end in pairs])
+            total += 0.6 / (least * least + 1e-6)
+    return total
+
+
+def in_order(places: Sequence[complex], line: Sequence[int]) -> list[complex]:
+    """The places of the points of a line in their order along it, as if it were straight."""
+    start, end = ends_of(places, line)
+    back = (end - start).conjugate()
+    return sorted((places[each] for each in line), key=lambda place: (place * back).real)
 
 
 def ends_of(places: Sequence[complex], line: Sequence[int]) -> tuple[complex, complex]:
@@ -254,11 +275,14 @@ def ends_of(places: Sequence[complex], line: Sequence[int]) -> tuple[complex, co
     return start, end
 
 
-def spread(plan: Plan, straight: Sequence[tuple[int, ...]], random: Random, rounds: int) -> tuple[float, list[complex]]:
+def spread(plan: Plan, geometry: Geometry, random: Random, rounds: int) -> tuple[float, list[complex]]:
     """The least crowding that a search from random choices finds by a plan, and its places."""
+    straight = [line for line in geometry.lines if line not in plan.bent]
+    # The first few bent lines find their way between the points; many have to be thought of from the start.
+    bent = [line for line in geometry.lines if line in plan.bent] if len(plan.bent) > 2 else []
     choices = [complex(random.gauss(0, 1), random.gauss(0, 1)) for _ in plan.steps]
     best = places_of(plan, choices)
-    least = crowding(best, straight) if best else math.inf
+    least = crowding(best, straight, bent) if best else math.inf
     loose = [place for place, (_, spans) in enumerate(plan.steps) if len(spans) < 2]
     tries = rounds * len(loose)
     for attempt in range(tries):
@@ -267,7 +291,7 @@ def spread(plan: Plan, straight: Sequence[tuple[int, ...]], random: Random, roun
         changed[random.choice(loose)] += complex(random.gauss(0, step), random.gauss(0, step))
         places = places_of(plan, changed)
         if places is not None:
-            found = crowding(places, straight)
+            found = crowding(places, straight, bent)
             if found < least:
                 choices, best, least = changed, places, found
     return least, best or []
@@ -433,10 +457,10 @@ def draw(geometry: Geometry) -> Optional[Picture]:
         return _on_a_line(geometry)
     if geometry.size == 1:
         return Picture(geometry, (0j,), ())
-    for seed in range(6):
-        random = Random(seed)
-        found = [_drawn(geometry, plan, random) for plan in _best_plans(geometry, random)]
-        good = [(cost, picture) for cost, picture in found if not faults_of(picture)]
+    for given_up in (0, 1, 2, 3, 4, 5, 6, 8):
+        random = Random(given_up)
+        found = [_drawn(geometry, plan, random) for plan in _best_plans(geometry, given_up, random)]
+        good = [each for each in found if each is not None]
         if good:
             return min(good, key=lambda pair: pair[0])[1]
     return None
@@ -450,16 +474,19 @@ def _on_a_line(geometry: Geometry) -> Picture:
     return Picture(geometry, places, curves)
 
 
-def _best_plans(geometry: Geometry, random: Random) -> list[Plan]:
-    """A few plans with the fewest bent lines among many, each with other bent lines."""
+def _best_plans(geometry: Geometry, given_up: int, random: Random) -> list[Plan]:
+    """A few plans of many, each with other bent lines: few of these, and little crowding in a short trial."""
     plans: dict[frozenset[tuple[int, ...]], Plan] = {}
     for _ in range(150 if geometry.lines else 1):
-        plan = random_plan(geometry, random)
+        plan = random_plan(geometry, given_up, random)
         kept = plans.setdefault(plan.bent, plan)
         if len(_fixed(plan)) < len(_fixed(kept)):
             plans[plan.bent] = plan
     ranked = sorted(plans.values(), key=lambda plan: (len(plan.bent), sum(map(len, plan.bent)), len(_fixed(plan))))
-    return ranked[:4]
+    if len(ranked) < 5:
+        return ranked
+    trials = [(spread(plan, geometry, random, 8)[0] + 8 * len(plan.bent), plan) for plan in ranked[:12]]
+    return [plan for _, plan in sorted(trials, key=lambda trial: trial[0])[:4]]
 
 
 def _fixed(plan: Plan) -> list[int]:
@@ -467,27 +494,36 @@ def _fixed(plan: Plan) -> list[int]:
     return [element for element, spans in plan.steps if len(spans) == 2]
 
 
-def _drawn(geometry: Geometry, plan: Plan, random: Random) -> tuple[float, Picture]:
-    """The picture that a plan leads to, and how unclear it is."""
-    straight = [line for line in geometry.lines if line not in plan.bent]
-    least, unit_places = min((spread(plan, straight, random, 50) for _ in range(3)), key=lambda pair: pair[0])
+def _drawn(geometry: Geometry, plan: Plan, random: Random) -> Optional[tuple[float, Picture]]:
+    """The picture that a plan leads to, and how unclear it is; None where it has a fault."""
+    least, unit_places = min((spread(plan, geometry, random, 50) for _ in range(3)), key=lambda pair: pair[0])
     if not unit_places:
-        return math.inf, Picture(geometry, (0j,) * geometry.size, ())
+        return None
+    straight = [line for line in geometry.lines if _are_collinear(*(unit_places[each] for each in line))]
     places = [place * POINTS_WITHIN for place in _turned(unit_places, straight)]
-    cost = 0.002 * least
-    curves: dict[tuple[int, ...], Curve] = {}
+    curves = {line: _straight(places, line) for line in straight}
+    if any(_faults(places, curves)):
+        return None
     tangents: dict[int, list[complex]] = {}
-    for line in sorted(geometry.lines, key=lambda each: each in plan.bent):
-        if _are_collinear(*(places[each] for each in line)):
-            curves[line] = _straight(places, line)
-        else:
+    for curve in curves.values():
+        _note_tangents(tangents, places, curve)
+    cost = 0.002 * least
+    for line in geometry.lines:
+        if line not in curves:
             extra, curves[line] = _Bends(places, line, tangents, random).best()
+            if any(_curve_faults(places, line, curves[line])):
+                return None
+            _note_tangents(tangents, places, curves[line])
             cost += 2 + extra
-        for piece in curves[line]:
-            for place, direction in ((piece[0], piece[1] - piece[0]), (piece[3], piece[3] - piece[2])):
-                for element in _elements_at(places, place):
-                    tangents.setdefault(element, []).append(direction)
     return cost, Picture(geometry, tuple(places), tuple(curves[line] for line in geometry.lines))
+
+
+def _note_tangents(tangents: dict[int, list[complex]], places: Sequence[complex], curve: Curve) -> None:
+    """Adds to the directions of lines at each element those of a curve."""
+    for start, first, second, end in curve:
+        for place, direction in ((start, first - start), (end, end - second)):
+            for element in _elements_at(places, place):
+                tangents.setdefault(element, []).append(direction)
 
 
 def _straight(places: Sequence[complex], line: Sequence[int]) -> Curve:
@@ -518,3 +554,260 @@ def _on_one_side(places: Sequence[complex], line: Sequence[int]) -> int:
     start, end = ends_of(places, line)
     sides = [((end - start).conjugate() * (place - start)).imag for place in places]
     return abs(sum((side > 1e-9) - (side < -1e-9) for side in sides))
+
+
+# Sheets: circles, curves and words, in units of pixels, in the order in which they are painted.
+
+INK = "#1a1a1a"
+
+
+@dataclass(frozen=True)
+class Disc:
+    """A filled circle; its title is shown by a browser."""
+
+    middle: complex
+    radius: float
+    colour: str = INK
+    title: str = ""
+
+
+@dataclass(frozen=True)
+class Stroke:
+    """A curve of some width, with its title."""
+
+    curve: Curve
+    colour: str = INK
+    width: float = 1.3
+    title: str = ""
+
+
+@dataclass(frozen=True)
+class Words:
+    """A line of text: its anchor is "start", "middle" or "end", and its place is there on the base line."""
+
+    text: str
+    place: complex
+    size: float = 12
+    anchor: str = "middle"
+    is_bold: bool = False
+    colour: str = INK
+
+    @property
+    def box(self) -> tuple[float, float, float, float]:
+        """Left, top, right and bottom of a box that holds the text in a common font without serifs."""
+        width = 0.64 * self.size * len(self.text)
+        left = self.place.real - {"start": 0.0, "middle": width / 2, "end": width}[self.anchor]
+        return left, self.place.imag - self.size, left + width, self.place.imag + 0.3 * self.size
+
+
+Mark = Union[Disc, Stroke, Words]
+
+
+@dataclass(frozen=True)
+class Sheet:
+    """Marks on white paper of a width and a height."""
+
+    width: float
+    height: float
+    marks: tuple[Mark, ...]
+
+
+CELL_WIDTH, CELL_HEIGHT = 210.0, 240.0
+MOST_IN_A_ROW = 5
+MARGIN = 15.0
+
+
+def sheet(forms: Iterable[Form]) -> Sheet:
+    """A sheet with the picture of each form, over its size and number and, where it is known, its name."""
+    cells = [cell(form) for form in forms]
+    columns = max(1, min(MOST_IN_A_ROW, len(cells)))
+    marks: list[Mark] = []
+    for number, drawn in enumerate(cells):
+        corner = complex(MARGIN + number % columns * CELL_WIDTH, MARGIN + number // columns * CELL_HEIGHT)
+        marks += [_moved(mark, corner) for mark in drawn]
+    rows = math.ceil(len(cells) / columns)
+    return Sheet(2 * MARGIN + columns * CELL_WIDTH, 2 * MARGIN + rows * CELL_HEIGHT, tuple(marks))
+
+
+def cell(form: Form) -> list[Mark]:
+    """The marks of one picture with its words, from the corner of its cell at the left and top."""
+    middle = complex(CELL_WIDTH, CELL_WIDTH) / 2
+    picture = draw(geometry_of(form))
+    marks: list[Mark] = []
+    if picture is None:
+        marks.append(Words("no clear picture found", middle, 12))
+    else:
+        for line, curve in zip(picture.geometry.lines, picture.curves):
+            title = "line " + " ".join(str(element + 1) for element in line)
+            marks.append(_moved(Stroke(curve, title=title), middle))
+        for element, place in enumerate(picture.places):
+            marks.append(Disc(middle + place, POINT_RADIUS, title=f"column {element + 1}"))
+    below = complex(CELL_WIDTH / 2, CELL_WIDTH + 12)
+    marks.append(Words(f"size {form.size}, form {form.number}", below, 11, colour="#555555"))
+    name = known_name(form)
+    if name is not None:
+        marks.append(Words(name, below + 15j, 12, is_bold=True))
+    return marks
+
+
+def known_name(form: Form) -> Optional[str]:
+    """The name of the matroid of a form, where it has a well-known one and the table of names is there."""
+    try:
+        names = import_module("macek.names")
+    except ModuleNotFoundError:
+        return None
+    name: Optional[str] = names.name_of(form)
+    return name
+
+
+def _moved(mark: Mark, by: complex) -> Mark:
+    """A mark moved by a step."""
+    if isinstance(mark, Disc):
+        return replace(mark, middle=mark.middle + by)
+    if isinstance(mark, Words):
+        return replace(mark, place=mark.place + by)
+    return replace(mark, curve=tuple((a + by, b + by, c + by, d + by) for a, b, c, d in mark.curve))
+
+
+# Counts by size.
+
+COLOURS = ("#0072b2", "#d55e00", "#009e73", "#cc79a7", "#e69f00", "#56b4e9", "#1a1a1a")
+PLOT_WIDTH, PLOT_HEIGHT = 460.0, 330.0
+PLOT_CORNER = complex(75, 40)
+
+
+def chart(counts: Mapping[str, Mapping[int, int]]) -> Sheet:
+    """The numbers of classes by size, a curve for each name, on a logarithmic axis; NotDrawn where there is no number above 0.
+
+    A size without a class has no point, since 0 has no place on such an axis.
+    """
+    found = {name: {size: number for size, number in sorted(row.items()) if number > 0} for name, row in counts.items()}
+    sizes = [size for row in found.values() for size in row]
+    if not sizes:
+        raise NotDrawn("no size has a class")
+    low, high = min(sizes), max(max(sizes), min(sizes) + 1)
+    top = max(1, len(str(max(number for row in found.values() for number in row.values()) - 1)))
+
+    def place(size: float, number: float) -> complex:
+        across = (size - low) / (high - low) * PLOT_WIDTH
+        return PLOT_CORNER + complex(across, PLOT_HEIGHT * (1 - math.log10(number) / top))
+
+    marks = list(_axes(low, high, top, place))
+    for number, (name, row) in enumerate(found.items()):
+        colour = COLOURS[number % len(COLOURS)]
+        spots = {size: place(size, row[size]) for size in row}
+        steps = [(spots[size], spots[size + 1]) for size in spots if size + 1 in spots]
+        marks += [Stroke((segment(*step),), colour, 1.8) for step in steps]
+        marks += [Disc(spot, 3.5, colour, f"{name}, size {size}: {row[size]}") for size, spot in spots.items()]
+        level = PLOT_CORNER + complex(PLOT_WIDTH + 30, 12 + 20 * number)
+        marks += [Stroke((segment(level - 10, level + 10),), colour, 1.8), Disc(level, 3.5, colour)]
+        marks.append(Words(name, level + 18 + 4j, 12, "start"))
+    right = max(mark.box[2] for mark in marks if isinstance(mark, Words))
+    height = PLOT_CORNER.imag + max(PLOT_HEIGHT + 60, 30 + 20 * len(found))
+    return Sheet(right + MARGIN, height, tuple(marks))
+
+
+def _axes(low: int, high: int, top: int, place: Callable[[float, float], complex]) -> Iterator[Mark]:
+    """The axes of a chart with their ticks and words: sizes from low to high, numbers from 1 to the power of ten of top."""
+    for power in range(top + 1):
+        level = place(low, 10**power)
+        yield Stroke((segment(level, level + PLOT_WIDTH),), "#dddddd", 1)
+        yield Words(f"{10**power:,}", level + complex(-12, 4), 12, "end")
+        for part in range(2, 10 if power < top else 2):
+            tick = place(low, part * 10**power)
+            yield Stroke((segment(tick - 4, tick),), INK, 1)
+    for size in range(low, high + 1):
+        foot = place(size, 1)
+        yield Stroke((segment(foot, foot + 5j),), INK, 1)
+        yield Words(str(size), foot + 20j, 12)
+    corner = place(low, 1)
+    yield Stroke((segment(place(low, 10**top), corner), segment(corner, place(high, 1))), INK, 1)
+    yield Words("size", place((low + high) / 2, 1) + 42j, 12)
+    yield Words("classes", PLOT_CORNER + complex(-8, -18), 12, "end")
+
+
+def counts_of(levels: Iterable[Level]) -> dict[int, int]:
+    """The number of classes of each size; NotDrawn where the levels have none."""
+    counts = {}
+    for level in levels:
+        if level.classes is None:
+            raise NotDrawn("the text has no counts of classes")
+        counts[level.size] = level.classes
+    return counts
+
+
+# What is written.
+
+
+def svg(paper: Sheet) -> str:
+    """A sheet as the text of an SVG file."""
+    size = f'width="{paper.width:g}" height="{paper.height:g}" viewBox="0 0 {paper.width:g} {paper.height:g}"'
+    lines = [f'<svg xmlns="http://www.w3.org/2000/svg" {size} font-family="DejaVu Sans, Verdana, sans-serif">']
+    lines.append('<rect width="100%" height="100%" fill="white"/>')
+    lines += [_svg_mark(mark) for mark in paper.marks]
+    return "\n".join([*lines, "</svg>", ""])
+
+
+def _svg_mark(mark: Mark) -> str:
+    title = "" if isinstance(mark, Words) or not mark.title else f"<title>{escape(mark.title)}</title>"
+    if isinstance(mark, Disc):
+        place = f'cx="{mark.middle.real:.2f}" cy="{mark.middle.imag:.2f}"'
+        return f'<circle {place} r="{mark.radius:g}" fill="{mark.colour}">{title}</circle>'
+    if isinstance(mark, Stroke):
+        style = f'fill="none" stroke="{mark.colour}" stroke-width="{mark.width:g}" stroke-linecap="round"'
+        return f'<path d="{_svg_path(mark.curve)}" {style}>{title}</path>'
+    style = f'font-size="{mark.size:g}" text-anchor="{mark.anchor}" fill="{mark.colour}"'
+    weight = ' font-weight="bold"' if mark.is_bold else ""
+    place = f'x="{mark.place.real:.2f}" y="{mark.place.imag:.2f}"'
+    return f"<text {place} {style}{weight}>{escape(mark.text)}</text>"
+
+
+def _svg_path(curve: Curve) -> str:
+    words = [f"M {_pair(curve[0][0])}"]
+    for _, first, second, end in curve:
+        words.append(f"C {_pair(first)} {_pair(second)} {_pair(end)}")
+    return " ".join(words)
+
+
+def _pair(place: complex) -> str:
+    return f"{place.real:.2f},{place.imag:.2f}"
+
+
+def write_png(paper: Sheet, name: str) -> None:
+    """Writes a sheet as a PNG file, by rsvg-convert, Inkscape or matplotlib; NotDrawn where none of them is there."""
+    for program, words in (("rsvg-convert", ["--zoom", "2", "-o"]), ("inkscape", ["--export-dpi", "192", "-o"])):
+        if shutil.which(program):
+            with tempfile.TemporaryDirectory() as folder:
+                source = Path(folder, "sheet.svg")
+                source.write_text(svg(paper), encoding="utf-8")
+                done = subprocess.run([program, *words, name, str(source)], capture_output=True, text=True)
+            if done.returncode != 0:
+                raise NotDrawn(f"{program} failed: {done.stderr.strip()}")
+            return
+    try:
+        figures, paths, patches = (import_module(f"matplotlib.{part}") for part in ("figure", "path", "patches"))
+    except ModuleNotFoundError:
+        raise NotDrawn("a PNG needs rsvg-convert, Inkscape or matplotlib, and none is installed; SVG needs none") from None
+    _painted(paper, figures, paths, patches).savefig(name, dpi=144)
+
+
+def _painted(paper: Sheet, figures: Any, paths: Any, patches: Any) -> Any:
+    """A sheet as a figure of matplotlib, made by its modules."""
+    figure = figures.Figure(figsize=(paper.width / 72, paper.height / 72), facecolor="white")
+    axes = figure.add_axes((0, 0, 1, 1), xlim=(0, paper.width), ylim=(paper.height, 0))
+    axes.axis("off")
+    for order, mark in enumerate(paper.marks):
+        if isinstance(mark, Disc):
+            place = (mark.middle.real, mark.middle.imag)
+            axes.add_patch(patches.Circle(place, mark.radius, facecolor=mark.colour, linewidth=0, zorder=order))
+        elif isinstance(mark, Stroke):
+            corners = [mark.curve[0][0]] + [place for piece in mark.curve for place in piece[1:]]
+            codes = [paths.Path.MOVETO] + [paths.Path.CURVE4] * (len(corners) - 1)
+            path = paths.Path([(place.real, place.imag) for place in corners], codes)
+            axes.add_patch(patches.PathPatch(path, fill=False, edgecolor=mark.colour, linewidth=mark.width, zorder=order))
+        else:
+            anchor = {"start": "left", "middle": "center", "end": "right"}[mark.anchor]
+            weight = "bold" if mark.is_bold else "normal"
+            text = axes.text(mark.place.real, mark.place.imag, mark.text, ha=anchor, va="baseline", zorder=order)
+            text.set(color=mark.colour, fontsize=mark.size, fontweight=weight)
+    return figure
