@@ -142,7 +142,7 @@ def _curve_faults(places: Sequence[complex], line: Sequence[int], curve: Curve) 
         yield f"it goes through the points {sorted(met)}"
     for piece, pair in zip(curve, ends):
         chain = samples(piece)
-        if max(map(abs, chain)) > CURVES_WITHIN + 6:
+        if max(abs(place) for place in chain) > CURVES_WITHIN + 6:
             yield "it leaves the picture"
         for element, place in enumerate(places):
             if element not in pair and distance(place, chain) < CLEARANCE:
@@ -390,7 +390,7 @@ class _Bends:
         for piece in curve:
             chain = samples(piece)
             total += _bending(chain)
-            outside = max(map(abs, chain)) - CURVES_WITHIN
+            outside = max([abs(place) for place in chain]) - CURVES_WITHIN
             total += max(0.0, outside) ** 2
             for place in self._places:
                 if abs(place - piece[0]) > 1e-6 and abs(place - piece[3]) > 1e-6:
@@ -445,7 +445,7 @@ def _bending(chain: Sequence[complex]) -> float:
     for step, after in zip(steps, steps[1:]):
         turn = cmath.phase(after / step)
         total += turn * turn / (abs(step) + abs(after))
-    return 60 * total + sum(map(abs, steps)) / 100
+    return 60 * total + sum(abs(step) for step in steps) / 100
 
 
 # Whole pictures.
@@ -475,7 +475,7 @@ def _on_a_line(geometry: Geometry) -> Picture:
 
 
 def _best_plans(geometry: Geometry, given_up: int, random: Random) -> list[Plan]:
-    """A few plans of many, each with other bent lines: few of these, and little crowding in a short trial."""
+    """A few plans of many, each with other bent lines: those with the fewest, and those with the least crowding in a trial."""
     plans: dict[frozenset[tuple[int, ...]], Plan] = {}
     for _ in range(150 if geometry.lines else 1):
         plan = random_plan(geometry, given_up, random)
@@ -485,8 +485,8 @@ def _best_plans(geometry: Geometry, given_up: int, random: Random) -> list[Plan]
     ranked = sorted(plans.values(), key=lambda plan: (len(plan.bent), sum(map(len, plan.bent)), len(_fixed(plan))))
     if len(ranked) < 5:
         return ranked
-    trials = [(spread(plan, geometry, random, 8)[0] + 8 * len(plan.bent), plan) for plan in ranked[:12]]
-    return [plan for _, plan in sorted(trials, key=lambda trial: trial[0])[:4]]
+    trials = [(spread(plan, geometry, random, 8)[0] + 8 * len(plan.bent), plan) for plan in ranked[2:14]]
+    return ranked[:2] + [plan for _, plan in sorted(trials, key=lambda trial: trial[0])[:2]]
 
 
 def _fixed(plan: Plan) -> list[int]:
@@ -533,15 +533,14 @@ def _straight(places: Sequence[complex], line: Sequence[int]) -> Curve:
     return tuple(segment(*pair) for pair in zip(along, along[1:]))
 
 
-def _turned(places: Sequence[complex], straight: Sequence[tuple[int, ...]]) -> list[complex]:
+def _turned(places: Sequence[complex], straight: Sequence[Sequence[int]]) -> list[complex]:
     """The places turned so that a line lies flat below most of the points, with the middle of the whole at 0."""
-    turned = list(places)
-    if straight:
-        longest = max(straight, key=lambda line: (len(line), _on_one_side(places, line)))
-        start, end = ends_of(places, longest)
-        turned = [place * _unit(end - start).conjugate() for place in places]
-        if turned[longest[0]].imag < 0:
-            turned = [-place for place in turned]
+    pairs = tuple(combinations(range(len(places)), 2))
+    longest = max(straight or pairs, key=lambda line: (len(line), _on_one_side(places, line)))
+    start, end = ends_of(places, longest)
+    turned = [place * _unit(end - start).conjugate() for place in places]
+    if turned[longest[0]].imag < 0:
+        turned = [-place for place in turned]
     heights = [place.imag for place in turned]
     widths = [place.real for place in turned]
     middle = complex(min(widths) + max(widths), min(heights) + max(heights)) / 2
