@@ -109,7 +109,7 @@ class Measured(unittest.TestCase):
         found = [self.points_on(drawn, along) for along in drawn.lines]
         self.assertEqual(len(set(found)), len(found), f"{drawn.caption}: a line that is drawn twice")
         wanted = lines_of(form) if form.rank == 3 else [frozenset(range(form.size))]
-        self.assertEqual(sorted(map(sorted, found)), sorted(map(sorted, wanted)), drawn.caption)
+        self.assertEqual(set(found), set(wanted), drawn.caption)
         self.assert_words_apart(drawn)
 
     def points_on(self, drawn: Drawn, along: list[complex]) -> frozenset[int]:
@@ -184,7 +184,7 @@ def is_straight(curve: tuple[tuple[complex, complex, complex, complex], ...]) ->
     """Whether all control points of a curve are on the line of its ends."""
     start, end = curve[0][0], curve[-1][3]
     offsets = [((place - start) * (end - start).conjugate()).imag for piece in curve for place in piece]
-    return start != end and max(map(abs, offsets)) < 1e-3 * abs(end - start) ** 2
+    return start != end and max(abs(offset) for offset in offsets) < 1e-3 * abs(end - start) ** 2
 
 
 class Guide(Measured):
@@ -282,7 +282,7 @@ class Script(unittest.TestCase):
 
     def test_whole_levels_of_a_cut_off_listing(self) -> None:
         text = (EXAMPLES / "fano.listing").read_bytes()
-        cut = self.written(text[: text.index(b"level 6") + 60])
+        cut = self.written(text[: text.index(b"level 6") + 45])
         done = self.run_draw(cut)
         self.assertEqual(done.returncode, 0)
         self.assertIn("whole levels", done.stderr)
