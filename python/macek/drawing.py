@@ -39,6 +39,8 @@ CURVES_WITHIN = 94.0
 CLEARANCE = 2 * POINT_RADIUS
 # What the search for curves aims at.
 WANTED_CLEARANCE = 3 * POINT_RADIUS
+# A turn of this angle or more within so short a way is a corner.
+CORNER_REACH, CORNER_ANGLE = 6.0, 1.1
 # The least angle between two lines where they meet in a point that the search aims at.
 WANTED_ANGLE = 0.35
 
@@ -122,7 +124,8 @@ def _segment_distance(place: complex, start: complex, end: complex) -> float:
 def faults_of(picture: Picture) -> list[str]:
     """What is wrong with a picture, in words: nothing where it shows its geometry clearly.
 
-    Points are apart; each curve goes through its points once, in turn, misses all others, and stays within the picture.
+    Points are apart; each curve goes through its points once, in turn and without a corner, misses all others, and stays
+    within the picture.
     """
     return list(_faults(picture.places, dict(zip(picture.geometry.lines, picture.curves))))
 
@@ -140,6 +143,8 @@ def _curve_faults(places: Sequence[complex], line: Sequence[int], curve: Curve) 
     met = {element for pair in ends for element in pair}
     if met != set(line):
         yield f"it goes through the points {sorted(met)}"
+    if has_corner([curve[0][0]] + [place for piece in curve for place in samples(piece)[1:]]):
+        yield "it has a corner"
     for piece, pair in zip(curve, ends):
         chain = samples(piece)
         if max(abs(place) for place in chain) > CURVES_WITHIN + 6:
@@ -147,6 +152,17 @@ def _curve_faults(places: Sequence[complex], line: Sequence[int], curve: Curve) 
         for element, place in enumerate(places):
             if element not in pair and distance(place, chain) < CLEARANCE:
                 yield f"it passes too near to point {element}"
+
+
+def has_corner(chain: Sequence[complex]) -> bool:
+    """Whether a chain of segments turns sharply somewhere, seen from places a little before and behind."""
+    for number, place in enumerate(chain):
+        before = next((each for each in reversed(chain[:number]) if abs(each - place) > CORNER_REACH), None)
+        behind = next((each for each in chain[number:] if abs(each - place) > CORNER_REACH), None)
+        if before is not None and behind is not None:
+            if abs(cmath.phase((behind - place) / (place - before))) > CORNER_ANGLE:
+                return True
+    return False
 
 
 def _elements_at(places: Sequence[complex], *ends: complex) -> tuple[int, ...]:
@@ -378,7 +394,7 @@ class _Bends:
             else:
                 before, behind = (math.exp(self._random.gauss(0, step)) for _ in range(2))
                 factors = changed[place + 1]
-                changed[place + 1] = complex(min(3, factors.real * before), min(3, factors.imag * behind))
+                changed[place + 1] = complex(_kept(factors.real * before), _kept(factors.imag * behind))
             found = self._cost(self._curve(order, changed))
             if found < cost:
                 cost, shape = found, changed
@@ -389,7 +405,7 @@ class _Bends:
         total = 0.0
         for piece in curve:
             chain = samples(piece)
-            total += _bending(chain)
+            total += _bending([piece[0] - _unit(piece[1] - piece[0]), *chain, piece[3] + _unit(piece[3] - piece[2])])
             outside = max([abs(place) for place in chain]) - CURVES_WITHIN
             total += max(0.0, outside) ** 2
             for place in self._places:
@@ -408,6 +424,11 @@ class _Bends:
             angle = min(angle, math.pi - angle)
             total += 20 * max(0.0, 1 - angle / WANTED_ANGLE) ** 2
         return total
+
+
+def _kept(factor: float) -> float:
+    """A factor of how far a direction is kept, within its bounds: a curve that leaves it at once has a corner."""
+    return min(3.0, max(0.5, factor))
 
 
 def _swapped(items: Sequence[int], one: int, other: int) -> list[int]:

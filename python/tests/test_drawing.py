@@ -8,6 +8,7 @@ import subprocess
 import sys
 import tempfile
 import unittest
+from cmath import phase
 from dataclasses import dataclass
 from itertools import combinations
 from pathlib import Path
@@ -86,6 +87,17 @@ def passes(place: complex, along: list[complex], within: float) -> int:
     return starts - int(is_closed and starts > 1 and near[0] and near[-1])
 
 
+def sharpest_turn(along: list[complex]) -> float:
+    """The greatest angle by which a line turns between a place and those a little before and behind."""
+    greatest = 0.0
+    for number, place in enumerate(along):
+        before = [each for each in along[:number] if abs(each - place) > 6][-1:]
+        behind = [each for each in along[number:] if abs(each - place) > 6][:1]
+        for one, other in zip(before, behind):
+            greatest = max(greatest, abs(phase((other - place) / (place - one))))
+    return greatest
+
+
 def lines_of(form: Form) -> list[frozenset[int]]:
     """The greatest sets of three and more columns of which no three are a basis."""
     bases = form.bases()
@@ -110,6 +122,8 @@ class Measured(unittest.TestCase):
         self.assertEqual(len(set(found)), len(found), f"{drawn.caption}: a line that is drawn twice")
         wanted = lines_of(form) if form.rank == 3 else [frozenset(range(form.size))]
         self.assertEqual(set(found), set(wanted), drawn.caption)
+        for along in drawn.lines:
+            self.assertLess(sharpest_turn(along), 1.3, f"{drawn.caption}: a line with a corner")
         self.assert_words_apart(drawn)
 
     def points_on(self, drawn: Drawn, along: list[complex]) -> frozenset[int]:
@@ -175,6 +189,7 @@ class Pictures(Measured):
             ((*through, 50j), right[:1]),
             ((*through, 50j), (segment(through[0], through[2]),)),
             ((*through, 50j), (right[0], (0j, 300j, 300j, 60 + 0j))),
+            ((-60 + 0j, 0j, 60j, 50 + 0j), (segment(-60 + 0j, 0j), segment(0j, 60j))),
         ):
             with self.subTest(places=places, curve=curve):
                 self.assertNotEqual(faults_of(Picture(geometry, places, (curve,))), [])
@@ -194,6 +209,23 @@ class Guide(Measured):
         self.assertEqual([drawn.caption for drawn in pictures], [f"size {form.size}, form {form.number}" for form in forms])
         for drawn, form in zip(pictures, forms):
             self.assert_shows(drawn, form)
+
+
+    def test_commands_of_the_guide_write_sheets(self) -> None:
+        guide = (ROOT / "docs" / "GUIDE.md").read_text(encoding="utf-8")
+        commands = re.findall(r"^    tools/draw --to (\S+) (.*)$", guide, re.MULTILINE)
+        commands += re.findall(r"^    tools/draw --counts --to (\S+)( .*)$", guide, re.MULTILINE)
+        self.assertEqual(len(commands), guide.count("    tools/draw "))
+        for target, words in commands:
+            # All sizes take a minute; one shows that the words are right.
+            more = ["--counts"] if words.startswith(" ") else []
+            size = [] if more else ["5"]
+            with self.subTest(words=words), tempfile.TemporaryDirectory() as folder:
+                sheet_file = Path(folder, target)
+                draw_words = [str(ROOT / "tools" / "draw"), *more, "--to", str(sheet_file), *words.split(), *size]
+                done = subprocess.run([sys.executable, *draw_words], cwd=ROOT, capture_output=True, text=True)
+                self.assertEqual((done.returncode, done.stderr), (0, ""))
+                self.assertEqual(ElementTree.parse(sheet_file).getroot().tag, SVG + "svg")
 
 
 class Chart(unittest.TestCase):
