@@ -41,6 +41,8 @@ CLEARANCE = 2 * POINT_RADIUS
 WANTED_CLEARANCE = 3 * POINT_RADIUS
 # A turn of this angle or more within so short a way is a corner.
 CORNER_REACH, CORNER_ANGLE = 6.0, 1.1
+# What a whole circle costs in place of as much of any other curve: it is easily seen for what it is.
+WHOLE_CIRCLE = 0.4
 # The least angle between two lines where they meet in a point that the search aims at.
 WANTED_ANGLE = 0.35
 
@@ -327,7 +329,10 @@ class _Bends:
 
     def best(self) -> tuple[float, Curve]:
         """The curve that costs least of those that the search finds, and its cost."""
-        found = [(self._cost(curve), curve) for curve in self._circles()]
+        found = []
+        for curve in self._circles():
+            is_whole = _is_closed(curve)
+            found.append((self._cost(curve, touches=is_whole) * (WHOLE_CIRCLE if is_whole else 1), curve))
         starts = []
         for order in self._orders():
             shape = self._smooth(order)
@@ -354,7 +359,7 @@ class _Bends:
         if abs(turn) < 1e-6:
             return
         side, other = two - one, three - one
-        middle = one + 1j * (side * abs(other) ** 2 - other * abs(side) ** 2) / (-2 * turn)
+        middle = one + 1j * (side * abs(other) ** 2 - other * abs(side) ** 2) / (2 * turn)
         if abs(one - middle) > 4 * POINTS_WITHIN:
             return
         round_trip = sorted((one, two, three), key=lambda place: cmath.phase(place - middle))
@@ -400,8 +405,8 @@ class _Bends:
                 cost, shape = found, changed
         return cost, self._curve(order, shape)
 
-    def _cost(self, curve: Curve) -> float:
-        """How unclear a curve is: near to other points, bent, long, outside, along another line."""
+    def _cost(self, curve: Curve, touches: bool = False) -> float:
+        """How unclear a curve is: near to other points, bent, long, outside, along another line unless it may touch it."""
         total = 0.0
         for piece in curve:
             chain = samples(piece)
@@ -412,7 +417,8 @@ class _Bends:
                 if abs(place - piece[0]) > 1e-6 and abs(place - piece[3]) > 1e-6:
                     near = 1 - distance(place, chain) / WANTED_CLEARANCE
                     total += 300 * max(0.0, near) ** 2 + (60 if near > 0.3 else 0)
-            total += self._along(piece[0], piece[1] - piece[0]) + self._along(piece[3], piece[3] - piece[2])
+            if not touches:
+                total += self._along(piece[0], piece[1] - piece[0]) + self._along(piece[3], piece[3] - piece[2])
         return total
 
     def _along(self, place: complex, direction: complex) -> float:
@@ -424,6 +430,10 @@ class _Bends:
             angle = min(angle, math.pi - angle)
             total += 20 * max(0.0, 1 - angle / WANTED_ANGLE) ** 2
         return total
+
+
+def _is_closed(curve: Curve) -> bool:
+    return abs(curve[0][0] - curve[-1][3]) < 1e-6
 
 
 def _kept(factor: float) -> float:
