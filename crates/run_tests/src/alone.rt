@@ -1,13 +1,8 @@
-// Whole runs over memory, and what they list.
-use formats::Status;
+// Whole runs over memory.
 use macek_run::{Report, macek_alone};
 use std::alloc::Global;
-use std::process::Abort;
 use std::test::Fail;
 use test_support::{Flow, ends, owned};
-
-/// What is asked for, the listing that is wanted, and the number of its levels.
-pub type Listed = (&'static [u8], &'static [u8], u64);
 
 /// At most so many bytes a call, and this call fails, counted from 1 (0: none).
 pub fn flow(most: usize, failing: u64) -> Flow {
@@ -37,14 +32,4 @@ pub fn run(
     writes: Flow,
 ) -> Result<(Report, Vec<u8>), Fail> {
     run_words(alloc, &[], request, reads, writes)
-}
-
-/// The run lists what is wanted, where its source gives at most so many bytes a call.
-pub fn lists(rt: &impl Abort, alloc: Global, case: Listed, most: usize) -> Result<(), Fail> {
-    let (request, listing, levels) = case;
-    let (report, held) = run(alloc, request, flow(most, 0), flow(1000, 0))?;
-    assert_eq!(rt; report.status, Status::Done);
-    assert_eq!(rt; report.levels, levels);
-    assert_eq!(rt; held.as_slice(), listing);
-    Ok(())
 }

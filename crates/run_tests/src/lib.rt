@@ -11,8 +11,6 @@ mod answers;
 #[cfg(test)]
 mod binary;
 #[cfg(test)]
-mod bounded_listings;
-#[cfg(test)]
 mod classes;
 #[cfg(test)]
 mod command_line;
@@ -24,8 +22,6 @@ mod duals;
 mod growth;
 #[cfg(test)]
 mod heads;
-#[cfg(test)]
-mod levels;
 #[cfg(test)]
 mod listings;
 #[cfg(test)]
