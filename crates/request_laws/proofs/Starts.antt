@@ -18,13 +18,13 @@ use Rattle.formats.proofs.OneListing.{first_of_levels}
 use Rattle.formats.proofs.Unique.{not_both}
 use Rattle.existence.specs.Decided.{IsDecided}
 use Rattle.existence.proofs.Deciding.{along, both, equal_bools}
-use Rattle.resume_formats.specs.declared.fault.LevelFault.{LevelFault}
 use Rattle.resume_formats.specs.declared.fault.LevelFault.TheVariants.{TooLong, Head, Differs, NoLevel, Less}
 use Rattle.resume_formats.specs.Fronts.{BeginsWith, IsCommonFront, PartHere, line_ends}
 use Rattle.resume_formats.specs.Cut.{ListsAllForms, BeginsWithHead, IsCutListing, CanStart, text_of_levels, most_listing}
 use Rattle.resume_formats.specs.Heads.{IsHeadOf}
-use Rattle.resume_formats.specs.Fault.{HasFault, HasFaultFor}
+use Rattle.resume_formats.specs.Fault.{HasFault}
 use Rattle.resume_formats.specs.Resumed.{with_size}
+use Rattle.resume_formats.proofs.FaultLemmas.{fault_for}
 use Rattle.resume_formats.proofs.FrontLemmas.{parted_common, parted_no_front}
 use Rattle.resume_formats.proofs.WholeHeads.{lines_stand, request_is, begins_there, ends_there, ends_within}
 use Rattle.resume_formats.proofs.LevelTexts.{texts, text_of_levels-append, listing_text, fewer_levels}
@@ -286,13 +286,6 @@ start_or_fault text = elim (cases_lt most_listing (length text)) [
 ]
 
 -- ---- a wanted size
-
-fault_for : (wanted : ℕ) (text : List ℕ) (why : LevelFault) → HasFault text why → HasFaultFor wanted text why
-fault_for wanted text TooLong fault = fault
-fault_for wanted text Head fault = fault
-fault_for wanted text (Differs line) fault = fault
-fault_for wanted text NoLevel fault = fault
-fault_for wanted text (Less n) fault = absurd fault
 
 pub start_or_fault_for : (wanted : ℕ) (text : List ℕ) → IsSomeStartFor wanted text ⊎ HasSomeFaultFor wanted text
 start_or_fault_for wanted text = elim (start_or_fault text) [

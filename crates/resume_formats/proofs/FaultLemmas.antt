@@ -90,3 +90,11 @@ resumed_never_faulty size text q why resumed fault = start_never_faulty text res
 pub resumed_same : (size : ℕ) (text : List ℕ) (q r : Request) → CanResume size text q → CanResume size text r → q ≡ r
 resumed_same size text q r a b =
     a.asked ∙ ap (λ (s : Request). with_size s size) (start_request_same text a.start b.start a.last b.last a.can_start b.can_start) ∙ sym b.asked
+
+-- a fault that a text has whatever is wanted, it has for each wanted size
+pub fault_for : (size : ℕ) (text : List ℕ) (why : LevelFault) → HasFault text why → HasFaultFor size text why
+fault_for size text TooLong fault = fault
+fault_for size text Head fault = fault
+fault_for size text (Differs line) fault = fault
+fault_for size text NoLevel fault = fault
+fault_for size text (Less n) fault = absurd fault

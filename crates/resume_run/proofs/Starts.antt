@@ -4,11 +4,11 @@ use Rattle.matroid_theory.specs.Level.{Family}
 use Rattle.formats.specs.Request.{Request, IsWithinLimits}
 use Rattle.formats.specs.Levels.{Grows}
 use Rattle.level_driver.specs.declared.level.Level.{Level}
-use Rattle.resume_formats.specs.declared.fault.LevelFault.{LevelFault}
-use Rattle.resume_formats.specs.declared.fault.LevelFault.TheVariants.{TooLong, Head, Differs, NoLevel, Less}
+use Rattle.resume_formats.specs.declared.fault.LevelFault.TheVariants.{Less}
 use Rattle.resume_formats.specs.Cut.{IsWhole, CanStart}
-use Rattle.resume_formats.specs.Fault.{HasFault, HasFaultFor}
+use Rattle.resume_formats.specs.Fault.{HasFaultFor}
 use Rattle.resume_formats.specs.Resumed.{with_size}
+use Rattle.resume_formats.proofs.FaultLemmas.{fault_for}
 use Rattle.level_driver.specs.Grown.{IsGrown, AreGrown}
 use Rattle.level_file.specs.Started.{IsStart, IsStartFault}
 use Rattle.level_file.specs.declared.read.StartFault.{StartFault}
@@ -70,13 +70,6 @@ module _ (text : List ℕ) (q : Request) (levels : List Level) (start : IsStart 
   less_than size n at less = (q, starts n at, less)
 
 -- ---- faults of the text
-
-fault_for : (size : ℕ) (text : List ℕ) (why : LevelFault) → HasFault text why → HasFaultFor size text why
-fault_for size text TooLong fault = fault
-fault_for size text Head fault = fault
-fault_for size text (Differs line) fault = fault
-fault_for size text NoLevel fault = fault
-fault_for size text (Less n) fault = absurd fault
 
 pub start_fault_for : (size : ℕ) (text : List ℕ) (fault : StartFault) → IsStartFault text fault → IsStartFaultTo size text fault
 start_fault_for size text (Bad why) is = fault_for size text why is
