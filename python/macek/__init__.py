@@ -16,6 +16,7 @@ from macek.listings import (
     read_levels,
     read_listing,
 )
+from macek.names import name_of
 from macek.programs import ProgramFault, ProgramNotFound, Refused, ask_dual, ask_over, resume, run
 from macek.requests import request
 
@@ -33,6 +34,7 @@ __all__ = [
     "Representation",
     "ask_dual",
     "ask_over",
+    "name_of",
     "read_levels",
     "read_listing",
     "request",
