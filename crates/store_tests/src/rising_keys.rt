@@ -120,11 +120,17 @@ fn insert_seventeen(rt: &impl Abort, alloc: Global, set: &mut LinkSet) -> Result
     make_room(rt, set, 16)
 }
 
+// The eighteenth is inserted with a count of steps.
+fn takes_eighteen(rt: &impl Abort, alloc: Global, set: &mut LinkSet) -> Result<(), NoMemory> {
+    insert_seventeen(rt, alloc, set)?;
+    assert_eq!(rt; count_one(alloc, set, 17)?, Some(true));
+    Ok(())
+}
+
 #[test]
 fn seventeen_keys(rt: HostRuntime) -> Result<(), Fail> {
     let mut set = LinkSet::new(rt.alloc())?;
-    insert_seventeen(&rt, rt.alloc(), &mut set)?;
-    assert_eq!(rt; count_one(rt.alloc(), &mut set, 17)?, Some(true));
+    takes_eighteen(&rt, rt.alloc(), &mut set)?;
     Ok(())
 }
 
@@ -157,14 +163,19 @@ fn all_rising(rt: &impl Abort, alloc: Global) -> Result<LinkSet, NoMemory> {
     Ok(set)
 }
 
+// The set of all 2,000 keys has each at its own place, no other key, and none twice.
+fn has_all_rising(rt: &impl Abort, alloc: Global, set: &mut LinkSet) -> Result<(), NoMemory> {
+    assert_eq!(rt; set.len(), 2000);
+    assert_eq!(rt; found_rising(alloc, set, 2000)?, 2000);
+    assert_eq!(rt; placed_rising(alloc, set, 2000)?, 2000);
+    assert!(rt; !set.contains(&equal_key(alloc, 25, 11)?));
+    assert_eq!(rt; insert_one(alloc, set, 1024)?, Some(false));
+    Ok(())
+}
+
 #[test]
 fn keys_of_rising_length(rt: HostRuntime) -> Result<(), Fail> {
-    let alloc = rt.alloc();
-    let mut set = all_rising(&rt, alloc)?;
-    assert_eq!(rt; set.len(), 2000);
-    assert_eq!(rt; found_rising(alloc, &set, 2000)?, 2000);
-    assert_eq!(rt; placed_rising(alloc, &set, 2000)?, 2000);
-    assert!(rt; !set.contains(&equal_key(alloc, 25, 11)?));
-    assert_eq!(rt; insert_one(alloc, &mut set, 1024)?, Some(false));
+    let mut set = all_rising(&rt, rt.alloc())?;
+    has_all_rising(&rt, rt.alloc(), &mut set)?;
     Ok(())
 }
